@@ -53,8 +53,9 @@ enum {
   COSET_UNREGISTERED = 10, /* an integer without a name, in a registry without a private range */
   COSET_NOT_PRIVATE = 11,  /* an integer without a name, and outside the private range of its registry */
   COSET_ABSENT = 12,       /* what is asked for isn't in the bytes, or what is given has no place in items of the kind */
-  COSET_MISUSE = 13,       /* a number that is of no kind, no part, no map or no order, or for a kind of another call; or a
-                              payload that is given as detached, and the message carries one, or the flag says that none is */
+  COSET_MISUSE = 13,       /* a number that is of no kind, no part, no map, no order or no countersignature, or for a kind of
+                              another call; or a payload that is given as detached, and the message carries one, or the flag says
+                              that none is */
   COSET_TYPE = 14,         /* what is asked for is there, and is no string, or no integer of 64 bits */
   COSET_EMPTY = 15,        /* the list is empty: who verifies each of its signatures has verified none */
   /* Of coset_token_claims; the first two of coset_verify.h too. */
@@ -197,6 +198,20 @@ coset_status coset_structure(uint32_t kind, const uint8_t *in, size_t in_len, si
 COSET_CALL(8)
 coset_status coset_recipient_structure(uint32_t holder, const uint8_t *in, size_t in_len, const uint8_t *external_aad,
                                        size_t external_aad_len, uint8_t *out, size_t cap, size_t *len);
+
+/* What a countersignature is over, of a message, a COSET_SIGNATURE or a COSET_RECIPIENT: Countersign_structure (RFC 9338, section
+ * 3.3), or Sig_structure (RFC 8152, section 4.4). label says which: 7 (counter signature) and 9 (CounterSignature0) of RFC 8152;
+ * 11, and 12 (abbreviated), of version 2, which are over the signature of a COSET_SIGN1 and the tag of a COSET_MAC0 or COSET_MAC
+ * too. COSET_MISUSE where it is another. signer is what the byte string of the countersignature's protected header holds, as
+ * COSET_PROTECTED of the COSET_SIGNATURE that it is; nothing looks whether that is a header, and an abbreviated one has none.
+ * What is countersigned is the payload, the ciphertext or the COSET_SIGNATURE's signature; has_detached is as in
+ * coset_structure, of each kind. Also: COSET_SHORT; COSET_ABSENT where the item carries nil and nothing is given, where there is a
+ * signer and no place for it, and of other kinds. */
+COSET_CALL(14)
+coset_status coset_countersign_structure(uint32_t kind, const uint8_t *in, size_t in_len, int64_t label, const uint8_t *signer,
+                                         size_t signer_len, const uint8_t *external_aad, size_t external_aad_len,
+                                         uint32_t has_detached, const uint8_t *detached, size_t detached_len, uint8_t *out,
+                                         size_t cap, size_t *len);
 
 /* What coset_sign1 says in numbers, of a message with one signature: nothing but zeros where the status isn't COSET_OK. */
 typedef struct coset_sign1_view {

@@ -149,7 +149,7 @@ static uint64_t chosen(uint64_t n) {
 }
 
 static uint64_t number(char class, uint32_t kind) {
-  static const int64_t labels[] = {1, 2, 3, 4, 5, 6, 7, 8, 9, 11, 0, -1, -2, -3, -4, -7, -65537, 256, INT64_MAX, INT64_MIN};
+  static const int64_t labels[] = {1, 2, 3, 4, 5, 6, 7, 8, 9, 11, 12, 0, -1, -2, -3, -4, -7, -65537, 256, INT64_MAX, INT64_MIN};
   uint32_t other = kinds[chosen(sizeof kinds / sizeof *kinds)] + (uint32_t)chosen(3) * FORM;
   if (class == 'f') return chosen(8) ? chosen(2) : UINT32_MAX;
   if (class == 'k') return chosen(8) ? kind : chosen(16) ? other : (uint32_t)chosen(1 << 11);

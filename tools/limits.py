@@ -11,8 +11,10 @@ sys.path.append(f"{common.HERE}/crates/tool_bench")
 import hostile  # noqa: E402
 
 SIGN1, SIGN, MAC, RECIPIENT, KEY_SET, EITHER = 1, 2, 4, 8, 11, 0x200
-CALLS = {SIGN1: "check part label structure detached sign1 message spans token write", SIGN: "check count member structure message spans write",
-         MAC: "check count member structure message spans write", RECIPIENT: "check count member recipient_structure add write",
+CALLS = {SIGN1: "check part label structure detached countersigned sign1 message spans token write",
+         SIGN: "check count member structure countersigned message spans write",
+         MAC: "check count member structure countersigned message spans write",
+         RECIPIENT: "check count member recipient_structure countersigned add write",
          KEY_SET: "check count member write"}
 
 

@@ -135,6 +135,14 @@ def structure(
     kind: int, data: _Bytes, index: int = 0, external_aad: _Bytes = b"", detached: _Bytes | None = None
 ) -> bytes: ...
 def recipient_structure(holder: int, data: _Bytes, external_aad: _Bytes = b"") -> bytes: ...
+def countersign_structure(
+    kind: int,
+    data: _Bytes,
+    label: int,
+    signer: _Bytes = b"",
+    external_aad: _Bytes = b"",
+    detached: _Bytes | None = None,
+) -> bytes: ...
 def sign1(kind: int, data: _Bytes, external_aad: _Bytes = b"", detached: _Bytes | None = None) -> Sign1: ...
 def message(
     kind: int,

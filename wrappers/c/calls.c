@@ -358,6 +358,16 @@ static int32_t spans(char **word, uint32_t kind, struct bytes in, uint8_t *out, 
   return status;
 }
 
+/* The status of coset_countersign_structure. */
+static int32_t countersigned(char **word, uint32_t kind, struct bytes in, uint8_t *out, size_t cap, size_t *len) {
+  struct bytes signer = spelled(word[5]), aad = spelled(word[6]), detached = spelled(word[8]);
+  int32_t status = coset_countersign_structure(kind, in.at, in.len, strtoll(word[4], NULL, 0), signer.at, signer.len, aad.at,
+                                               aad.len, (uint32_t)strtoul(word[7], NULL, 0), detached.at, detached.len, out,
+                                               cap, len);
+  free(signer.at), free(aad.at), free(detached.at);
+  return status;
+}
+
 /* What the call that the words name answers, of those that make. -2: none of these. */
 static int32_t made(char **word, uint32_t kind, struct bytes in, uint8_t *out, size_t cap, size_t *len) {
   const char *call = word[0];
@@ -455,6 +465,7 @@ int main(void) {
       aad = spelled(word[4]);
       status = coset_recipient_structure(kind, in.at, in.len, aad.at, aad.len, out, cap, &len);
     }
+    if (!strcmp(call, "countersign_structure")) status = countersigned(word, kind, in, out, cap, &len);
     if (!strcmp(call, "sign1")) {
       aad = spelled(word[4]), extra = spelled(word[6]);
       status = coset_sign1(kind, in.at, in.len, aad.at, aad.len, (uint32_t)strtoul(word[5], NULL, 0), extra.at, extra.len, out,

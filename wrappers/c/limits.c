@@ -80,6 +80,8 @@ static coset_status answer(const char *call, uint32_t kind, const uint8_t *in, s
   if (!strcmp(call, "structure")) return coset_structure(kind, in, n, 0, NULL, 0, 0, NULL, 0, out, OUT, &len);
   if (!strcmp(call, "detached")) return coset_structure(kind, in, n, 0, NULL, 0, 1, NULL, 0, out, OUT, &len);
   if (!strcmp(call, "recipient_structure")) return coset_recipient_structure(COSET_RECIPIENT, in, n, NULL, 0, out, OUT, &len);
+  if (!strcmp(call, "countersigned"))
+    return coset_countersign_structure(kind, in, n, 11, NULL, 0, NULL, 0, 0, NULL, 0, out, OUT, &len);
   if (!strcmp(call, "sign1")) return coset_sign1(kind, in, n, NULL, 0, 0, NULL, 0, out, OUT, &len, &view);
   if (!strcmp(call, "message")) return coset_message(kind, in, n, 0, NULL, 0, 0, NULL, 0, NULL, 0, out, OUT, &len, &message);
   if (!strcmp(call, "spans")) return coset_message_spans(kind, in, n, 0, NULL, 0, 0, NULL, 0, NULL, 0, out, OUT, &len, &spans);

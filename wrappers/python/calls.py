@@ -149,6 +149,9 @@ def answer(name, kind, given="-", *words):
         return coset.structure(kind, given, int(words[1]), data(words[2]), detached).hex()
     if name == "recipient_structure":
         return coset.recipient_structure(kind, given, data(words[1])).hex()
+    if name == "countersign_structure":
+        detached = None if words[4] == "0" else data(words[5])
+        return coset.countersign_structure(kind, given, int(words[1]), data(words[2]), data(words[3]), detached).hex()
     if name == "sign1":
         return told(kind, given, *words[1:])
     if name == "verified":

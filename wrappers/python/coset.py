@@ -76,8 +76,8 @@ class WrongType(TypeError):
 
 
 class Misuse(TypeError):
-    """A number that is of no kind, no part, no map or no order, or for a kind of another call; or a payload that is given
-    as detached, and the message carries one."""
+    """A number that is of no kind, no part, no map, no order or no countersignature, or for a kind of another call; or a
+    payload that is given as detached, and the message carries one."""
 
 
 class Refused(Exception):
@@ -240,6 +240,7 @@ def _declare():
         "value_at": [size] + to,
         "structure": [size, at, size, number, at, size] + to,
         "recipient_structure": [at, size] + to,
+        "countersign_structure": [integer, at, size, at, size, number, at, size] + to,
         "message_spans": [size, at, size, number, at, size, ctypes.c_void_p, size, ctypes.c_void_p, size, ctypes.c_void_p, ctypes.c_void_p],
         "put_all": [ctypes.POINTER(_Pair), size, at, size] + to,
         "put": [integer, at, size] + to,
@@ -419,6 +420,15 @@ def structure(kind, data, index=0, external_aad=b"", detached=None):
 def recipient_structure(holder, data, external_aad=b""):
     """What goes with the ciphertext of a recipient, by the kind that holds it: ENCRYPT, MAC or RECIPIENT."""
     return _written(_library.coset_recipient_structure, _kind(holder), *_bytes(data), *_bytes(external_aad))
+
+
+def countersign_structure(kind, data, label, signer=b"", external_aad=b"", detached=None):
+    """What a countersignature of a message, of a signature or of a recipient is over, by its label: 7, or 9 where it is abbreviated
+    (RFC 8152), 11 or 12 (RFC 9338). `signer` is what the byte string of the countersignature's protected header holds; an
+    abbreviated one has none. It is over the payload, the ciphertext or the signature that the item carries, or over `detached`."""
+    given = *_bytes(data), _int64(label), *_bytes(signer), *_bytes(external_aad)
+    content = _bytes(b"" if detached is None else detached)
+    return _written(_library.coset_countersign_structure, _kind(kind), *given, detached is not None, *content)
 
 
 class _Room(threading.local):

@@ -1,6 +1,7 @@
 """What the wrapper does beyond the calls themselves (tools/c): errors cross to another process, and numbers and values that
 stand for nothing are refused."""
 import copy
+import hashlib
 import pickle
 
 import coset
@@ -41,3 +42,49 @@ assert coset.part(coset.SIGN1, token, coset.PAYLOAD) == bytes(100_000) and len(c
 
 assert type(raised(coset.verify, coset.SIGN1, token, [-7], lambda question: 1)) is coset.Refused
 assert coset.verify(coset.SIGN1, token, [-7], lambda question: True) == bytes(100_000)
+
+
+def countersignatures(kind, message):
+    """The countersignatures under label 11 of the unprotected header: one by itself, or several in an array (RFC 9338, section 3.1)."""
+    if not coset.has(kind, message, coset.IN_UNPROTECTED, 11):
+        return []
+    value = coset.label(kind, message, coset.IN_UNPROTECTED, 11)
+    if raised(coset.check, coset.SIGNATURE, value) is None:
+        return [value]
+    return [coset.member(coset.ITEM, value, index) for index in range(coset.count(coset.ITEM, value))]
+
+
+def made_by(key, over):
+    """What stands for the signature of those bytes by that key."""
+    return hashlib.sha256(key + over).digest()
+
+
+def countersigned(kind, message, keys):
+    """The message with a countersignature by each of the keys, whose identifiers they are."""
+    made = []
+    for key in keys:
+        own = coset.put_all(coset.HEADER, b"", {1: -7, 4: key})
+        made.append(coset.make(coset.SIGNATURE, own, b"", proof=made_by(key, coset.countersign_structure(kind, message, 11, own))))
+    value = made[0] if len(made) == 1 else b""
+    for one in made if len(made) > 1 else []:
+        value = coset.add(coset.ITEM, value, one)
+    header = coset.put_encoded(coset.HEADER, b"", 11, value) if made else b""
+    parts = [coset.part(kind, message, which) for which in (coset.PROTECTED, coset.PAYLOAD, coset.PROOF)]
+    return coset.make(kind, parts[0], header, *parts[1:])
+
+
+def countersigners(kind, message):
+    """The identifier of the key of each countersignature, which is verified."""
+    for one in countersignatures(kind, message):
+        over = coset.countersign_structure(kind, message, 11, coset.part(coset.SIGNATURE, one, coset.PROTECTED))
+        key = coset.label_bytes(coset.SIGNATURE, one, coset.IN_PROTECTED, 4)
+        assert coset.part(coset.SIGNATURE, one, coset.PROOF) == made_by(key, over)
+        yield key
+
+
+for keys in ([], [b"one"], [b"one", b"two", b"three"]):
+    for kind in (coset.SIGN1, coset.MAC0):
+        bare = coset.make(kind, b"\xa1\x01\x26", b"", b"payload", b"signature or tag")
+        assert list(countersigners(kind, countersigned(kind, bare, keys))) == keys
+assert type(raised(coset.countersign_structure, coset.SIGN1, bare, 8)) is coset.Misuse
+assert type(raised(coset.countersign_structure, coset.SIGN1, bare, 12, b"\xa0")) is coset.Absent

@@ -6,7 +6,7 @@ mod issue;
 mod verify;
 
 use coset::{
-    Algorithm, Authentication, Critical, Entry, Error, Form, Kind, Label, Layer, Map, Order, Part, Policy, Question, TokenForm, TokenPolicy,
+    Algorithm, Authentication, Countersignature, Critical, Entry, Error, Form, Kind, Label, Layer, Map, Order, Part, Policy, Question, TokenForm, TokenPolicy,
 };
 use std::io::BufRead;
 
@@ -44,6 +44,15 @@ fn part(word: &str) -> Part {
 
 fn map(word: &str) -> Map {
     [Map::InProtected, Map::InUnprotected, Map::InItem][word.parse::<usize>().unwrap() - 1]
+}
+
+fn countersignature(word: &str) -> Countersignature {
+    match word {
+        "7" => Countersignature::Full,
+        "9" => Countersignature::Abbreviated,
+        "11" => Countersignature::FullV2,
+        _ => Countersignature::AbbreviatedV2,
+    }
 }
 
 fn order(word: &str) -> Order {
@@ -282,6 +291,11 @@ fn answer(w: &[&str]) -> Result<String, Error> {
             hex(&coset::structure(k, &input, w[4].parse().unwrap(), &aad, (w[6] != "0").then_some(content.as_slice()))?)
         }
         "recipient_structure" => hex(&coset::recipient_structure(k, &input, &bytes(w[4]))?),
+        "countersign_structure" => {
+            let (signer, aad, content) = (bytes(w[5]), bytes(w[6]), bytes(w[8]));
+            let detached = (w[7] != "0").then_some(content.as_slice());
+            hex(&coset::countersign_structure(k, &input, countersignature(w[4]), &signer, &aad, detached)?)
+        }
         "verified" => hex(&verify::verified(&input, |q| {
             [q.algorithm.to_string(), hex(q.key_id.unwrap_or_default()), hex(q.input), hex(q.proof)] == [w[4], w[5], w[6], w[7]]
         })?),

@@ -59,6 +59,19 @@ pub enum Order {
     LengthFirst = 2,
 }
 
+/// Which countersignature it is, by its label.
+#[derive(Clone, Copy, Debug, PartialEq, Eq)]
+pub enum Countersignature {
+    /// `counter signature` (RFC 8152, section 4.5).
+    Full = 7,
+    /// `CounterSignature0`, the same without a header of its own.
+    Abbreviated = 9,
+    /// Of version 2 (RFC 9338, section 3.1).
+    FullV2 = 11,
+    /// An abbreviated one of version 2 (RFC 9338, section 3.2).
+    AbbreviatedV2 = 12,
+}
+
 /// A value of a map.
 #[derive(Clone, Copy, Debug, PartialEq)]
 pub enum Entry<'a> {
@@ -501,6 +514,7 @@ mod c {
         pub fn coset_key_of(input: *const u8, input_len: usize, key_id: *const u8, key_id_len: usize, out: *mut u8, cap: usize, len: *mut usize) -> i32;
         pub fn coset_structure(kind: u32, input: *const u8, input_len: usize, index: usize, external_aad: *const u8, external_aad_len: usize, has_detached: u32, detached: *const u8, detached_len: usize, out: *mut u8, cap: usize, len: *mut usize) -> i32;
         pub fn coset_recipient_structure(holder: u32, input: *const u8, input_len: usize, external_aad: *const u8, external_aad_len: usize, out: *mut u8, cap: usize, len: *mut usize) -> i32;
+        pub fn coset_countersign_structure(kind: u32, input: *const u8, input_len: usize, label: i64, signer: *const u8, signer_len: usize, external_aad: *const u8, external_aad_len: usize, has_detached: u32, detached: *const u8, detached_len: usize, out: *mut u8, cap: usize, len: *mut usize) -> i32;
         pub fn coset_sign1(kind: u32, input: *const u8, input_len: usize, external_aad: *const u8, external_aad_len: usize, has_detached: u32, detached: *const u8, detached_len: usize, out: *mut u8, cap: usize, len: *mut usize, view: *mut View) -> i32;
         pub fn coset_message_spans(kind: u32, input: *const u8, input_len: usize, index: usize, external_aad: *const u8, external_aad_len: usize, has_detached: u32, detached: *const u8, detached_len: usize, known: *const i64, known_len: usize, out: *mut u8, cap: usize, len: *mut usize, view: *mut Spans) -> i32;
         pub fn coset_put_all(kind: u32, input: *const u8, input_len: usize, pairs: *const Pair, pairs_len: usize, bytes: *const u8, bytes_len: usize, out: *mut u8, cap: usize, len: *mut usize) -> i32;
@@ -679,6 +693,26 @@ pub fn recipient_structure(holder: Kind, bytes: &[u8], external_aad: &[u8]) -> R
     written(|out, cap, len| unsafe {
         c::coset_recipient_structure(
             holder.number(), bytes.as_ptr(), bytes.len(), external_aad.as_ptr(), external_aad.len(), out, cap, len,
+        )
+    })
+}
+
+/// What a countersignature of a message, of a signature or of a recipient is over: of what the byte string of the
+/// countersignature's protected header holds, which an abbreviated one doesn't have, and of the payload, the ciphertext or the
+/// signature that the item carries, or of `detached`.
+pub fn countersign_structure(
+    kind: Kind,
+    bytes: &[u8],
+    countersignature: Countersignature,
+    signer: &[u8],
+    external_aad: &[u8],
+    detached: Option<&[u8]>,
+) -> Result<Vec<u8>, Error> {
+    let content = detached.unwrap_or_default();
+    written(|out, cap, len| unsafe {
+        c::coset_countersign_structure(
+            kind.number(), bytes.as_ptr(), bytes.len(), countersignature as i64, signer.as_ptr(), signer.len(),
+            external_aad.as_ptr(), external_aad.len(), detached.is_some().into(), content.as_ptr(), content.len(), out, cap, len,
         )
     })
 }

@@ -1,8 +1,11 @@
 -- Numbers as kinds, parts and maps.
-use Rattle.std.specs.Prelude.{◌==◌, ◌%◌, ◌-◌, ℕ, List, [], ◌∷◌, Option, Some, None, Bool, true, false, if◌then◌else◌}
+use Rattle.std.specs.Prelude.{◌==◌, ◌%◌, ◌-◌, ℕ, ℤ, pos, List, [], ◌∷◌, Option, Some, None, Bool, true, false, if◌then◌else◌}
+use Rattle.std.specs.Ordering.{int_eq}
 use Rattle.coset.specs.Shape.{both}
 use Rattle.coset_label.specs.declared.ordering.CborOrdering.{CborOrdering}
 use Rattle.coset_label.specs.declared.ordering.CborOrdering.TheVariants.{Lexicographic, LengthFirstLexicographic}
+use Rattle.ffi_query.specs.declared.countersign.Countersignature as countersignatures
+use Rattle.ffi_query.specs.declared.countersign.Countersignature.TheVariants.{Full, Abbreviated, FullV2, AbbreviatedV2}
 use Rattle.ffi_query.specs.declared.kind.Form as forms
 use Rattle.ffi_query.specs.declared.kind.Form.TheVariants.{Plain, Tagged, Either}
 use Rattle.ffi_query.specs.declared.kind.Kind as kinds
@@ -76,6 +79,18 @@ content_query k n b = if is_unflagged n b then None else kind_of k
 
 abbrev pub sign1_query : ℕ → ℕ → List ℕ → Option kinds.Kind
 sign1_query k n b = if is_unflagged n b then None else sign1_of k
+
+-- the countersignature of that label: of RFC 8152, section 4.5, and of RFC 9338, sections 3.1 and 3.2
+abbrev pub countersignature_of : ℤ → Option countersignatures.Countersignature
+countersignature_of l =
+    if int_eq l (pos 7) then Some Full else
+    (if int_eq l (pos 9) then Some Abbreviated else
+    (if int_eq l (pos 11) then Some FullV2 else
+    (if int_eq l (pos 12) then Some AbbreviatedV2 else None)))
+
+-- both, where each means one
+abbrev pub countersign_query : ℕ → ℤ → ℕ → List ℕ → Option (kinds.Kind × countersignatures.Countersignature)
+countersign_query k l n b = both (λ x y. (x, y)) (content_query k n b) (countersignature_of l)
 
 -- the part of that number
 abbrev pub part_of : ℕ → Option parts.Part

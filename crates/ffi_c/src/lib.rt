@@ -1,6 +1,7 @@
 //! `ffi_query` and `ffi_make` for C: the functions that `include/coset.h` declares. What crosses are numbers, slices (in
 //! C a pointer and a length) and places for a number or for a struct of numbers; nothing is kept between calls. `docs/C.md`
-//! says how they are called. Those that read are here, but for those in `elements`, `sign1`, `message` and `token`, and those that make in `making`.
+//! says how they are called. Those that read are here, but for those in `elements`, `countersign`, `sign1`,
+//! `message`, `spans` and `token`, and those that make in `making` and `pairs`.
 #![tactic(auto)]
 
 ghost use Rattle.std.specs.Prelude.{◌≡◌, MatchOption, pos};
@@ -13,6 +14,7 @@ ghost use Rattle.coset.specs.Names.{number, text_label};
 ghost use Rattle.ffi_c.specs.Numbers.{bytes_if, content_query, kind_of, map_query, part_query};
 ghost use Rattle.ffi_c.specs.Replies.{IsMisuse, Replies, RepliesCheck, RepliesInteger};
 
+mod countersign;
 mod elements;
 mod making;
 mod message;

@@ -2,10 +2,10 @@
 
 ghost use Rattle.std.specs.Prelude.{◌≡◌};
 ghost use Rattle.std.specs.Option.{option_copied};
-ghost use Rattle.ffi_c.specs.Numbers.{bytes_if, content_query, form_of, is_unflagged, kind_of, map_of, map_query, message_of, order_of, other_of, part_of, part_query, sign1_of, sign1_query};
+ghost use Rattle.ffi_c.specs.Numbers.{bytes_if, content_query, countersign_query, countersignature_of, form_of, is_unflagged, kind_of, map_of, map_query, message_of, order_of, other_of, part_of, part_query, sign1_of, sign1_query};
 
 use coset::CborOrdering;
-use ffi_query::{Form, Kind, Map, Part};
+use ffi_query::{Countersignature, Form, Kind, Map, Part};
 
 pub(crate) const COSET_SIGN1: u32 = 1;
 
@@ -155,6 +155,37 @@ pub(crate) fn sign1_query(kind: u32, has_content: u32, content: &[u8]) -> Option
         None
     } else {
         sign1_of(kind)
+    }
+}
+
+/// The countersignature of that label.
+fn countersignature_of(label: i64) -> Option<Countersignature>
+    ensures { result ≡ countersignature_of label }
+{
+    match label {
+        7 => Some(Countersignature::Full),
+        9 => Some(Countersignature::Abbreviated),
+        11 => Some(Countersignature::FullV2),
+        12 => Some(Countersignature::AbbreviatedV2),
+        _ => None,
+    }
+}
+
+/// The kind of that number and the countersignature of that label, unless a content is given without the number that says so.
+pub(crate) fn countersign_query(
+    kind: u32,
+    label: i64,
+    has_content: u32,
+    content: &[u8],
+) -> Option<(Kind, Countersignature)>
+    ensures { result ≡ countersign_query kind label has_content content.now }
+{
+    match (
+        content_query(kind, has_content, content),
+        countersignature_of(label),
+    ) {
+        (Some(kind), Some(countersignature)) => Some((kind, countersignature)),
+        _ => None,
     }
 }
 

@@ -8,6 +8,7 @@ pub mod Labels
 pub mod Pairs
 pub mod Sets
 pub mod Structures
+pub mod Countersigns
 pub mod Critical
 pub mod View
 pub mod Located

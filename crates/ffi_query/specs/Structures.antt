@@ -74,14 +74,18 @@ is_filled None = false
 is_filled (Some null) = false
 is_filled (Some v) = true
 
--- the item v of that kind carries a payload
-abbrev pub is_carried : kinds.Kind → Item → Bool
-is_carried k v = is_filled (option_and_then (λ n. element n v) (payload_place k))
+-- the item v carries something at that place
+abbrev pub is_carried : Option ℕ → Item → Bool
+is_carried o v = is_filled (option_and_then (λ n. element n v) o)
+
+-- what is given is carried there too
+abbrev pub is_given_at : Option ℕ → Option (List ℕ) → Item → Bool
+is_given_at o None v = false
+is_given_at o (Some d) v = is_carried o v
 
 -- a payload is given of an item v that carries one
 abbrev pub is_given_twice : kinds.Kind → Option (List ℕ) → Item → Bool
-is_given_twice k None v = false
-is_given_twice k (Some d) v = is_carried k v
+is_given_twice k d v = is_given_at (payload_place k) d v
 
 -- why there is no structure of the item v: a payload is given, and it carries another; or there is none
 abbrev pub HasNoStructure : kinds.Kind → ℕ → List ℕ → Option (List ℕ) → Item → refusals.Refusal → Type 0

@@ -10,6 +10,7 @@
 //! refused for its own fault, and then the part that is asked for is looked up in the bytes themselves.
 #![tactic(auto)]
 
+mod countersign;
 mod critical;
 mod fault;
 mod fits;
@@ -28,6 +29,7 @@ mod structure;
 mod view;
 mod written;
 
+pub use countersign::{Countersignature, countersign_structure_of};
 pub use fault::fault_offset;
 pub use keys::key_of;
 pub use kind::{Form, Kind, check};

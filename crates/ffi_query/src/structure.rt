@@ -9,7 +9,7 @@ ghost use Rattle.coset.specs.Shortest.{IsShortest};
 ghost use Rattle.coset.specs.Structure.{structure};
 ghost use Rattle.ffi_query.specs.Answers.{Answers, AnswersOr, Finds, IsEncodingOf};
 ghost use Rattle.ffi_query.specs.Places.{element};
-ghost use Rattle.ffi_query.specs.Structures.{HasNoStructure, IsRecipientStructure, IsStructure, content_at, content_in, content_structure, encryption_structure, is_carried, is_filled, is_given_twice, signer_in, signer_structure, structure_of_one, structure_of_three, structure_of_two};
+ghost use Rattle.ffi_query.specs.Structures.{HasNoStructure, IsRecipientStructure, IsStructure, content_at, content_in, content_structure, encryption_structure, is_carried, is_filled, is_given_at, is_given_twice, signer_in, signer_structure, structure_of_one, structure_of_three, structure_of_two};
 
 use crate::item::{bytes_in, element, item_of, member_at};
 use crate::kind::Kind;
@@ -54,7 +54,7 @@ fn content_at<'a>(
 ///
 /// # Errors
 /// `OutOfMemory` alone.
-fn content_in<'a>(
+pub(crate) fn content_in<'a>(
     alloc: Global,
     item: Pull<'_>,
     detached: Option<&'a [u8]>,
@@ -96,7 +96,7 @@ fn structure_of_one(
 ///
 /// # Errors
 /// `OutOfMemory` alone.
-fn two_encoded(
+pub(crate) fn two_encoded(
     alloc: Global,
     context: &str,
     protected: &[u8],
@@ -110,22 +110,23 @@ fn two_encoded(
     structure_bytes(alloc, context, &[protected, external_aad, content])
 }
 
-/// The shortest encoding of what a signer signs.
+/// The shortest encoding of a structure of four byte strings.
 ///
 /// # Errors
 /// `OutOfMemory` alone.
-fn three_encoded(
+pub(crate) fn three_encoded(
     alloc: Global,
+    context: &str,
     body: &[u8],
     signer: &[u8],
     external_aad: &[u8],
     content: &[u8],
 ) -> Result<Vec<u8>>
-    ensures shortest { IfOk result (λ b. IsShortest b.items (structure (codes "Signature")
+    ensures shortest { IfOk result (λ b. IsShortest b.items (structure context.now
         (body.now ∷ signer.now ∷ external_aad.now ∷ content.now ∷ []))) }
     ensures memory { IfErr result (λ e. e ≡ OutOfMemory) }
 {
-    structure_bytes(alloc, "Signature", &[body, signer, external_aad, content])
+    structure_bytes(alloc, context, &[body, signer, external_aad, content])
 }
 
 /// The structure of a context, of what the protected header holds, `external_aad` and the content.
@@ -178,6 +179,7 @@ fn structure_of_three(
                 Some(content) => {
                     let encoded = three_encoded(
                         alloc,
+                        "Signature",
                         &protected,
                         &signer,
                         external_aad,
@@ -307,12 +309,22 @@ fn is_filled(place: Option<Pull<'_>>) -> bool
     }
 }
 
-/// Whether an item of that kind carries a payload.
-fn is_carried(kind: Kind, item: Pull<'_>) -> bool
-    ensures { result ≡ is_carried kind (pull_item item.entry) }
+/// Whether the item carries something at that place.
+fn is_carried(place: Option<usize>, item: Pull<'_>) -> bool
+    ensures { result ≡ is_carried place (pull_item item.entry) }
 {
-    match kind.place_of(Part::Payload) {
+    match place {
         Some(place) => is_filled(element(item, place)),
+        None => false,
+    }
+}
+
+/// Whether what is given is carried at that place too.
+pub(crate) fn is_given_at(place: Option<usize>, detached: Option<&[u8]>, item: Pull<'_>) -> bool
+    ensures { result ≡ is_given_at place (option_copied detached.entry) (pull_item item.entry) }
+{
+    match detached {
+        Some(_) => is_carried(place, item),
         None => false,
     }
 }
@@ -322,10 +334,7 @@ pub(crate) fn is_given_twice(kind: Kind, detached: Option<&[u8]>, item: Pull<'_>
     ensures { result
         ≡ is_given_twice kind (option_copied detached.entry) (pull_item item.entry) }
 {
-    match detached {
-        Some(_) => is_carried(kind, item),
-        None => false,
-    }
+    is_given_at(kind.place_of(Part::Payload), detached, item)
 }
 
 /// Writes what is signed of a message, what is authenticated, or what goes with the ciphertext to the front of `out`, and
