@@ -107,7 +107,8 @@ TellsTagOf (Some n) b x = TellsTag n b x
 -- the signer of that index), authenticated, or goes with its ciphertext, over external_aad and, where it is detached, the
 -- payload d; the signature or the tag; the content that it carries; and the identifier of the key. The caller understands the
 -- labels ns
-pub record IsViewOf (k : kinds.Kind) (i : ℕ) (aad : List ℕ) (d : Option (List ℕ)) (ns : List ℤ) (v : Item) (n : MessageView) (t : List ℕ) : Type 0 where
+pub record IsViewOf (k : kinds.Kind) (i : ℕ) (aad : List ℕ) (d : Option (List ℕ)) (ns : List ℤ) (v : Item) (n : MessageView)
+    (t : List ℕ) : Type 0 where
   pub signer : Item
   pub signed : List ℕ
   pub proof : List ℕ

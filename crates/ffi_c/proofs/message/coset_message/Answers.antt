@@ -18,7 +18,9 @@ returns-in-Some c =
     let ns = c.args.known.now in
     let d = bytes_if c.args.has_detached c.args.detached.now in
     let answers =
-    subst (λ x. AnswersWith k b (IsMessageView k i aad x ns b) (HasNoView k i aad x ns) c.args.out.now c.message_view-answer.new.out c.message_view-answer.result)
+    subst
+    (λ x. AnswersWith k b (IsMessageView k i aad x ns b) (HasNoView k i aad x ns) c.args.out.now c.message_view-answer.new.out
+    c.message_view-answer.result)
     c.bytes_if-detached.ensures c.message_view-answer.ensures in
     let status : to_z w32 (of_z w32 c.reply_message.result) ≡ reply_status c.message_view-answer.result = search rules in
     replied
