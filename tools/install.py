@@ -51,26 +51,24 @@ def filled(text, prefix, quick):
     return re.sub(r"@([A-Z_]+)@", lambda it: words[it[1]], text)
 
 
-def hints(source):
-    """The type hints of the Python package: those of packaging/, and a line without them for each name that they lack."""
-    text = read("packaging/python/coset.pyi")
-    known = {it.name for it in ast.parse(text).body if hasattr(it, "name")}
-    known |= {it.target.id for it in ast.parse(text).body if isinstance(it, ast.AnnAssign)}
-    for it in ast.parse(source).body:
-        if isinstance(it, ast.FunctionDef) and it.name not in known and not it.name.startswith("_"):
-            text += f"def {it.name}({ast.unparse(it.args)}) -> Any: ...\n"
-        named = [it.name] if isinstance(it, ast.ClassDef) else []
-        for target in it.targets if isinstance(it, ast.Assign) else []:
-            named += [name.id for name in ast.walk(target) if isinstance(name, ast.Name)]
-        text += "".join(f"{name}: Any\n" for name in named if name not in known and not name.startswith("_"))
-    return text
+def public(text):
+    """The public names of a Python module: of each function the names of its parameters, of all else nothing."""
+    found = {}
+    for it in ast.parse(text).body:
+        if isinstance(it, ast.FunctionDef):
+            found[it.name] = [arg.arg for arg in it.args.args]
+        elif isinstance(it, ast.ClassDef):
+            found[it.name] = None
+        elif isinstance(it, ast.Assign | ast.AnnAssign):
+            targets = it.targets if isinstance(it, ast.Assign) else [it.target]
+            found |= {name.id: None for target in targets for name in ast.walk(target) if isinstance(name, ast.Name)}
+    return {name: parameters for name, parameters in found.items() if not name.startswith("_")}
 
 
 def unlike():
-    """The functions that the type hints have otherwise than the wrapper: parameters by other names, or none."""
-    arguments = lambda text: {it.name: [arg.arg for arg in it.args.args] for it in ast.parse(text).body if isinstance(it, ast.FunctionDef)}
-    there = arguments(read("wrappers/python/coset.py"))
-    return [name for name, found in arguments(read("packaging/python/coset.pyi")).items() if there.get(name) != found]
+    """The names that the type hints lack, or have otherwise than the wrapper."""
+    hinted, there = (public(read(f"{folder}/coset.py{i}")) for folder, i in (("packaging/python", "i"), ("wrappers/python", "")))
+    return sorted(name for name in {*hinted, *there} if name not in hinted or name not in there or hinted[name] != there[name])
 
 
 def texts(prefix, quick):
@@ -84,7 +82,7 @@ def texts(prefix, quick):
     for name in ("pyproject.toml", "backend.py"):
         found[f"share/coset/python/{name}"] = fill(f"packaging/python/{name}")
     found |= {f"share/coset/python/coset/{name}": text
-              for name, text in (("__init__.py", wrapper), ("__init__.pyi", hints(wrapper)), ("py.typed", ""))}
+              for name, text in (("__init__.py", wrapper), ("__init__.pyi", read("packaging/python/coset.pyi")), ("py.typed", ""))}
     for name in ("Cargo.toml", "build.rs"):
         found[f"share/coset/rust/{name}"] = fill(f"packaging/rust/{name}")
     found["share/coset/rust/src/lib.rs"] = read("wrappers/rust/coset.rs")

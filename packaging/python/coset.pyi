@@ -1,4 +1,4 @@
-from collections.abc import Callable, Collection
+from collections.abc import Callable, Collection, Iterable, Mapping
 from enum import IntEnum
 from typing import Any, NamedTuple
 
@@ -60,6 +60,8 @@ LENGTH_FIRST: int
 NONE: int
 INT: int
 TEXT: int
+BYTES: int
+ENCODED: int
 UNDERSTOOD: int
 NOT_UNDERSTOOD: int
 BY_SIGNATURE: int
@@ -193,6 +195,12 @@ def version() -> str: ...
 def status_text(status: int) -> str: ...
 def put(kind: int, data: _Bytes, name: int, value: int | str | _Bytes) -> bytes: ...
 def put_encoded(kind: int, data: _Bytes, name: int | str, value: _Bytes) -> bytes: ...
+class Encoded(bytes): ...
+def put_all(
+    kind: int,
+    data: _Bytes,
+    pairs: Mapping[int | str, int | str | _Bytes] | Iterable[tuple[int | str, int | str | _Bytes]],
+) -> bytes: ...
 def structure_of(
     kind: int, protected: _Bytes, content: _Bytes = b"", signer: _Bytes = b"", external_aad: _Bytes = b""
 ) -> bytes: ...
