@@ -1,9 +1,11 @@
 -- Parts of the input, each with the bytes from its first one to the input's end.
 use Rattle.std.specs.Prelude.{◌≡◌, ◌==◌, ◌%◌, ℕ, List, [], ◌∷◌, ◌++◌, Some, Bool, false, if◌then◌else◌}
 use Rattle.std.specs.Borrow.{Bor}
-use Rattle.coset.specs.Item.{Item}
+use Rattle.coset.specs.Elements.{items_bytes, items_left}
+use Rattle.coset.specs.Item.{Item, Items}
 use Rattle.coset.specs.Parts.{as_bytes}
 use Rattle.coset.specs.Pulls.{pull_bytes, pull_item}
+use Rattle.ffi_query.specs.declared.located.Elements.{Elements}
 use Rattle.ffi_query.specs.declared.located.Located.{Located}
 use Rattle.ffi_query.specs.declared.located.Text.{Text}
 
@@ -23,6 +25,13 @@ IsLocated b l = AreLocated b (pull_bytes l.item) l.rest.now
 
 abbrev pub IsTextIn : List ℕ → Text → Type 0
 IsTextIn b t = AreLocated b t.bytes.now t.rest.now
+
+-- the elements that are still to come, and where they are in b
+abbrev pub elements_left : Elements → Items
+elements_left e = items_left e.members
+
+abbrev pub AreElementsIn : List ℕ → Elements → Type 0
+AreElementsIn b e = AreLocated b (items_bytes e.members) e.rest.now
 
 -- how many bytes a head has with that additional information, and the head that b begins with (RFC 8949, section 3)
 abbrev pub head_len_by : ℕ → ℕ

@@ -12,14 +12,16 @@ ghost use Rattle.coset.specs.Structure.{structure};
 ghost use Rattle.coset_cbor.specs.Least.{least_head};
 ghost use Rattle.ffi_query.specs.Answers.{Finds, IsEncodingOf};
 ghost use Rattle.ffi_query.specs.Labels.{IsNumber, IsProtected, unprotected_value};
-ghost use Rattle.ffi_query.specs.Lent.{AreHeaders, AreTexts, HasNoCritical, IsCarried, IsEmptyIn, IsLent, IsMapOf, KnowsAlgorithm, KnowsKeyId, structure_by};
-ghost use Rattle.ffi_query.specs.Located.{IsLocated, IsTextIn, located_item};
-ghost use Rattle.ffi_query.specs.Places.{bytes_in};
+ghost use Rattle.ffi_query.specs.Lent.{AreHeaders, AreTexts, AreThree, HasNoCritical, IsBehindThree, IsCarried, IsEmptyIn, IsLent, IsMapOf, KnowsAlgorithm, KnowsKeyId, structure_by};
+ghost use Rattle.ffi_query.specs.Located.{AreElementsIn, IsLocated, IsTextIn, elements_left, located_item};
+ghost use Rattle.ffi_query.specs.Places.{bytes_in, element};
 ghost use Rattle.ffi_query.specs.Structures.{content_at, structure_of_one, structure_of_two};
 ghost use Rattle.ffi_query.specs.View.{IsAlgorithm, proof_in};
 
 use crate::kind::Kind;
-use crate::located::{Located, Text, bytes_located, element_located, value_located};
+use crate::located::{
+    Elements, Located, Text, bytes_located, elements_located, next_located, value_located,
+};
 use crate::part::Part;
 use crate::view::{Algorithm, KeyIdPlace, MessageView};
 use coset::Result;
@@ -35,6 +37,15 @@ struct Headers<'a> {
     protected: Text<'a>,
     map: Option<Located<'a>>,
     unprotected: Located<'a>,
+}
+
+/// What an item begins with: its headers, its content, and what is behind them.
+#[derive(Clone, Copy)]
+struct Three<'a> {
+    protected: Located<'a>,
+    unprotected: Located<'a>,
+    content: Located<'a>,
+    behind: Elements<'a>,
 }
 
 /// The identifier of a key, and where it is.
@@ -75,17 +86,34 @@ fn map_located(protected: Text<'_>) -> Option<Located<'_>>
     }
 }
 
-/// The headers that an item begins with.
-fn headers_of(item: Located<'_>) -> Option<Headers<'_>>
+/// The first three elements of an array, and those behind them.
+fn three_of(item: Located<'_>) -> Option<Three<'_>>
     ensures { (b : List ℕ) → IsLocated b item.entry
-        → IfSome result (AreHeaders b (located_item item.entry)) }
+        → IfSome result (AreThree b (located_item item.entry)) }
 {
-    let protected = bytes_located(element_located(item, 0)?)?;
-    let unprotected = element_located(item, 1)?;
+    let elements = elements_located(item)?;
+    let (protected, elements) = next_located(elements)?;
+    let (unprotected, elements) = next_located(elements)?;
+    let (content, behind) = next_located(elements)?;
+    Some(Three {
+        protected,
+        unprotected,
+        content,
+        behind,
+    })
+}
+
+/// The headers of an item that begins with these two elements.
+fn headers_of<'a>(first: Located<'a>, second: Located<'a>) -> Option<Headers<'a>>
+    ensures { (b : List ℕ) (v : Item) → IsLocated b first.entry → IsLocated b second.entry
+        → element 0 v ≡ Some (located_item first.entry)
+        → element 1 v ≡ Some (located_item second.entry) → IfSome result (AreHeaders b v) }
+{
+    let protected = bytes_located(first)?;
     Some(Headers {
         protected,
         map: map_located(protected),
-        unprotected,
+        unprotected: second,
     })
 }
 
@@ -217,14 +245,19 @@ fn signed_content<'a>(
     }
 }
 
-/// The signature or the tag, where its length is announced, and nothing where items of the kind have none.
-fn proof_located<'a>(kind: Kind, item: Located<'a>, nothing: Text<'a>) -> Option<Text<'a>>
-    ensures { (b : List ℕ) → IsLocated b item.entry → IsEmptyIn b nothing.entry
-        → IfSome result (λ t. (proof_in kind (located_item item.entry) ≡ Some t.bytes.now)
-        × IsTextIn b t) }
+/// The signature or the tag, where its length is announced, and nothing where items of the kind have none. It is the first of
+/// the elements behind the third.
+fn proof_located<'a>(kind: Kind, behind: Elements<'a>, nothing: Text<'a>) -> Option<Text<'a>>
+    ensures { (b : List ℕ) (v : Item) → IsBehindThree v (elements_left behind.entry)
+        → AreElementsIn b behind.entry → IsEmptyIn b nothing.entry
+        → IfSome result (λ t. (proof_in kind v ≡ Some t.bytes.now) × IsTextIn b t) }
 {
     match kind.place_of(Part::Proof) {
-        Some(place) => bytes_located(element_located(item, place)?),
+        Some(3) => {
+            let (proof, _) = next_located(behind)?;
+            bytes_located(proof)
+        }
+        Some(_) => None,
         None => Some(nothing),
     }
 }
@@ -383,15 +416,16 @@ fn texts_of<'a>(kind: Kind, item: Located<'a>, detached: Option<&'a [u8]>) -> Op
         (AreTexts kind (option_copied detached.entry) b (located_item item.entry)) }
 {
     let nothing = nothing_at(item.rest);
-    let headers = headers_of(item)?;
+    let three = three_of(item)?;
+    let headers = headers_of(three.protected, three.unprotected)?;
     if is_critical(headers) {
         return None;
     }
-    let place = element_located(item, 2)?;
+    let place = three.content;
     let content = carried(place, nothing)?;
     Some(Texts {
         headers,
-        proof: proof_located(kind, item, nothing)?,
+        proof: proof_located(kind, three.behind, nothing)?,
         content,
         key_id: key_id_in(headers, nothing)?,
         signed: signed_content(place.item, content.bytes, detached),

@@ -1,14 +1,14 @@
 //! Parts of the input, lent, each with the bytes from its first one to the end of the input: so it is known where it is.
 
-ghost use Rattle.std.specs.Prelude.{◌≡◌, List, ℕ, IfSome, drop, option_map, Some};
+ghost use Rattle.std.specs.Prelude.{◌≡◌, List, ℕ, IfSome, MatchOption, drop, option_map, Some};
 ghost use Rattle.coset.specs.Elements.{items_bytes, items_left, pairs_bytes, pairs_left};
+ghost use Rattle.coset.specs.Item.{item, no_items};
 ghost use Rattle.coset.specs.Names.{number};
-ghost use Rattle.coset.specs.Parts.{as_bytes};
+ghost use Rattle.coset.specs.Parts.{as_array, as_bytes};
 ghost use Rattle.coset.specs.Pulls.{pull_bytes, pull_item};
 ghost use Rattle.ffi_query.specs.Kinds.{without_tag};
 ghost use Rattle.ffi_query.specs.Labels.{first_value, is_label, value_under};
-ghost use Rattle.ffi_query.specs.Located.{AreLocated, IsContentOf, IsLocated, IsTextIn, head_len, located_item, opens_string};
-ghost use Rattle.ffi_query.specs.Places.{element, nth};
+ghost use Rattle.ffi_query.specs.Located.{AreElementsIn, AreLocated, IsContentOf, IsLocated, IsTextIn, elements_left, head_len, located_item, opens_string};
 
 use coset::cbor::de::{Items, Pairs, Pull};
 use coset_cbor::laws::lent_chunks;
@@ -82,33 +82,41 @@ pub(crate) fn without_tag_located(number: Option<u64>, whole: Located<'_>) -> Lo
     }
 }
 
-/// The element of that index, where the elements are at the front of the rest.
-fn nth_located<'a>(members: Items<'a>, rest: &'a [u8], index: usize) -> Option<Located<'a>>
-    ensures item { option_map located_item result ≡ nth index (items_left members.entry) }
-    ensures place { (b : List ℕ) → AreLocated b (items_bytes members.entry) rest.now
-        → IfSome result (IsLocated b) }
-{
-    let mut left = index;
-    let mut rest = rest;
-    for member in members {
-        if left == 0 {
-            return Some(Located { item: member, rest });
-        }
-        left -= 1;
-        rest = after(rest, member.slice().len());
-    }
-    None
+/// The elements of an array that are still to come, and the bytes from the first of them to the end of the input.
+#[derive(Clone, Copy)]
+pub(crate) struct Elements<'a> {
+    members: Items<'a>,
+    rest: &'a [u8],
 }
 
-/// The element of that index of an array.
-pub(crate) fn element_located(array: Located<'_>, index: usize) -> Option<Located<'_>>
-    ensures item { option_map located_item result ≡ element index (located_item array.entry) }
-    ensures place { (b : List ℕ) → IsLocated b array.entry → IfSome result (IsLocated b) }
+/// The elements of an array.
+pub(crate) fn elements_located(array: Located<'_>) -> Option<Elements<'_>>
+    ensures elements { option_map elements_left result ≡ as_array (located_item array.entry) }
+    ensures place { (b : List ℕ) → IsLocated b array.entry → IfSome result (AreElementsIn b) }
 {
     match array.item.items() {
         Some(members) => {
-            let first = after(array.rest, head_len(array.item.slice()));
-            nth_located(members, first, index)
+            let rest = after(array.rest, head_len(array.item.slice()));
+            Some(Elements { members, rest })
+        }
+        None => None,
+    }
+}
+
+/// The first of the elements that are still to come, and those behind it.
+pub(crate) fn next_located(elements: Elements<'_>) -> Option<(Located<'_>, Elements<'_>)>
+    ensures element { MatchOption result (elements_left elements.entry ≡ no_items)
+        (λ x. elements_left elements.entry ≡ item (located_item x.0) (elements_left x.1)) }
+    ensures place { (b : List ℕ) → AreElementsIn b elements.entry
+        → IfSome result (λ x. IsLocated b x.0 × AreElementsIn b x.1) }
+{
+    let Elements { members, rest } = elements;
+    let mut members = members;
+    match members.next() {
+        Some(member) => {
+            let found = Located { item: member, rest };
+            let rest = after(rest, member.slice().len());
+            Some((found, Elements { members, rest }))
         }
         None => None,
     }

@@ -1,7 +1,9 @@
-use Rattle.std.proofs.Common.{sym}
+use Rattle.std.proofs.Common.{ap}
 use Rattle.std.specs.Option.{option_copied}
+use Rattle.std.specs.Prelude.{option_and_then}
 use Rattle.coset.specs.Pulls.{pull_bytes}
 use Rattle.ffi_query.specs.Located.{located_item}
+use Rattle.ffi_query.specs.Places.{nth}
 use Rattle.ffi_query.proofs.Lending.{empty_in, signed_is}
 use Rattle.ffi_query.proofs.lent.texts_of.Goals as goal
 
@@ -9,16 +11,18 @@ pub returns : goal.returns
 returns c =
     λ b l.
     let v = located_item c.args.item in
-    let place = located_item c.in_ok-place.place in
+    let three = c.in_ok-three.ensures b l in
+    let place = located_item c.in_ok-three.three.content in
     let none = empty_in b (pull_bytes c.args.item.item) c.args.item.rest.now c.nothing_at-nothing.result c.nothing_at-nothing.ensures.bytes
     c.nothing_at-nothing.ensures.rest l in
-    let headers = c.in_ok-headers.ensures b l in
-    let content = c.in_ok-content.ensures b (c.in_ok-place.ensures.place b l) none in
-    let proof = c.in_ok-proof_located.ensures b l none in
+    let headers = c.in_ok-headers.ensures b v three.protected_in three.unprotected_in (ap (option_and_then (nth 0)) three.array)
+    (ap (option_and_then (nth 1)) three.array) in
+    let content = c.in_ok-content.ensures b three.content_in none in
+    let proof = c.in_ok-proof_located.ensures b v (_, _, _, three.array) three.behind_in none in
     let key_id = c.in_ok-key_id_in.ensures b v headers none in record {
       place = place;
       headers = headers;
-      is_place = sym c.in_ok-place.ensures.item;
+      is_place = ap (option_and_then (nth 2)) three.array;
       is_uncritical = c.is_critical.ensures b v headers c.if-is_critical.false;
       is_proof = proof.0;
       proof_in_b = proof.1;
