@@ -25,7 +25,7 @@ extern "C" {
 #endif
 
 /* What is declared here; coset_version says what is linked. */
-#define COSET_VERSION "0.4.2-rattle.4"
+#define COSET_VERSION "0.4.2-rattle.5"
 
 /* A call whose status may not be ignored, and which arguments, counted from 1, are never NULL. */
 #if defined(__GNUC__) || defined(__clang__)
