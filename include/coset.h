@@ -7,8 +7,8 @@
  * out, cap, len  where an answer goes, and how long it is. COSET_SHORT: it is longer than cap, and *len says how long.
  *                Where the status isn't COSET_OK, out is as it was; where it is neither that nor COSET_SHORT, *len is 0.
  * No length is above PTRDIFF_MAX: no object is as long, and no call looks.
- * What is const may overlap; out, len, count, offset, value and view overlap nothing that the call is given, and but for out
- * they are never NULL. A call may take 1 MB of stack (docs/C.md: what a call takes), and asks for memory: it is not for signal
+ * What is const may overlap; out, and each place for a number or a struct, overlaps nothing else that the call is given, and but
+ * for out they are never NULL. A call may take 1 MB of stack (docs/C.md: what a call takes), and asks for memory: it is not for signal
  * handlers, nor for a child that a process with threads forked. The library asks the C library for malloc, free, memcpy, memmove
  * and memset; or your program for its memory, where it was built so (docs/C.md: a heap of your own).
  *
@@ -25,7 +25,7 @@ extern "C" {
 #endif
 
 /* What is declared here; coset_version says what is linked. */
-#define COSET_VERSION "0.4.2-rattle.5"
+#define COSET_VERSION "0.4.2-rattle.6"
 
 /* A call whose status may not be ignored, and which arguments, counted from 1, are never NULL. */
 #if defined(__GNUC__) || defined(__clang__)
@@ -152,6 +152,16 @@ COSET_CALL(7)
 coset_status coset_member(uint32_t kind, const uint8_t *in, size_t in_len, size_t index, uint8_t *out, size_t cap,
                           size_t *len);
 
+/* A part of `in`: so many bytes from that offset on. */
+typedef struct coset_span {
+  size_t at;
+  size_t len;
+} coset_span;
+
+/* Where that is in `in`, as it was received: nothing is copied. Zeros where the status isn't COSET_OK. Also: COSET_ABSENT. */
+COSET_CALL(5)
+coset_status coset_member_span(uint32_t kind, const uint8_t *in, size_t in_len, size_t index, coset_span *span);
+
 /* The value of an integer label: in its shortest encoding; what a byte string or a text string holds; an integer. Also:
  * COSET_ABSENT where there is no such label; COSET_TYPE, of the last two, where the value is no string, or no integer of 64 bits;
  * COSET_SHORT, of the first two. */
@@ -163,6 +173,11 @@ coset_status coset_label_bytes(uint32_t kind, const uint8_t *in, size_t in_len, 
                                size_t cap, size_t *len);
 COSET_CALL(6)
 coset_status coset_label_int(uint32_t kind, const uint8_t *in, size_t in_len, uint32_t map, int64_t label, int64_t *value);
+
+/* Where the value of an integer label is in `in`, as it was received. Zeros where the status isn't COSET_OK. Also: COSET_ABSENT;
+ * COSET_TYPE where what the protected header's byte string holds is in chunks. */
+COSET_CALL(6)
+coset_status coset_label_span(uint32_t kind, const uint8_t *in, size_t in_len, uint32_t map, int64_t label, coset_span *span);
 
 /* The value of a text label, whose UTF-8 bytes these are, in its shortest encoding. Also: COSET_SHORT, COSET_ABSENT. */
 COSET_CALL(9)
@@ -177,6 +192,18 @@ coset_status coset_label_at(uint32_t kind, const uint8_t *in, size_t in_len, siz
 COSET_CALL(7)
 coset_status coset_value_at(uint32_t kind, const uint8_t *in, size_t in_len, size_t index, uint8_t *out, size_t cap,
                             size_t *len);
+
+/* Where the label and the value are in `in`, as they were received. Zeros where the status isn't COSET_OK. Also: COSET_ABSENT. */
+COSET_CALL(5, 6)
+coset_status coset_pair_spans(uint32_t kind, const uint8_t *in, size_t in_len, size_t index, coset_span *label,
+                              coset_span *value);
+
+/* Of a COSET_ITEM: where the content of a byte string or a text string is in `in`, whose length is announced; and the integer that
+ * it is. Zeros where the status isn't COSET_OK. Also: COSET_TYPE where it is no string, or one in chunks; or no integer of 64 bits. */
+COSET_CALL(3)
+coset_status coset_string_span(const uint8_t *in, size_t in_len, coset_span *span);
+COSET_CALL(3)
+coset_status coset_integer(const uint8_t *in, size_t in_len, int64_t *value);
 
 /* The first key of the COSET_KEY_SET whose identifier, label 2, is this, in its shortest encoding: others may have the same.
  * Also: COSET_SHORT, COSET_ABSENT. */

@@ -309,6 +309,14 @@ static void look_at_spans(size_t len) {
       fail("a text outside of its place");
 }
 
+/* A part of the input is within it, and nothing but zeros after a refusal. */
+static void look_at_span(const struct place *p, int32_t status) {
+  coset_span span;
+  memcpy(&span, p->at, sizeof span);
+  if (status != COSET_OK && (span.at || span.len)) fail("a part without an answer");
+  if (span.at > of('b')->n || span.len > of('b')->n - span.at) fail("a part outside of the input");
+}
+
 /* What is to hold of each place after a call with that status; `len` is the length that was told. */
 static void look(int32_t status, size_t len) {
   static const uint8_t zeros[1 << 10];
@@ -325,6 +333,8 @@ static void look(int32_t status, size_t len) {
     if (class == 'v' && status != COSET_OK && memcmp(p->at, zeros, p->n)) fail("a view without an answer");
   }
   if (status == COSET_OK && of('v') && of('v')->n == sizeof(coset_message_spans_view)) look_at_spans(len);
+  for (int i = 0; now->classes[i]; i++)
+    if (now->classes[i] == 'a' && now->sizes[i] == sizeof(coset_span)) look_at_span(&places[i], status);
   if (status == COSET_SHORT && (!of('o') || len <= of('o')->n)) fail("COSET_SHORT with room enough");
   if (status < 0 || status >= STATUSES) fail("a status that the header doesn't have");
   if (status == COSET_MEMORY && refused_at < 0) fail("COSET_MEMORY though no request was refused");

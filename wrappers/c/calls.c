@@ -2,6 +2,7 @@
  *
  *   check KIND IN | count KIND IN | part KIND IN CAP PART | member KIND IN CAP INDEX | label KIND IN CAP MAP LABEL
  *   label_at KIND IN CAP INDEX | value_at KIND IN CAP INDEX | key_of 11 IN CAP KID
+ *   member_span KIND IN INDEX | pair_spans KIND IN INDEX | label_span KIND IN MAP LABEL | string_span 13 IN | integer 13 IN
  *   label_bytes KIND IN CAP MAP LABEL | label_int KIND IN MAP LABEL | text_label KIND IN CAP MAP LABEL
  *   structure KIND IN CAP INDEX AAD HAS DETACHED | recipient_structure HOLDER IN CAP AAD
  *   sign1 KIND IN CAP AAD HAS DETACHED | message KIND IN CAP INDEX AAD HAS DETACHED KNOWN
@@ -403,6 +404,19 @@ static int32_t made(char **word, uint32_t kind, struct bytes in, uint8_t *out, s
   return status;
 }
 
+/* Says where an element is, the two halves of a pair, the value of a label, or what a string holds. */
+static void located(char call, uint32_t kind, struct bytes in, size_t index, int64_t label) {
+  coset_span a = {77, 77}, b = {77, 77};
+  coset_status status = call == 'p'   ? coset_pair_spans(kind, in.at, in.len, index, &a, &b)
+                        : call == 'm' ? coset_member_span(kind, in.at, in.len, index, &a)
+                        : call == 'l' ? coset_label_span(kind, in.at, in.len, (uint32_t)index, label, &a)
+                                      : coset_string_span(in.at, in.len, &a);
+  left = -1;
+  printf("%" PRId32 " %zu %zu", status, a.at, a.len);
+  if (call == 'p') printf(" %zu %zu", b.at, b.len);
+  putchar('\n');
+}
+
 int main(void) {
   static char line[1 << 23];
   char *word[13], number[32];
@@ -433,6 +447,12 @@ int main(void) {
       if (live) return fprintf(stderr, "%ld blocks are left\n", live), 1;
       continue;
     }
+    if (!strcmp(call, "member_span") || !strcmp(call, "pair_spans") || !strcmp(call, "label_span") || !strcmp(call, "string_span")) {
+      located(*call, kind, in, strtoul(word[3], NULL, 0), strtoll(word[4], NULL, 0));
+      free(in.at), free(out);
+      if (live) return fprintf(stderr, "%ld blocks are left\n", live), 1;
+      continue;
+    }
     int32_t status = made(word, kind, in, out, cap, &len);
     if (!strcmp(call, "check")) status = coset_check(kind, in.at, in.len, &len);
     if (!strcmp(call, "count")) status = coset_count(kind, in.at, in.len, &len);
@@ -448,6 +468,7 @@ int main(void) {
     if (!strcmp(call, "label_bytes")) status = coset_label_bytes(kind, in.at, in.len, w4, label, out, cap, &len);
     if (!strcmp(call, "label_int"))
       status = coset_label_int(kind, in.at, in.len, (uint32_t)cap, strtoll(word[4], NULL, 0), &value);
+    if (!strcmp(call, "integer")) status = coset_integer(in.at, in.len, &value);
     if (!strcmp(call, "text_label")) {
       extra = spelled(word[5]);
       status = coset_text_label(kind, in.at, in.len, w4, extra.at, extra.len, out, cap, &len);
@@ -484,7 +505,7 @@ int main(void) {
     int is_safe = !strcmp(call, "safe"), views = is_spans || !strcmp(call, "sign1") || !strcmp(call, "message");
     if (is_safe) status = safe(word, kind, in, out, cap, &len);
     left = -1;
-    int integer = !strcmp(call, "label_int"), writes = strcmp(call, "check") && strcmp(call, "count") && !integer;
+    int integer = !strcmp(call, "label_int") || !strcmp(call, "integer"), writes = strcmp(call, "check") && strcmp(call, "count") && !integer;
     if (integer) snprintf(number, sizeof number, "%" PRId64, value);
     else snprintf(number, sizeof number, "%zu", len);
     if (is_spans) printf("%" PRIu32 " ", flags);

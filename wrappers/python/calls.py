@@ -110,6 +110,11 @@ def judged(given, now, rules, signatures, macs, ciphers, critical, issuer, audie
     return f"{claims.hex()} {len(asked)} {b''.join(asked).hex()} {','.join(heard)}"
 
 
+def span(part):
+    """Where a part of the input is."""
+    return f"{part.start} {part.stop - part.start}"
+
+
 def answer(name, kind, given="-", *words):
     kind, given = int(kind), data(given)
     if name == "text":
@@ -136,6 +141,16 @@ def answer(name, kind, given="-", *words):
         return coset.label_at(kind, given, int(words[1])).hex()
     if name == "value_at":
         return coset.value_at(kind, given, int(words[1])).hex()
+    if name == "member_span":
+        return span(coset.member_span(kind, given, int(words[0])))
+    if name == "label_span":
+        return span(coset.label_span(kind, given, int(words[0]), int(words[1])))
+    if name == "string_span":
+        return span(coset.string_span(given))
+    if name == "integer":
+        return str(coset.integer(given))
+    if name == "pair_spans":
+        return " ".join(map(span, coset.pair_spans(kind, given, int(words[0]))))
     if name == "key_of":
         return coset.key_of(given, data(words[1])).hex()
     if name == "label_bytes":

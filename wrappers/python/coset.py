@@ -163,6 +163,15 @@ class _Spans(ctypes.Structure):
     ]
 
 
+class _Span(ctypes.Structure):
+    """coset_span of the header."""
+
+    _fields_ = [
+        ("at", ctypes.c_size_t),
+        ("len", ctypes.c_size_t),
+    ]
+
+
 class _Pair(ctypes.Structure):
     """coset_pair of the header."""
 
@@ -232,6 +241,9 @@ def _declare():
         "count": [ctypes.POINTER(size)],
         "part": [number] + to,
         "member": [size] + to,
+        "member_span": [size, ctypes.POINTER(_Span)],
+        "pair_spans": [size, ctypes.POINTER(_Span), ctypes.POINTER(_Span)],
+        "label_span": [number, integer, ctypes.POINTER(_Span)],
         "label": [number, integer] + to,
         "label_bytes": [number, integer] + to,
         "label_int": [number, integer, ctypes.POINTER(integer)],
@@ -363,6 +375,46 @@ def part(kind, data, which):
 def member(kind, data, index):
     """The signature, recipient or key of that index, in its shortest encoding."""
     return _written(_library.coset_member, _kind(kind), *_bytes(data), _size(index))
+
+
+def _slice(span):
+    return slice(span.at, span.at + span.len)
+
+
+def member_span(kind, data, index):
+    """Where the signature, recipient or key of that index is in the bytes, or the element of an array, as it was received: a slice,
+    as `memoryview(data)[..]` takes it."""
+    span = _Span()
+    _raise(_library.coset_member_span(_kind(kind), *_bytes(data), _size(index), ctypes.byref(span)))
+    return _slice(span)
+
+
+def pair_spans(kind, data, index):
+    """Where the label and the value of the pair of that index of a map are in the bytes, as they were received: two slices."""
+    name, value = _Span(), _Span()
+    _raise(_library.coset_pair_spans(_kind(kind), *_bytes(data), _size(index), ctypes.byref(name), ctypes.byref(value)))
+    return _slice(name), _slice(value)
+
+
+def label_span(kind, data, which, name):
+    """Where the value of an integer label is in the bytes, as it was received: a slice."""
+    span = _Span()
+    _raise(_library.coset_label_span(_kind(kind), *_bytes(data), _number(which), _int64(name), ctypes.byref(span)))
+    return _slice(span)
+
+
+def string_span(data):
+    """Where the content of a byte string or a text string is in the bytes, which are one whose length is announced: a slice."""
+    span = _Span()
+    _raise(_library.coset_string_span(*_bytes(data), ctypes.byref(span)))
+    return _slice(span)
+
+
+def integer(data):
+    """The integer that the bytes are."""
+    value = ctypes.c_int64()
+    _raise(_library.coset_integer(*_bytes(data), ctypes.byref(value)))
+    return value.value
 
 
 def label(kind, data, which, name):

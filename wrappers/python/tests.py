@@ -88,3 +88,21 @@ for keys in ([], [b"one"], [b"one", b"two", b"three"]):
         assert list(countersigners(kind, countersigned(kind, bare, keys))) == keys
 assert type(raised(coset.countersign_structure, coset.SIGN1, bare, 8)) is coset.Misuse
 assert type(raised(coset.countersign_structure, coset.SIGN1, bare, 12, b"\xa0")) is coset.Absent
+
+
+def certificates(kind, message):
+    """The certificates under x5chain, label 33 of the unprotected header: one byte string, or an array of them (RFC 9360, section
+    2). Each is a part of the message, and not a copy."""
+    chain = memoryview(message)[coset.label_span(kind, message, coset.IN_UNPROTECTED, 33)]
+    try:
+        parts = [chain[coset.member_span(coset.ITEM, chain, index)] for index in range(coset.count(coset.ITEM, chain))]
+    except coset.Absent:
+        parts = [chain]
+    return [part[coset.string_span(part)] for part in parts]
+
+
+for held in (b"\x43one", b"\x82\x43one\x58\x03two"):
+    header = b"\xa2\x04\x41\x07\x18\x21" + held
+    for tag in (b"", b"\xd2"):
+        chained = tag + b"\x84\x43\xa1\x01\x26" + header + b"\xf6\x40"
+        assert certificates(coset.SIGN1 + coset.EITHER, chained) == [b"one", b"two"][:1 + (held[0] == 0x82)]

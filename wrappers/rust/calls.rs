@@ -258,6 +258,11 @@ fn token(w: &[&str]) -> Result<String, Error> {
     Ok(format!("{} {} {asked} {}", hex(&claims), heard.len(), heard.join(",")))
 }
 
+/// Where a part of the input is.
+fn span(range: std::ops::Range<usize>) -> String {
+    format!("{} {}", range.start, range.len())
+}
+
 fn answer(w: &[&str]) -> Result<String, Error> {
     match w[0] {
         "token" => return token(w),
@@ -282,6 +287,14 @@ fn answer(w: &[&str]) -> Result<String, Error> {
         "label" => hex(&coset::label(k, &input, map(w[4]), w[5].parse().unwrap())?),
         "label_at" => hex(&coset::label_at(k, &input, w[4].parse().unwrap())?),
         "value_at" => hex(&coset::value_at(k, &input, w[4].parse().unwrap())?),
+        "member_span" => span(coset::member_span(k, &input, w[3].parse().unwrap())?),
+        "label_span" => span(coset::label_span(k, &input, map(w[3]), w[4].parse().unwrap())?),
+        "string_span" => span(coset::string_span(&input)?),
+        "integer" => coset::integer(&input)?.to_string(),
+        "pair_spans" => {
+            let (label, value) = coset::pair_spans(k, &input, w[3].parse().unwrap())?;
+            format!("{} {}", span(label), span(value))
+        }
         "key_of" => hex(&coset::key_of(&input, &bytes(w[4]))?),
         "label_bytes" => hex(&coset::label_bytes(k, &input, map(w[4]), w[5].parse().unwrap())?),
         "label_int" => coset::label_int(k, &input, map(w[3]), w[4].parse().unwrap())?.to_string(),

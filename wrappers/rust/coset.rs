@@ -441,6 +441,14 @@ mod c {
         pub key_id_len: usize,
     }
 
+    /// `coset_span` of the header.
+    #[repr(C)]
+    #[derive(Default)]
+    pub struct Span {
+        pub at: usize,
+        pub len: usize,
+    }
+
     /// `coset_pair` of the header.
     #[repr(C)]
     #[derive(Default)]
@@ -505,6 +513,11 @@ mod c {
         pub fn coset_count(kind: u32, input: *const u8, input_len: usize, count: *mut usize) -> i32;
         pub fn coset_part(kind: u32, input: *const u8, input_len: usize, part: u32, out: *mut u8, cap: usize, len: *mut usize) -> i32;
         pub fn coset_member(kind: u32, input: *const u8, input_len: usize, index: usize, out: *mut u8, cap: usize, len: *mut usize) -> i32;
+        pub fn coset_member_span(kind: u32, input: *const u8, input_len: usize, index: usize, span: *mut Span) -> i32;
+        pub fn coset_pair_spans(kind: u32, input: *const u8, input_len: usize, index: usize, label: *mut Span, value: *mut Span) -> i32;
+        pub fn coset_label_span(kind: u32, input: *const u8, input_len: usize, map: u32, label: i64, span: *mut Span) -> i32;
+        pub fn coset_string_span(input: *const u8, input_len: usize, span: *mut Span) -> i32;
+        pub fn coset_integer(input: *const u8, input_len: usize, value: *mut i64) -> i32;
         pub fn coset_label(kind: u32, input: *const u8, input_len: usize, map: u32, label: i64, out: *mut u8, cap: usize, len: *mut usize) -> i32;
         pub fn coset_label_bytes(kind: u32, input: *const u8, input_len: usize, map: u32, label: i64, out: *mut u8, cap: usize, len: *mut usize) -> i32;
         pub fn coset_label_int(kind: u32, input: *const u8, input_len: usize, map: u32, label: i64, value: *mut i64) -> i32;
@@ -634,6 +647,46 @@ pub fn part(kind: Kind, bytes: &[u8], part: Part) -> Result<Vec<u8>, Error> {
 /// The signature, recipient or key of that index, in its shortest encoding.
 pub fn member(kind: Kind, bytes: &[u8], index: usize) -> Result<Vec<u8>, Error> {
     written(|out, cap, len| unsafe { c::coset_member(kind.number(), bytes.as_ptr(), bytes.len(), index, out, cap, len) })
+}
+
+/// The bytes that a span names.
+fn range(span: &c::Span) -> std::ops::Range<usize> {
+    span.at..span.at + span.len
+}
+
+/// Where the signature, recipient or key of that index is in the bytes, or the element of an array, as it was received.
+pub fn member_span(kind: Kind, bytes: &[u8], index: usize) -> Result<std::ops::Range<usize>, Error> {
+    let mut span = c::Span::default();
+    let status = unsafe { c::coset_member_span(kind.number(), bytes.as_ptr(), bytes.len(), index, &mut span) };
+    answer(status, range(&span))
+}
+
+/// Where the label and the value of the pair of that index of a map are in the bytes, as they were received.
+pub fn pair_spans(kind: Kind, bytes: &[u8], index: usize) -> Result<(std::ops::Range<usize>, std::ops::Range<usize>), Error> {
+    let (mut label, mut value) = (c::Span::default(), c::Span::default());
+    let status = unsafe { c::coset_pair_spans(kind.number(), bytes.as_ptr(), bytes.len(), index, &mut label, &mut value) };
+    answer(status, (range(&label), range(&value)))
+}
+
+/// Where the value of an integer label is in the bytes, as it was received.
+pub fn label_span(kind: Kind, bytes: &[u8], map: Map, label: i64) -> Result<std::ops::Range<usize>, Error> {
+    let mut span = c::Span::default();
+    let status = unsafe { c::coset_label_span(kind.number(), bytes.as_ptr(), bytes.len(), map as u32, label, &mut span) };
+    answer(status, range(&span))
+}
+
+/// Where the content of a byte string or a text string is in the bytes, which are one whose length is announced.
+pub fn string_span(bytes: &[u8]) -> Result<std::ops::Range<usize>, Error> {
+    let mut span = c::Span::default();
+    let status = unsafe { c::coset_string_span(bytes.as_ptr(), bytes.len(), &mut span) };
+    answer(status, range(&span))
+}
+
+/// The integer that the bytes are.
+pub fn integer(bytes: &[u8]) -> Result<i64, Error> {
+    let mut value = 0;
+    let status = unsafe { c::coset_integer(bytes.as_ptr(), bytes.len(), &mut value) };
+    answer(status, value)
 }
 
 /// The value of an integer label, in its shortest encoding.

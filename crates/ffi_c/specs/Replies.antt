@@ -1,6 +1,7 @@
 -- Answers as C is given them: a status, and a number in a place of the caller's.
 use Rattle.std.specs.Prelude.{◌≡◌, ◌-◌, ◌^◌, ℕ, ℤ, pos, List, Option, Result, Ok, Err, unwrap_or}
 use Rattle.coset.specs.CoseError.{CoseError}
+use Rattle.ffi_query.specs.declared.elements.Span.{Span}
 use Rattle.ffi_query.specs.declared.kind.Kind as kinds
 use Rattle.ffi_query.specs.declared.refusal.Refusal as refusals
 use Rattle.ffi_query.specs.declared.refusal.Refusal.TheVariants as refused
@@ -40,16 +41,24 @@ length_of (Ok n) = n
 length_of (Err (refused.Short n)) = n
 length_of (Err r) = 0
 
-abbrev pub integer_of : Result ℤ refusals.Refusal → ℤ
-integer_of (Ok n) = n
-integer_of (Err r) = pos 0
+-- what goes with it otherwise: the value that is returned, or else this
+abbrev pub value_or : {N : Type 0} → N → Result N refusals.Refusal → N
+value_or nothing (Ok n) = n
+value_or nothing (Err r) = nothing
 
 -- the status and the number are those of an answer of which P holds
 abbrev pub Replies : (Result ℕ refusals.Refusal → Type 0) → ℤ → ℕ → Type 0
 Replies P status n = (r : Result ℕ refusals.Refusal) × P r × (status ≡ reply_status r) × (n ≡ length_of r)
 
-abbrev pub RepliesInteger : (Result ℤ refusals.Refusal → Type 0) → ℤ → ℤ → Type 0
-RepliesInteger P status n = (r : Result ℤ refusals.Refusal) × P r × (status ≡ reply_status r) × (n ≡ integer_of r)
+abbrev pub RepliesValue : {N : Type 0} → N → (Result N refusals.Refusal → Type 0) → ℤ → N → Type 0
+RepliesValue {N} nothing P status n = (r : Result N refusals.Refusal) × P r × (status ≡ reply_status r) × (n ≡ value_or nothing r)
+
+-- nothing but zeros
+abbrev pub no_span : Span
+no_span = record { at = 0; len = 0 }
+
+abbrev pub no_pair : Span × Span
+no_pair = (no_span, no_span)
 
 -- a number has no meaning: the status says so, and the place, which holds n, is given this
 abbrev pub IsMisuse : {N : Type 0} → ℤ → N → N → Type 0

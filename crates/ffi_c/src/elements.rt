@@ -1,18 +1,121 @@
-//! The functions that read the pairs of a map by index, and a key of a set by its identifier.
+//! The functions that read the elements of an array and the pairs of a map by index, where they are and as copies; the
+//! content of a string, and an integer; and a key of a set by its identifier.
 
-ghost use Rattle.std.specs.Prelude.{◌≡◌, MatchOption};
-ghost use Rattle.ffi_query.specs.declared.kind.Kind.TheVariants.{KeySet};
+ghost use Rattle.std.specs.Prelude.{◌≡◌, MatchOption, pos};
+ghost use Rattle.ffi_query.specs.declared.kind.Kind.TheVariants.{Any, KeySet};
+ghost use Rattle.ffi_query.specs.declared.elements.Span.{Span};
 ghost use Rattle.ffi_query.specs.declared.pair.Half.TheVariants as of;
-ghost use Rattle.ffi_query.specs.Answers.{Answers};
+ghost use Rattle.ffi_query.specs.Answers.{Answers, AnswersNumber};
+ghost use Rattle.ffi_query.specs.Elements.{ArePairAt, HasNoContent, HasNoInteger, HasNoMember, HasNoPair, HasNoValueAt, IsMemberAt, IsStringAt, IsValueAt};
+ghost use Rattle.ffi_query.specs.Labels.{IsNumber};
 ghost use Rattle.ffi_query.specs.Pairs.{IsHalf};
 ghost use Rattle.ffi_query.specs.Sets.{IsKeyBy};
-ghost use Rattle.ffi_c.specs.Numbers.{kind_of};
-ghost use Rattle.ffi_c.specs.Replies.{IsMisuse, Replies};
+ghost use Rattle.coset.specs.Names.{number};
+ghost use Rattle.ffi_c.specs.Numbers.{kind_of, map_query};
+ghost use Rattle.ffi_c.specs.Replies.{IsMisuse, Replies, RepliesValue, no_pair, no_span};
 
-use crate::numbers::kind_of;
-use crate::replies::{misused, reply};
-use ffi_query::{Half, key_of, pair_of};
+use crate::numbers::{kind_of, map_query};
+use crate::replies::{COSET_MISUSE, misused, reply, reply_value};
+use ffi_query::{
+    Half, Span, integer_at, key_of, member_span, pair_of, pair_spans, string_span, value_span,
+};
 use std::alloc::Global;
+
+/// What is in the caller's struct where nothing is returned.
+fn no_span() -> Span
+    ensures { result ≡ no_span }
+{
+    Span { at: 0, len: 0 }
+}
+
+/// Says where the signature, recipient or key of that index is in the input, or the element of an array.
+#[unsafe(no_mangle)]
+pub extern "C" fn coset_member_span(
+    alloc: Global,
+    kind: u32,
+    input: &[u8],
+    index: usize,
+    span: &mut Span,
+) -> i32
+    ensures { MatchOption (kind_of kind) (IsMisuse result span.new no_span)
+        (λ k. RepliesValue no_span (AnswersNumber k input.now (IsMemberAt input.now k index)
+        (HasNoMember k index)) result span.new) }
+{
+    match kind_of(kind) {
+        Some(kind) => reply_value(member_span(alloc, kind, input, index), no_span(), span),
+        None => misused(no_span(), span),
+    }
+}
+
+/// Says where the value of an integer label is in the input.
+#[unsafe(no_mangle)]
+pub extern "C" fn coset_label_span(
+    alloc: Global,
+    kind: u32,
+    input: &[u8],
+    map: u32,
+    label: i64,
+    span: &mut Span,
+) -> i32
+    ensures { MatchOption (map_query kind map) (IsMisuse result span.new no_span)
+        (λ q. RepliesValue no_span (AnswersNumber q.0 input.now
+        (IsValueAt input.now q.0 q.1 (number label))
+        (HasNoValueAt input.now q.0 q.1 (number label))) result span.new) }
+{
+    match map_query(kind, map) {
+        Some((kind, map)) => {
+            let answer = value_span(alloc, kind, input, map, label);
+            reply_value(answer, no_span(), span)
+        }
+        None => misused(no_span(), span),
+    }
+}
+
+/// Says where the label and the value of the pair of that index are in the input.
+#[unsafe(no_mangle)]
+pub extern "C" fn coset_pair_spans(
+    alloc: Global,
+    kind: u32,
+    input: &[u8],
+    index: usize,
+    label: &mut Span,
+    value: &mut Span,
+) -> i32
+    ensures { let spans : Span × Span = (label.new, value.new) in
+        MatchOption (kind_of kind) (IsMisuse result spans no_pair)
+        (λ k. RepliesValue no_pair (AnswersNumber k input.now
+        (ArePairAt input.now index) (HasNoPair index)) result spans) }
+{
+    let mut found = (no_span(), no_span());
+    let status = match kind_of(kind) {
+        Some(kind) => {
+            let answer = pair_spans(alloc, kind, input, index);
+            reply_value(answer, (no_span(), no_span()), &mut found)
+        }
+        None => COSET_MISUSE,
+    };
+    *label = found.0;
+    *value = found.1;
+    status
+}
+
+/// Says where the content of the string is in the input, which is one whose length is announced.
+#[unsafe(no_mangle)]
+pub extern "C" fn coset_string_span(alloc: Global, input: &[u8], span: &mut Span) -> i32
+    ensures { RepliesValue no_span (AnswersNumber Any input.now (IsStringAt input.now)
+        (HasNoContent input.now)) result span.new }
+{
+    reply_value(string_span(alloc, input), no_span(), span)
+}
+
+/// The integer that the input is.
+#[unsafe(no_mangle)]
+pub extern "C" fn coset_integer(alloc: Global, input: &[u8], value: &mut i64) -> i32
+    ensures { RepliesValue (pos 0) (AnswersNumber Any input.now IsNumber HasNoInteger)
+        result value.new }
+{
+    reply_value(integer_at(alloc, input), 0, value)
+}
 
 /// Writes the label of the pair of that index, as its shortest encoding.
 #[unsafe(no_mangle)]

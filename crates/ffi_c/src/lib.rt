@@ -12,7 +12,7 @@ ghost use Rattle.ffi_query.specs.Parts.{HasNoCount, IsMember, IsPart, IsPositive
 ghost use Rattle.ffi_query.specs.Structures.{HasNoStructure, IsRecipientStructure, IsStructure};
 ghost use Rattle.coset.specs.Names.{number, text_label};
 ghost use Rattle.ffi_c.specs.Numbers.{bytes_if, content_query, kind_of, map_query, part_query};
-ghost use Rattle.ffi_c.specs.Replies.{IsMisuse, Replies, RepliesCheck, RepliesInteger};
+ghost use Rattle.ffi_c.specs.Replies.{IsMisuse, Replies, RepliesCheck, RepliesValue};
 
 mod countersign;
 mod elements;
@@ -30,7 +30,7 @@ use ffi_query::{
     structure_of, value_of,
 };
 use numbers::{bytes_if, content_query, kind_of, map_query, part_query};
-use replies::{misused, reply, reply_check, reply_integer};
+use replies::{misused, reply, reply_check, reply_value};
 use std::alloc::Global;
 
 /// Whether the input is an item of the kind; `offset` is where it stops being one item of CBOR, or `SIZE_MAX` where nothing
@@ -157,13 +157,14 @@ pub extern "C" fn coset_label_int(
     value: &mut i64,
 ) -> i32
     ensures { MatchOption (map_query kind map) (IsMisuse result value.new (pos 0))
-        (λ q. RepliesInteger (AnswersNumber q.0 input.now (IsNumberOf q.0 q.1 (number label))
-        (HasNoNumber q.0 q.1 (number label))) result value.new) }
+        (λ q. RepliesValue (pos 0) (AnswersNumber q.0 input.now
+        (IsNumberOf q.0 q.1 (number label)) (HasNoNumber q.0 q.1 (number label)))
+        result value.new) }
 {
     match map_query(kind, map) {
         Some((kind, map)) => {
             let label = Label::Number(label);
-            reply_integer(integer_of(alloc, kind, input, map, label), value)
+            reply_value(integer_of(alloc, kind, input, map, label), 0, value)
         }
         None => misused(0, value),
     }

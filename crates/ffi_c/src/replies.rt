@@ -2,7 +2,7 @@
 
 ghost use Rattle.std.specs.Prelude.{◌≡◌, pos};
 ghost use Rattle.ffi_query.specs.Faults.{IsOffset};
-ghost use Rattle.ffi_c.specs.Replies.{IsMisuse, RepliesOffset, check_status, integer_of, length_of, reply_status, status_number};
+ghost use Rattle.ffi_c.specs.Replies.{IsMisuse, RepliesOffset, check_status, length_of, reply_status, status_number, value_or};
 
 use coset::CoseError;
 use ffi_query::{Refusal, Status, fault_offset};
@@ -34,7 +34,7 @@ const COSET_NOT_PRIVATE: i32 = 11;
 /// What is asked for isn't there.
 pub(crate) const COSET_ABSENT: i32 = 12;
 /// A number of no kind, no part or no map; or a payload that is given and has no place.
-const COSET_MISUSE: i32 = 13;
+pub(crate) const COSET_MISUSE: i32 = 13;
 /// What is asked for is there, and of another kind.
 pub(crate) const COSET_TYPE: i32 = 14;
 /// The list that is counted is empty.
@@ -80,18 +80,18 @@ pub(crate) fn reply(answer: Result<usize, Refusal>, place: &mut usize) -> i32
     }
 }
 
-/// The status of an answer that is an integer, which is in the place afterwards, and else 0.
-pub(crate) fn reply_integer(answer: Result<i64, Refusal>, place: &mut i64) -> i32
+/// The status of an answer, which is in the place afterwards, and else `nothing`.
+pub(crate) fn reply_value<N: Copy>(answer: Result<N, Refusal>, nothing: N, place: &mut N) -> i32
     ensures status { result ≡ reply_status answer }
-    ensures number { place.new ≡ integer_of answer }
+    ensures value { place.new ≡ value_or nothing answer }
 {
     match answer {
-        Ok(integer) => {
-            *place = integer;
+        Ok(value) => {
+            *place = value;
             COSET_OK
         }
         Err(refusal) => {
-            *place = 0;
+            *place = nothing;
             status_number(refusal.status())
         }
     }

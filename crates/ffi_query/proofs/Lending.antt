@@ -3,25 +3,29 @@ use Rattle.std.proofs.Common.{◌≡◌, ◌∙◌, ◌++◌, ◌+◌, ℕ, ℤ,
 use Rattle.std.proofs.Common.{None, Bor, true, false, ap, sym, subst, refl, inl, inr, arith}
 use Rattle.std.proofs.lemmas.List.{length-append}
 use Rattle.std.specs.Option.{option_copied}
-use Rattle.std.specs.Prelude.{IfSome, codes, option_and_then}
+use Rattle.std.specs.Prelude.{IfSome, codes, option_and_then, option_map}
+use Rattle.coset.specs.Answers.{IsOnlyItem}
+use Rattle.coset.specs.Grammar.{IsItem}
 use Rattle.coset.specs.Item.{Item, integer, bytes, float, text, boolean, null, tag, array, dict}
+use Rattle.coset.specs.Names.{Name}
 use Rattle.coset.specs.Parts.{as_bytes}
 use Rattle.coset.specs.ShapeLaws.{some-none}
 use Rattle.ffi_query.specs.declared.kind.Kind as kinds
 use Rattle.ffi_query.specs.declared.kind.Kind.TheVariants.{Sign1, Sign, Mac0, Mac, Encrypt0, Encrypt, Signature, Recipient}
 use Rattle.ffi_query.specs.declared.kind.Kind.TheVariants.{Header, Key, KeySet, Claims, Any, KdfContext}
 use Rattle.ffi_query.specs.declared.lent.Texts.{Texts}
+use Rattle.ffi_query.specs.declared.located.Located.{Located}
 use Rattle.ffi_query.specs.declared.located.Text.{Text}
 use Rattle.ffi_query.specs.declared.view.Algorithm as algorithms
 use Rattle.ffi_query.specs.declared.view.Algorithm.TheVariants as named
 use Rattle.ffi_query.specs.declared.view.KeyIdPlace as places
 use Rattle.ffi_query.specs.declared.view.KeyIdPlace.TheVariants as found
 use Rattle.ffi_query.specs.declared.view.MessageView.{MessageView}
-use Rattle.ffi_query.specs.Answers.{IsEncodingOf}
+use Rattle.ffi_query.specs.Answers.{Finds, IsEncodingOf}
 use Rattle.ffi_query.specs.Critical.{IsCriticalIn, IsCriticalOf}
-use Rattle.ffi_query.specs.Labels.{IsProtected}
+use Rattle.ffi_query.specs.Labels.{IsProtected, IsUnderIn, unprotected_value, value_under}
 use Rattle.ffi_query.specs.Lent.{AreTexts, HasNoCritical, IsCarried, IsEmptyIn, IsSigned, KnowsAlgorithm, KnowsKeyId, Says, structure_by}
-use Rattle.ffi_query.specs.Located.{AreLocated}
+use Rattle.ffi_query.specs.Located.{AreLocated, located_item}
 use Rattle.ffi_query.specs.Parts.{has_headers, place_of}
 use Rattle.ffi_query.specs.Places.{bytes_in, element, string_in}
 use Rattle.ffi_query.specs.Structures.{IsStructure, content_at, content_in, content_structure, encryption_structure, structure_of_one, structure_of_two}
@@ -43,6 +47,35 @@ pub knows_algorithm :
 knows_algorithm v w named.Absent u h = absurd h
 knows_algorithm v w (named.Number n) u h = (w, u, h)
 knows_algorithm v w named.Text u h = (w, u, h)
+
+-- ---- what headers have under labels
+
+found_within :
+    (l : Name) (p : List ℕ) (m : Item) (o : Option Located) → IsOnlyItem p m → option_map located_item o ≡ value_under l m
+    → Finds located_item (IsUnderIn l p) o
+found_within l p m (Some x) only e = (m, only.0, sym e)
+found_within l p m None only e = λ w u. none_is (e ∙ (ap (value_under l) (sym (only.1 u.0 u.1)) ∙ u.2))
+
+pub protected_found :
+    (v m : Item) (p : List ℕ) (l : Name) (o : Option Located) → bytes_in 0 v ≡ Some p → IsOnlyItem p m
+    → option_map located_item o ≡ value_under l m → Finds located_item (IsProtected l (bytes_in 0 v)) o
+protected_found v m p l o is only e = subst (λ q. Finds located_item (IsProtected l q) o) (sym is) (found_within l p m o only e)
+
+pub protected_none :
+    (v : Item) (p : List ℕ) (l : Name) (o : Option Located) → bytes_in 0 v ≡ Some p → ((m : Item) → IsItem p m → ⊥)
+    → option_map located_item o ≡ None → Finds located_item (IsProtected l (bytes_in 0 v)) o
+protected_none v p l (Some x) is none e = absurd (none_is (sym e))
+protected_none v p l None is none e = subst (λ q. Finds located_item (IsProtected l q) None) (sym is) (λ w u. none u.0 u.1)
+
+pub unprotected_found :
+    (v u : Item) (l : Name) (o : Option Located) → element 1 v ≡ Some u → option_map located_item o ≡ value_under l u
+    → Finds located_item (λ w. unprotected_value l v ≡ Some w) o
+unprotected_found v u l (Some x) is e = ap (option_and_then (value_under l)) is ∙ sym e
+unprotected_found v u l None is e = λ w f. none_is (e ∙ (sym (ap (option_and_then (value_under l)) is) ∙ f))
+
+pub none_found : (o : Option Item) → ((w : Item) → o ≡ Some w → ⊥) → o ≡ None
+none_found None h = refl
+none_found (Some w) h = absurd (h w refl)
 
 pub empty_in : (b s r : List ℕ) (t : Text) → t.bytes.now ≡ [] → t.rest.now ≡ r → AreLocated b s r → IsEmptyIn b t
 empty_in b s r t e f l = (
@@ -175,23 +208,23 @@ module _
 
   pub says_of :
       (k : kinds.Kind) (texts : AreTexts k d b v x)
-      → IsEncodingOf (structure_by k aad x.headers.protected.bytes.now (option_copied x.signed)) s
+      → IsEncodingOf (structure_by k aad x.protected.bytes.now (option_copied x.signed)) s
       → Says k i aad d ns v n s x.proof.bytes.now x.content.bytes.now x.key_id.text.bytes.now
   says_of (Sign1 f) a h =
       says_by (Sign1 f) a refl refl refl refl (λ c. c)
-      (over (codes "Signature1") aad x.headers.protected.bytes.now s d v a.place a.headers.protected (option_copied x.signed) a.is_place a.is_signed h)
+      (over (codes "Signature1") aad x.protected.bytes.now s d v a.place a.is_protected (option_copied x.signed) a.is_place a.is_signed h)
   says_of (Mac0 f) a h =
       says_by (Mac0 f) a refl refl refl refl (λ c. c)
-      (over (codes "MAC0") aad x.headers.protected.bytes.now s d v a.place a.headers.protected (option_copied x.signed) a.is_place a.is_signed h)
+      (over (codes "MAC0") aad x.protected.bytes.now s d v a.place a.is_protected (option_copied x.signed) a.is_place a.is_signed h)
   says_of (Mac f) a h =
       says_by (Mac f) a refl refl refl refl (λ c. c)
-      (over (codes "MAC") aad x.headers.protected.bytes.now s d v a.place a.headers.protected (option_copied x.signed) a.is_place a.is_signed h)
+      (over (codes "MAC") aad x.protected.bytes.now s d v a.place a.is_protected (option_copied x.signed) a.is_place a.is_signed h)
   says_of (Encrypt0 f) a h =
       says_by (Encrypt0 f) a refl refl refl refl (λ c. c)
-      (beside (codes "Encrypt0") aad x.headers.protected.bytes.now s d v a.place a.headers.protected h)
+      (beside (codes "Encrypt0") aad x.protected.bytes.now s d v a.place a.is_protected h)
   says_of (Encrypt f) a h =
       says_by (Encrypt f) a refl refl refl refl (λ c. c)
-      (beside (codes "Encrypt") aad x.headers.protected.bytes.now s d v a.place a.headers.protected h)
+      (beside (codes "Encrypt") aad x.protected.bytes.now s d v a.place a.is_protected h)
   says_of (Sign f) a h = absurd (none_is h.1)
   says_of Signature a h = absurd (none_is h.1)
   says_of Recipient a h = absurd (none_is h.1)

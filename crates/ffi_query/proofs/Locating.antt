@@ -1,13 +1,16 @@
 -- Parts of the input.
 use Rattle.std.proofs.Common.{◌≡◌, ◌∙◌, ◌++◌, ◌+◌, ◌-◌, ◌*◌, ◌%◌, ◌<◌, ℕ, zero, suc, List, []}
-use Rattle.std.proofs.Common.{◌∷◌, length, drop, Some, false, true≢false, ap, sym, subst, refl, inl, inr, arith}
+use Rattle.std.proofs.Common.{◌∷◌, length, drop, Option, Some, None, Bool, Bor, false, true, true≢false, ap, sym, subst, refl, inl, inr, arith}
+use Rattle.std.specs.Prelude.{MatchOption}
 use Rattle.std.proofs.lemmas.List.{append-nil, append_assoc, drop_at, length-append}
-use Rattle.coset.specs.Grammar.{EachInOrder, HeadWidth, within, one, two, four, eight, Holds, IsDefinite, IsHeaded, IsHeld, head_in, joined_chunks}
-use Rattle.coset.specs.Item.{Item, Items, item}
-use Rattle.coset.specs.Parts.{as_bytes}
-use Rattle.coset_cbor.specs.StringChunks.{HoldsChunks}
-use Rattle.ffi_query.specs.Places.{nth}
-use Rattle.ffi_query.specs.Located.{AreLocated, IsString, head_len, head_len_by, opens_string}
+use Rattle.coset.specs.Grammar.{HeadWidth, within, one, two, four, eight, Holds, IsHeld, head_in, joined_chunks, string_type}
+use Rattle.coset.specs.Item.{Item, Items, item, integer, bytes, float, text, boolean, null, tag, array, dict}
+use Rattle.coset.specs.Chunks.{YieldsChunk, chunks_left}
+use Rattle.coset.specs.ShapeLaws.{some-none}
+use Rattle.coset_cbor.specs.StringChunks.{HasChunks, as_string}
+use Rattle.coset_cbor.specs.declared.chunks.ByteChunks.{ByteChunks}
+use Rattle.ffi_query.specs.Places.{nth, string_in}
+use Rattle.ffi_query.specs.Located.{AreLocated, IsContentOf, IsNoContent, IsNoString, IsString, head_len, head_len_by, opens_chunks}
 
 -- all of the input
 pub whole_located : (b s : List ℕ) → s ≡ b → AreLocated b s b
@@ -95,14 +98,76 @@ located_end b c t u r n e is l =
 
 -- ---- strings
 
--- a string in one chunk, whose length is announced, ends with what it holds
+abbrev first_or : {A : Type 0} → A → List A → A
+first_or a [] = a
+first_or a (x ∷ xs) = x
+
+abbrev is_nil : {A : Type 0} → List A → Bool
+is_nil [] = true
+is_nil (x ∷ xs) = false
+
+opened : (is_text : Bool) (c : List ℕ) → opens_chunks is_text ((32 * string_type is_text + 31) ∷ c) ≡ true
+opened false c = refl
+opened true c = refl
+
+-- a string whose length is announced ends with what it holds
 pub string_is :
-    (b c d s : List ℕ) (v : Item) (ls ms : List (List ℕ)) → HoldsChunks false b c → opens_string b ≡ false → ls ≡ s ∷ ms
-    → IsHeaded 2 (length s) (s ++ d) c → ms ≡ [] → EachInOrder (IsDefinite false) ms d → Some (joined_chunks ls) ≡ as_bytes v → IsString b v s
-string_is b c d s v ls ms (inl same) closed first h none each w =
-    let nothing : d ≡ [] = subst (λ x. EachInOrder (IsDefinite false) x d) none each in record {
-      head = h.head;
-      ends = sym same ∙ (h.parts ∙ ap (λ x. h.head ++ x) (ap (λ x. s ++ x) nothing ∙ append-nil s));
-      holds = sym w ∙ (ap (λ x. Some (joined_chunks x)) (first ∙ ap (λ x. s ∷ x) none) ∙ ap Some (append-nil s));
+    (is_text : Bool) (b s : List ℕ) (v : Item) (ls ms : List (List ℕ)) → HasChunks is_text b ls → opens_chunks is_text b ≡ false → ls ≡ s ∷ ms
+    → Some (joined_chunks ls) ≡ as_string is_text v → IsString is_text b v s
+string_is is_text b s v ls ms (inl h) closed first w =
+    let same : s ≡ h.0 = ap (first_or []) (sym first ∙ h.1) in record {
+      head = h.2.1.head;
+      ends = h.2.1.parts ∙ ap (λ x. h.2.1.head ++ x) (sym same);
+      holds = sym w ∙ ap Some (ap joined_chunks h.1 ∙ (append-nil h.0 ∙ sym same));
     }
-string_is b c d s v ls ms (inr e) closed first h none each w = absurd (true≢false (sym (ap opens_string e) ∙ closed))
+string_is is_text b s v ls ms (inr h) closed first w =
+    absurd (true≢false (sym (ap (opens_chunks is_text) h.2 ∙ opened is_text (h.0 ++ 255 ∷ [])) ∙ closed))
+
+-- and so it has a chunk
+pub some_chunk : (is_text : Bool) (b : List ℕ) (ls : List (List ℕ)) → HasChunks is_text b ls → opens_chunks is_text b ≡ false → ls ≡ [] → ⊥
+some_chunk is_text b ls (inl h) closed none = true≢false (ap is_nil (sym none ∙ h.1))
+some_chunk is_text b ls (inr h) closed none = true≢false (sym (ap (opens_chunks is_text) h.2 ∙ opened is_text (h.0 ++ 255 ∷ [])) ∙ closed)
+
+pub chunk_found :
+    (b : List ℕ) (v : Item) (old new : ByteChunks) (r : Option (Bor (List ℕ))) → HasChunks false b (chunks_left old)
+    → opens_chunks false b ≡ false → Some (joined_chunks (chunks_left old)) ≡ as_string false v → YieldsChunk old r new
+    → MatchOption r (IsNoString false b v) (IsContentOf false b v)
+chunk_found b v old new None has closed w y = absurd (some_chunk false b (chunks_left old) has closed y.0)
+chunk_found b v old new (Some s) has closed w y = string_is false b s.now v (chunks_left old) (chunks_left new) has closed y.0 w
+
+-- what strings of either type hold
+pub string_held : (is_text : Bool) (v : Item) (s : List ℕ) → as_string is_text v ≡ Some s → string_in v ≡ Some s
+string_held false (bytes x) s e = e
+string_held true (text x) s e = e
+string_held false (text x) s e = absurd (some-none refl (sym e))
+string_held true (bytes x) s e = absurd (some-none refl (sym e))
+string_held false (integer n) s e = absurd (some-none refl (sym e))
+string_held true (integer n) s e = absurd (some-none refl (sym e))
+string_held false (float x) s e = absurd (some-none refl (sym e))
+string_held true (float x) s e = absurd (some-none refl (sym e))
+string_held false (boolean x) s e = absurd (some-none refl (sym e))
+string_held true (boolean x) s e = absurd (some-none refl (sym e))
+string_held false null s e = absurd (some-none refl (sym e))
+string_held true null s e = absurd (some-none refl (sym e))
+string_held false (tag n x) s e = absurd (some-none refl (sym e))
+string_held true (tag n x) s e = absurd (some-none refl (sym e))
+string_held false (array x) s e = absurd (some-none refl (sym e))
+string_held true (array x) s e = absurd (some-none refl (sym e))
+string_held false (dict x) s e = absurd (some-none refl (sym e))
+string_held true (dict x) s e = absurd (some-none refl (sym e))
+
+neither : (v : Item) → as_string false v ≡ None → as_string true v ≡ None → string_in v ≡ None
+neither (bytes x) e f = e
+neither (text x) e f = f
+neither (integer n) e f = refl
+neither (float x) e f = refl
+neither (boolean x) e f = refl
+neither null e f = refl
+neither (tag n x) e f = refl
+neither (array x) e f = refl
+neither (dict x) e f = refl
+
+pub no_content : (b : List ℕ) (v : Item) → IsNoString false b v → IsNoString true b v → IsNoContent b v
+no_content b v (inl e) (inl f) = inl (neither v e f)
+no_content b v (inr e) f = inr (inl e)
+no_content b v (inl e) (inr f) = inr (inr f)

@@ -9,13 +9,13 @@ use Rattle.ffi_query.specs.declared.lent.Lent as declared
 use Rattle.ffi_query.specs.declared.refusal.Refusal as refusals
 use Rattle.ffi_query.specs.declared.refusal.Refusal.TheVariants.{Short, Absent, WrongType, Empty, Misuse, Cose}
 use Rattle.ffi_query.specs.declared.spans.MessageSpans.{MessageSpans}
-use Rattle.ffi_query.specs.declared.spans.Span.{Span}
+use Rattle.ffi_query.specs.declared.spans.Start.{Start}
 use Rattle.ffi_query.specs.declared.view.MessageView.{MessageView}
 use Rattle.ffi_query.specs.Answers.{AnswersWith, PutsTexts}
 use Rattle.ffi_query.specs.Kinds.{tag_of}
 use Rattle.ffi_query.specs.Lent.{IsLent, IsLentOf, Says}
 use Rattle.ffi_query.specs.Located.{AreLocated}
-use Rattle.ffi_query.specs.Spans.{AreLentSpans, IsAt, IsMessageSpans, IsSpan, copied, copied_spans}
+use Rattle.ffi_query.specs.Spans.{AreLentSpans, IsAt, IsMessageSpans, IsStart, copied, copied_spans}
 use Rattle.ffi_query.specs.View.{IsMessageView, TellsTagOf}
 use Rattle.ffi_query.proofs.EachKind.{memory_refuses}
 
@@ -29,7 +29,7 @@ begins_at b s r n is l =
       offset = omega (arith, is, all);
     }
 
-in_input : (b t s u : List ℕ) (p : Span) → p.is_input ≡ true → u ≡ s → IsAt b p.at s → IsSpan b t p u
+in_input : (b t s u : List ℕ) (p : Start) → p.is_input ≡ true → u ≡ s → IsAt b p.at s → IsStart b t p u
 in_input b t s u p is e h = subst (λ x. IsAt (if x then b else t) p.at u) (sym is) (subst (IsAt b p.at) (sym e) h)
 
 at_front : (t s : List ℕ) → s ≡ t → IsAt t 0 s

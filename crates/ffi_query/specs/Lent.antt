@@ -1,9 +1,10 @@
 -- What is found of a message as parts of the input b.
-use Rattle.std.specs.Prelude.{◌≡◌, ◌⊎◌, ◌++◌, ℕ, ℤ, List, [], Option, Some, None, IfSome, codes, ⊤}
+use Rattle.std.specs.Prelude.{◌≡◌, ◌⊎◌, ◌++◌, ℕ, ℤ, List, [], Option, Some, None, Bool, IfSome, codes, ⊤, if◌then◌else◌}
 use Rattle.std.specs.Option.{option_copied}
 use Rattle.coset.specs.Answers.{IsOnlyItem}
 use Rattle.coset.specs.Grammar.{IsItem}
 use Rattle.coset.specs.Item.{Item, Items, item, null}
+use Rattle.coset.specs.Names.{Name}
 use Rattle.coset.specs.Parts.{as_array, as_bytes}
 use Rattle.ffi_query.specs.declared.kind.Kind as kinds
 use Rattle.ffi_query.specs.declared.kind.Kind.TheVariants.{Sign1, Mac0, Mac, Encrypt0, Encrypt}
@@ -13,11 +14,13 @@ use Rattle.ffi_query.specs.declared.lent.Texts.{Texts}
 use Rattle.ffi_query.specs.declared.lent.Three.{Three}
 use Rattle.ffi_query.specs.declared.located.Located.{Located}
 use Rattle.ffi_query.specs.declared.located.Text.{Text}
+use Rattle.ffi_query.specs.declared.named.Named.{Named}
 use Rattle.ffi_query.specs.declared.view.Algorithm as algorithms
 use Rattle.ffi_query.specs.declared.view.Algorithm.TheVariants as named
 use Rattle.ffi_query.specs.declared.view.KeyIdPlace as places
 use Rattle.ffi_query.specs.declared.view.KeyIdPlace.TheVariants as found
 use Rattle.ffi_query.specs.declared.view.MessageView.{MessageView}
+use Rattle.ffi_query.specs.Answers.{Finds}
 use Rattle.ffi_query.specs.Critical.{crit_label}
 use Rattle.ffi_query.specs.Kinds.{IsItemOf, tag_of}
 use Rattle.ffi_query.specs.Labels.{IsNumber, IsProtected, unprotected_value}
@@ -53,6 +56,17 @@ pub record AreHeaders (b : List ℕ) (v : Item) (h : Headers) : Type 0 where
   pub map_in : IfSome h.map (IsLocated b)
   pub unprotected : element 1 v ≡ Some (located_item h.unprotected)
   pub unprotected_in : IsLocated b h.unprotected
+
+-- the value, where the test is passed
+abbrev pub value_if : Bool → Item → Option Item
+value_if t v = if t then Some v else None
+
+-- what a header has under alg, crit and kid, where P says what it has under a label
+pub record AreNamed (b : List ℕ) (P : Name → Item → Type 0) (n : Named) : Type 0 where
+  pub algorithm : Finds located_item (P alg_label) n.algorithm
+  pub critical : Finds located_item (P crit_label) n.critical
+  pub key_id : Finds located_item (P kid_label) n.key_id
+  pub key_id_in : IfSome n.key_id (IsLocated b)
 
 -- nothing, at some place
 abbrev pub IsEmptyIn : List ℕ → Text → Type 0
@@ -96,7 +110,8 @@ IsSigned place d (Some c) = content_at place d ≡ Some c
 -- the texts are those of the item v
 pub record AreTexts (k : kinds.Kind) (d : Option (List ℕ)) (b : List ℕ) (v : Item) (x : Texts) : Type 0 where
   pub place : Item
-  pub headers : AreHeaders b v x.headers
+  pub is_protected : bytes_in 0 v ≡ Some x.protected.bytes.now
+  pub is_algorithm : KnowsAlgorithm v x.algorithm
   pub is_place : element 2 v ≡ Some place
   pub is_uncritical : HasNoCritical v
   pub is_proof : proof_in k v ≡ Some x.proof.bytes.now

@@ -15,3 +15,4 @@ pub mod Located
 pub mod Fits
 pub mod Lent
 pub mod Spans
+pub mod Elements

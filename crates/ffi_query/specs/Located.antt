@@ -1,13 +1,14 @@
 -- Parts of the input, each with the bytes from its first one to the input's end.
-use Rattle.std.specs.Prelude.{◌≡◌, ◌==◌, ◌%◌, ℕ, List, [], ◌∷◌, ◌++◌, Some, Bool, false, if◌then◌else◌}
+use Rattle.std.specs.Prelude.{◌≡◌, ◌⊎◌, ◌==◌, ◌%◌, ℕ, List, [], ◌∷◌, ◌++◌, Some, None, Bool, false, true, if◌then◌else◌}
 use Rattle.std.specs.Borrow.{Bor}
 use Rattle.coset.specs.Elements.{items_bytes, items_left}
 use Rattle.coset.specs.Item.{Item, Items}
-use Rattle.coset.specs.Parts.{as_bytes}
+use Rattle.coset_cbor.specs.StringChunks.{as_string}
 use Rattle.coset.specs.Pulls.{pull_bytes, pull_item}
 use Rattle.ffi_query.specs.declared.located.Elements.{Elements}
 use Rattle.ffi_query.specs.declared.located.Located.{Located}
 use Rattle.ffi_query.specs.declared.located.Text.{Text}
+use Rattle.ffi_query.specs.Places.{string_in}
 
 abbrev pub located_item : Located → Item
 located_item l = pull_item l.item
@@ -41,16 +42,24 @@ abbrev pub head_len : List ℕ → ℕ
 head_len [] = 0
 head_len (x ∷ xs) = head_len_by (x % 32)
 
--- the bytes open a byte string of indefinite length (RFC 8949, section 3.2.3)
-abbrev pub opens_string : List ℕ → Bool
-opens_string [] = false
-opens_string (x ∷ xs) = x == 0x5F
+-- the bytes open a string of indefinite length, a text or a byte string (RFC 8949, section 3.2.3)
+abbrev pub opens_chunks : Bool → List ℕ → Bool
+opens_chunks is_text [] = false
+opens_chunks is_text (x ∷ xs) = x == (if is_text then 0x7F else 0x5F)
 
--- the byte string v, of which b are the bytes, holds s, and these end with it
-pub record IsString (b : List ℕ) (v : Item) (s : List ℕ) : Type 0 where
+-- the string v of that type, of which b are the bytes, holds s, and these end with it
+pub record IsString (is_text : Bool) (b : List ℕ) (v : Item) (s : List ℕ) : Type 0 where
   pub head : List ℕ
   pub ends : b ≡ head ++ s
-  pub holds : as_bytes v ≡ Some s
+  pub holds : as_string is_text v ≡ Some s
 
-abbrev pub IsContentOf : List ℕ → Item → Bor (List ℕ) → Type 0
-IsContentOf b v s = IsString b v s.now
+abbrev pub IsContentOf : Bool → List ℕ → Item → Bor (List ℕ) → Type 0
+IsContentOf is_text b v s = IsString is_text b v s.now
+
+-- v isn't a string of that type, or its bytes b are in chunks
+abbrev pub IsNoString : Bool → List ℕ → Item → Type 0
+IsNoString is_text b v = (as_string is_text v ≡ None) ⊎ (opens_chunks is_text b ≡ true)
+
+-- the same of strings of both types
+abbrev pub IsNoContent : List ℕ → Item → Type 0
+IsNoContent b v = (string_in v ≡ None) ⊎ (opens_chunks false b ≡ true) ⊎ (opens_chunks true b ≡ true)

@@ -1,26 +1,26 @@
 -- The pairs of a map by their index.
-use Rattle.std.specs.Prelude.{ℕ, zero, suc, List, Option, Some, None, option_and_then}
+use Rattle.std.specs.Prelude.{ℕ, zero, suc, List, Option, Some, None, option_and_then, option_map}
 use Rattle.coset.specs.Item.{Item, Pairs, no_pairs, pair}
 use Rattle.coset.specs.Parts.{as_map}
 use Rattle.ffi_query.specs.declared.pair.Half as halves
 use Rattle.ffi_query.specs.declared.pair.Half.TheVariants as of
 use Rattle.ffi_query.specs.Answers.{IsEncodingOf}
 
--- that half of a pair
-abbrev pub half_of : halves.Half → Item → Item → Item
-half_of of.Key k v = k
-half_of of.Value k v = v
-
--- that of the pair of that index
-abbrev pub nth_half : halves.Half → ℕ → Pairs → Option Item
-nth_half h n no_pairs = None
-nth_half h zero (pair k v ps) = Some (half_of h k v)
-nth_half h (suc n) (pair k v ps) = nth_half h n ps
+-- the pair of that index: its key, and its value
+abbrev pub nth_pair : ℕ → Pairs → Option (Item × Item)
+nth_pair n no_pairs = None
+nth_pair zero (pair k v ps) = Some (k, v)
+nth_pair (suc n) (pair k v ps) = nth_pair n ps
 
 -- of the map that the item is
-abbrev pub half_in : halves.Half → ℕ → Item → Option Item
-half_in h n v = option_and_then (nth_half h n) (as_map v)
+abbrev pub pair_in : ℕ → Item → Option (Item × Item)
+pair_in n v = option_and_then (nth_pair n) (as_map v)
 
--- t is its shortest encoding
+-- that half of a pair
+abbrev pub half_of : halves.Half → Item × Item → Item
+half_of of.Key p = p.0
+half_of of.Value p = p.1
+
+-- t is the shortest encoding of that half of the pair of that index
 abbrev pub IsHalf : halves.Half → ℕ → Item → List ℕ → Type 0
-IsHalf h n v t = IsEncodingOf (half_in h n v) t
+IsHalf h n v t = IsEncodingOf (option_map (half_of h) (pair_in n v)) t

@@ -5,7 +5,7 @@ use Rattle.ffi_query.specs.declared.kind.Kind as kinds
 use Rattle.ffi_query.specs.declared.lent.Lent as declared
 use Rattle.ffi_query.specs.declared.refusal.Refusal as refusals
 use Rattle.ffi_query.specs.declared.spans.MessageSpans.{MessageSpans}
-use Rattle.ffi_query.specs.declared.spans.Span.{Span}
+use Rattle.ffi_query.specs.declared.spans.Start.{Start}
 use Rattle.ffi_query.specs.declared.view.MessageView.{MessageView}
 use Rattle.ffi_query.specs.Kinds.{tag_of}
 use Rattle.ffi_query.specs.Located.{IsTextIn}
@@ -19,8 +19,8 @@ pub record IsAt (b : List ℕ) (at : ℕ) (s : List ℕ) : Type 0 where
   pub offset : at ≡ length before
 
 -- the text s is at that place: in the input b, or else in what is written, t
-abbrev pub IsSpan : List ℕ → List ℕ → Span → List ℕ → Type 0
-IsSpan b t p s = IsAt (if p.is_input then b else t) p.at s
+abbrev pub IsStart : List ℕ → List ℕ → Start → List ℕ → Type 0
+IsStart b t p s = IsAt (if p.is_input then b else t) p.at s
 
 -- What `message_spans` says of the bytes b, which are the message v of that kind: what `message_view` says, but that t begins
 -- with what is signed, authenticated, or goes with the ciphertext, and the other texts are where the spans say
@@ -30,9 +30,9 @@ pub record IsMessageSpans (k : kinds.Kind) (i : ℕ) (aad : List ℕ) (d : Optio
   pub view : IsViewOf k i aad d ns v m.view text
   pub is_tagged : TellsTagOf (tag_of k) b m.view.is_tagged
   pub structure : IsAt t 0 view.signed
-  pub proof : IsSpan b t m.proof view.proof
-  pub content : IsSpan b t m.content view.content
-  pub key_id : IsSpan b t m.key_id view.key_id
+  pub proof : IsStart b t m.proof view.proof
+  pub content : IsStart b t m.content view.content
+  pub key_id : IsStart b t m.key_id view.key_id
   pub len : m.len ≡ length t
 
 -- the spans of texts that are in the input
@@ -44,7 +44,7 @@ pub record AreLentSpans (b : List ℕ) (x : declared.Lent) (m : MessageSpans) : 
   pub len : m.len ≡ x.view.structure_len
 
 -- a place in what is written
-abbrev pub written_at : ℕ → Span
+abbrev pub written_at : ℕ → Start
 written_at n = record { is_input = false; at = n }
 
 -- the spans of texts that are written one behind the other

@@ -2,42 +2,22 @@
 
 ghost use Rattle.std.specs.Prelude.{◌≡◌, option_map, IfOk, IfErr, MatchResult};
 ghost use Rattle.coset.specs.CoseError.TheVariants.{OutOfMemory};
-ghost use Rattle.coset.specs.Elements.{items_left};
-ghost use Rattle.coset.specs.PerhapsTagged.{untagged};
 ghost use Rattle.coset.specs.Pulls.{pull_bytes, pull_item};
 ghost use Rattle.coset.specs.Shortest.{IsShortest};
 ghost use Rattle.coset.specs.View.{value_item};
-ghost use Rattle.ffi_query.specs.Kinds.{IsItemOf, IsRefused, IsWholeOf, is_under, without_tag};
-ghost use Rattle.ffi_query.specs.Places.{array_in, bytes_in, element, member_at, members, nth};
+ghost use Rattle.ffi_query.specs.Kinds.{IsItemOf, IsRefused, IsWholeOf, is_under};
+ghost use Rattle.ffi_query.specs.Located.{IsLocated, located_item};
+ghost use Rattle.ffi_query.specs.Places.{bytes_in, element, member_at};
 
 use crate::fits::fits;
 use crate::kind::{Kind, check};
+use crate::located::{Located, alone, element_located, member_located, without_tag_located};
 use coset::Result;
-use coset::cbor::de::{Items, Pull};
+use coset::cbor::de::Pull;
 use coset::cbor::ser::write_value;
 use coset::cbor::value::Value;
 use coset_codec::traits::whole_item;
 use std::alloc::Global;
-
-/// What a tag of that number encloses, and any other item as it is.
-fn untagged(number: u64, item: Pull<'_>) -> Pull<'_>
-    ensures { pull_item result ≡ untagged number (pull_item item.entry) }
-{
-    match item.tag() {
-        Some((found, inner)) if found == number => inner,
-        _ => item,
-    }
-}
-
-/// The item without the tag of that number, where there is a number.
-pub(crate) fn without_tag(number: Option<u64>, item: Pull<'_>) -> Pull<'_>
-    ensures { pull_item result ≡ without_tag number (pull_item item.entry) }
-{
-    match number {
-        Some(number) => untagged(number, item),
-        None => item,
-    }
-}
 
 /// Whether the item is a tag of that number.
 pub(crate) fn is_under(number: u64, item: Pull<'_>) -> bool
@@ -68,6 +48,20 @@ pub(crate) fn whole_of(alloc: Global, kind: Kind, bytes: &[u8]) -> Result<Pull<'
     Ok(whole_item(bytes)?)
 }
 
+/// The item of that kind that the bytes are, without the tag that a message may be under, and where it is in them.
+///
+/// # Errors
+/// The same as [`check`].
+pub(crate) fn item_located(alloc: Global, kind: Kind, bytes: &[u8]) -> Result<Located<'_>>
+    ensures { MatchResult result
+        (λ l. IsItemOf kind bytes.now (located_item l) × IsLocated bytes.now l)
+        (λ e. IsRefused kind bytes.now e) }
+{
+    let item = whole_of(alloc, kind, bytes)?;
+    let whole = Located { item, rest: bytes };
+    Ok(without_tag_located(kind.tag(), whole))
+}
+
 /// The item of that kind that the bytes are, without the tag that a message may be under.
 ///
 /// # Errors
@@ -76,30 +70,18 @@ pub(crate) fn item_of(alloc: Global, kind: Kind, bytes: &[u8]) -> Result<Pull<'_
     ensures { MatchResult result (λ item. IsItemOf kind bytes.now (pull_item item)) (λ e.
         IsRefused kind bytes.now e) }
 {
-    let whole = whole_of(alloc, kind, bytes)?;
-    Ok(without_tag(kind.tag(), whole))
-}
-
-/// The element of that index.
-fn nth(members: Items<'_>, index: usize) -> Option<Pull<'_>>
-    ensures { option_map pull_item result ≡ nth index (items_left members.entry) }
-{
-    let mut left = index;
-    for member in members {
-        if left == 0 {
-            return Some(member);
-        }
-        left -= 1;
+    match item_located(alloc, kind, bytes) {
+        Ok(found) => Ok(found.item),
+        Err(error) => Err(error),
     }
-    None
 }
 
 /// The element of that index of an array.
 pub(crate) fn element(item: Pull<'_>, index: usize) -> Option<Pull<'_>>
     ensures { option_map pull_item result ≡ element index (pull_item item.entry) }
 {
-    match item.items() {
-        Some(members) => nth(members, index),
+    match element_located(alone(item), index) {
+        Some(found) => Some(found.item),
         None => None,
     }
 }
@@ -119,36 +101,12 @@ pub(crate) fn bytes_in(alloc: Global, item: Pull<'_>, index: usize) -> Result<Op
     }
 }
 
-/// The signatures, recipients or keys of an item of that kind, or the elements of any array.
-pub(crate) fn members(kind: Kind, item: Pull<'_>) -> Option<Items<'_>>
-    ensures { option_map items_left result ≡ members kind (pull_item item.entry) }
-{
-    match kind {
-        Kind::Sign(_) => array_in(item, 3),
-        Kind::Encrypt(_) => array_in(item, 3),
-        Kind::Recipient => array_in(item, 3),
-        Kind::Mac(_) => array_in(item, 4),
-        Kind::KeySet | Kind::Any => item.items(),
-        _ => None,
-    }
-}
-
-/// The elements of the element of that index, where that is an array.
-fn array_in(item: Pull<'_>, index: usize) -> Option<Items<'_>>
-    ensures { option_map items_left result ≡ array_in index (pull_item item.entry) }
-{
-    match element(item, index) {
-        Some(found) => found.items(),
-        None => None,
-    }
-}
-
-/// The signature, recipient or key of that index in an item of that kind.
+/// The signature, recipient or key of that index in an item of that kind, or the element of any array.
 pub(crate) fn member_at(kind: Kind, item: Pull<'_>, index: usize) -> Option<Pull<'_>>
     ensures { option_map pull_item result ≡ member_at kind index (pull_item item.entry) }
 {
-    match members(kind, item) {
-        Some(members) => nth(members, index),
+    match member_located(kind, alone(item), index) {
+        Some(found) => Some(found.item),
         None => None,
     }
 }

@@ -1,27 +1,25 @@
 //! All that verifying or decrypting a message takes, as parts of the input: of messages without a list of signatures, whose
 //! strings have their lengths announced, and which name no critical labels. Others are read by copies (`view`).
 
-ghost use Rattle.std.specs.Prelude.{◌≡◌, ◌<◌, ◌+◌, ◌^◌, ◌++◌, ◌∷◌, [], ℕ, ℤ, List, Some, IfOk, IfErr, IfSome, OnOk, false, length, option_map};
+ghost use Rattle.std.specs.Prelude.{◌≡◌, ◌<◌, ◌+◌, ◌^◌, ◌++◌, ◌∷◌, [], ℕ, ℤ, List, Some, IfOk, IfErr, IfSome, OnOk, false, length};
 ghost use Rattle.std.specs.Option.{option_copied};
 ghost use Rattle.coset.specs.CoseError.TheVariants.{OutOfMemory};
 ghost use Rattle.coset.specs.Item.{Item};
-ghost use Rattle.coset.specs.Names.{number};
 ghost use Rattle.coset.specs.Pulls.{pull_item};
 ghost use Rattle.coset.specs.Shortest.{IsShortest};
 ghost use Rattle.coset.specs.Structure.{structure};
 ghost use Rattle.coset_cbor.specs.Least.{least_head};
 ghost use Rattle.ffi_query.specs.Answers.{Finds, IsEncodingOf};
 ghost use Rattle.ffi_query.specs.Labels.{IsNumber, IsProtected, unprotected_value};
-ghost use Rattle.ffi_query.specs.Lent.{AreHeaders, AreTexts, AreThree, HasNoCritical, IsBehindThree, IsCarried, IsEmptyIn, IsLent, IsMapOf, KnowsAlgorithm, KnowsKeyId, structure_by};
+ghost use Rattle.ffi_query.specs.Lent.{AreHeaders, AreNamed, AreTexts, AreThree, HasNoCritical, IsBehindThree, IsCarried, IsEmptyIn, IsLent, IsMapOf, KnowsAlgorithm, KnowsKeyId, structure_by};
 ghost use Rattle.ffi_query.specs.Located.{AreElementsIn, IsLocated, IsTextIn, elements_left, located_item};
 ghost use Rattle.ffi_query.specs.Places.{bytes_in, element};
 ghost use Rattle.ffi_query.specs.Structures.{content_at, structure_of_one, structure_of_two};
 ghost use Rattle.ffi_query.specs.View.{IsAlgorithm, proof_in};
 
 use crate::kind::Kind;
-use crate::located::{
-    Elements, Located, Text, bytes_located, elements_located, next_located, value_located,
-};
+use crate::located::{Elements, Located, Text, bytes_located, elements_located, next_located};
+use crate::named::{Named, named_in, nothing_named};
 use crate::part::Part;
 use crate::view::{Algorithm, KeyIdPlace, MessageView};
 use coset::Result;
@@ -73,7 +71,7 @@ pub(crate) struct Lent<'a> {
 }
 
 /// The map that a protected header's bytes are; `None` where they are none.
-fn map_located(protected: Text<'_>) -> Option<Located<'_>>
+pub(crate) fn map_located(protected: Text<'_>) -> Option<Located<'_>>
     ensures map { IsMapOf protected.entry.bytes.now result }
     ensures place { (b : List ℕ) → IsTextIn b protected.entry → IfSome result (IsLocated b) }
 {
@@ -117,29 +115,27 @@ fn headers_of<'a>(first: Located<'a>, second: Located<'a>) -> Option<Headers<'a>
     })
 }
 
-/// The value under an integer label in the protected header.
-fn protected_located(headers: Headers<'_>, label: i64) -> Option<Located<'_>>
+/// What the protected header has under the labels.
+fn protected_named(headers: Headers<'_>) -> Named<'_>
     ensures { (b : List ℕ) (v : Item) → AreHeaders b v headers.entry
-        → Finds located_item (IsProtected (number label) (bytes_in 0 v)) result
-        × IfSome result (IsLocated b) }
+        → AreNamed b (λ l. IsProtected l (bytes_in 0 v)) result }
 {
     match headers.map {
-        Some(map) => value_located(map, label),
-        None => None,
+        Some(map) => named_in(map),
+        None => nothing_named(),
     }
 }
 
-/// The value under an integer label in the unprotected header.
-fn unprotected_located(headers: Headers<'_>, label: i64) -> Option<Located<'_>>
+/// What the unprotected header has under the labels.
+fn unprotected_named(headers: Headers<'_>) -> Named<'_>
     ensures { (b : List ℕ) (v : Item) → AreHeaders b v headers.entry
-        → (option_map located_item result ≡ unprotected_value (number label) v)
-        × IfSome result (IsLocated b) }
+        → AreNamed b (λ l w. unprotected_value l v ≡ Some w) result }
 {
-    value_located(headers.unprotected, label)
+    named_in(headers.unprotected)
 }
 
 /// The number of an integer, where it has 64 bits.
-fn number_of(item: Pull<'_>) -> Option<i64>
+pub(crate) fn number_of(item: Pull<'_>) -> Option<i64>
     ensures { Finds (λ n. n) (IsNumber (pull_item item.entry)) result }
 {
     match item.integer() {
@@ -158,24 +154,31 @@ fn algorithm_by(value: Pull<'_>) -> Algorithm
     }
 }
 
-/// The algorithm that the protected header names.
-fn algorithm_in(headers: Headers<'_>) -> Algorithm
-    ensures { (b : List ℕ) (v : Item) → AreHeaders b v headers.entry
+/// The algorithm that the protected header names, by what it has under the labels.
+fn algorithm_in(protected: &Named<'_>) -> Algorithm
+    ensures { (b : List ℕ) (v : Item)
+        → AreNamed b (λ l. IsProtected l (bytes_in 0 v)) protected.now
         → KnowsAlgorithm v result }
 {
-    match protected_located(headers, 1) {
+    match protected.algorithm {
         Some(found) => algorithm_by(found.item),
         None => Algorithm::Absent,
     }
 }
 
 /// The identifier of the key, where it is a byte string whose length is announced, or there is none.
-fn key_id_in<'a>(headers: Headers<'a>, nothing: Text<'a>) -> Option<KeyId<'a>>
-    ensures { (b : List ℕ) (v : Item) → AreHeaders b v headers.entry
+fn key_id_in<'a>(
+    protected: &Named<'a>,
+    unprotected: &Named<'a>,
+    nothing: Text<'a>,
+) -> Option<KeyId<'a>>
+    ensures { (b : List ℕ) (v : Item)
+        → AreNamed b (λ l. IsProtected l (bytes_in 0 v)) protected.now
+        → AreNamed b (λ l w. unprotected_value l v ≡ Some w) unprotected.now
         → IsEmptyIn b nothing.entry
         → IfSome result (λ i. KnowsKeyId v i.place i.text.bytes.now × IsTextIn b i.text) }
 {
-    match protected_located(headers, 4) {
+    match protected.key_id {
         Some(found) => {
             let text = bytes_located(found)?;
             Some(KeyId {
@@ -183,7 +186,7 @@ fn key_id_in<'a>(headers: Headers<'a>, nothing: Text<'a>) -> Option<KeyId<'a>>
                 text,
             })
         }
-        None => match unprotected_located(headers, 4) {
+        None => match unprotected.key_id {
             Some(found) => {
                 let text = bytes_located(found)?;
                 Some(KeyId {
@@ -200,14 +203,16 @@ fn key_id_in<'a>(headers: Headers<'a>, nothing: Text<'a>) -> Option<KeyId<'a>>
 }
 
 /// Whether a header has `crit`, labels that must be understood.
-fn is_critical(headers: Headers<'_>) -> bool
-    ensures { (b : List ℕ) (v : Item) → AreHeaders b v headers.entry → result ≡ false
-        → HasNoCritical v }
+fn is_critical(protected: &Named<'_>, unprotected: &Named<'_>) -> bool
+    ensures { (b : List ℕ) (v : Item)
+        → AreNamed b (λ l. IsProtected l (bytes_in 0 v)) protected.now
+        → AreNamed b (λ l w. unprotected_value l v ≡ Some w) unprotected.now
+        → result ≡ false → HasNoCritical v }
 {
-    if protected_located(headers, 2).is_some() {
-        return true;
+    match (protected.critical, unprotected.critical) {
+        (None, None) => false,
+        _ => true,
     }
-    unprotected_located(headers, 2).is_some()
 }
 
 /// Nothing, where the rest of the input begins.
@@ -400,10 +405,11 @@ fn sum_of(a: usize, b: usize, c: usize, d: usize) -> Option<usize>
     a.checked_add(b)?.checked_add(c)?.checked_add(d)
 }
 
-/// The texts of a message beside the structure.
+/// The algorithm and the texts of a message, beside the structure.
 #[derive(Clone, Copy)]
 struct Texts<'a> {
-    headers: Headers<'a>,
+    protected: Text<'a>,
+    algorithm: Algorithm,
     proof: Text<'a>,
     content: Text<'a>,
     key_id: KeyId<'a>,
@@ -418,16 +424,19 @@ fn texts_of<'a>(kind: Kind, item: Located<'a>, detached: Option<&'a [u8]>) -> Op
     let nothing = nothing_at(item.rest);
     let three = three_of(item)?;
     let headers = headers_of(three.protected, three.unprotected)?;
-    if is_critical(headers) {
+    let protected = protected_named(headers);
+    let unprotected = unprotected_named(headers);
+    if is_critical(&protected, &unprotected) {
         return None;
     }
     let place = three.content;
     let content = carried(place, nothing)?;
     Some(Texts {
-        headers,
+        protected: headers.protected,
+        algorithm: algorithm_in(&protected),
         proof: proof_located(kind, three.behind, nothing)?,
         content,
-        key_id: key_id_in(headers, nothing)?,
+        key_id: key_id_in(&protected, &unprotected, nothing)?,
         signed: signed_content(place.item, content.bytes, detached),
     })
 }
@@ -454,7 +463,7 @@ pub(crate) fn find_lent<'a>(
     let Some(texts) = texts_of(kind, item, detached) else {
         return Ok(None);
     };
-    let protected = texts.headers.protected.bytes;
+    let protected = texts.protected.bytes;
     let found = structure_lent(alloc, kind, protected, external_aad, texts.signed)?;
     let Some(structure) = found else {
         return Ok(None);
@@ -468,7 +477,7 @@ pub(crate) fn find_lent<'a>(
         return Ok(None);
     };
     let view = MessageView {
-        algorithm: algorithm_in(texts.headers),
+        algorithm: texts.algorithm,
         key_id_place: texts.key_id.place,
         has_critical: false,
         is_understood: true,

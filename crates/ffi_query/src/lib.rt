@@ -12,6 +12,7 @@
 
 mod countersign;
 mod critical;
+mod elements;
 mod fault;
 mod fits;
 mod item;
@@ -21,6 +22,7 @@ mod label;
 mod lent;
 mod located;
 mod message;
+mod named;
 mod pair;
 mod part;
 mod refusal;
@@ -30,6 +32,7 @@ mod view;
 mod written;
 
 pub use countersign::{Countersignature, countersign_structure_of};
+pub use elements::{Span, integer_at, member_span, pair_spans, string_span, value_span};
 pub use fault::fault_offset;
 pub use keys::key_of;
 pub use kind::{Form, Kind, check};
@@ -38,7 +41,7 @@ pub use message::message_view;
 pub use pair::{Half, pair_of};
 pub use part::{Part, count_of, member_of, part_of};
 pub use refusal::{Refusal, Status};
-pub use spans::{MessageSpans, Span, message_spans};
+pub use spans::{MessageSpans, Start, message_spans};
 pub use structure::{recipient_structure_of, structure_of};
 pub use view::{Algorithm, KeyIdPlace, MessageView};
 pub use written::write_found;

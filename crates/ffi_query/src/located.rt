@@ -1,23 +1,37 @@
 //! Parts of the input, lent, each with the bytes from its first one to the end of the input: so it is known where it is.
 
-ghost use Rattle.std.specs.Prelude.{◌≡◌, List, ℕ, IfSome, MatchOption, drop, option_map, Some};
+ghost use Rattle.std.specs.Ordering.{int_eq};
+ghost use Rattle.std.specs.Prelude.{◌≡◌, ⊤, List, ℕ, Bool, IfSome, MatchOption, drop, false, option_map, true, Some};
 ghost use Rattle.coset.specs.Elements.{items_bytes, items_left, pairs_bytes, pairs_left};
 ghost use Rattle.coset.specs.Item.{item, no_items};
 ghost use Rattle.coset.specs.Names.{number};
 ghost use Rattle.coset.specs.Parts.{as_array, as_bytes};
 ghost use Rattle.coset.specs.Pulls.{pull_bytes, pull_item};
 ghost use Rattle.ffi_query.specs.Kinds.{without_tag};
-ghost use Rattle.ffi_query.specs.Labels.{first_value, is_label, value_under};
-ghost use Rattle.ffi_query.specs.Located.{AreElementsIn, AreLocated, IsContentOf, IsLocated, IsTextIn, elements_left, head_len, located_item, opens_string};
+ghost use Rattle.ffi_query.specs.Labels.{first_value, is_label, is_same, value_under};
+ghost use Rattle.ffi_query.specs.Located.{AreElementsIn, AreLocated, IsContentOf, IsLocated, IsNoContent, IsNoString, IsTextIn, elements_left, head_len, located_item, opens_chunks};
+ghost use Rattle.ffi_query.specs.Pairs.{nth_pair, pair_in};
+ghost use Rattle.ffi_query.specs.Places.{array_in, element, member_at, members, nth, string_in};
 
+use crate::kind::Kind;
 use coset::cbor::de::{Items, Pairs, Pull};
-use coset_cbor::laws::lent_chunks;
+use coset::cbor::value::Integer;
 
 /// A lent item, and the bytes from its first one to the end of the input.
 #[derive(Clone, Copy)]
 pub(crate) struct Located<'a> {
     pub(crate) item: Pull<'a>,
     pub(crate) rest: &'a [u8],
+}
+
+/// The item, where its own bytes are the input.
+pub(crate) fn alone(item: Pull<'_>) -> Located<'_>
+    ensures { located_item result ≡ pull_item item.entry }
+{
+    Located {
+        item,
+        rest: item.slice(),
+    }
 }
 
 /// What a lent string holds, and the bytes from the first of that to the end of the input.
@@ -28,7 +42,7 @@ pub(crate) struct Text<'a> {
 }
 
 /// The bytes behind so many.
-fn after(bytes: &[u8], count: usize) -> &[u8]
+pub(crate) fn after(bytes: &[u8], count: usize) -> &[u8]
     ensures { result.now ≡ drop count bytes.now }
 {
     if count > bytes.len() {
@@ -39,7 +53,7 @@ fn after(bytes: &[u8], count: usize) -> &[u8]
 }
 
 /// How many bytes the head takes that is at the front (RFC 8949, section 3), and the opening of an indefinite length.
-fn head_len(bytes: &[u8]) -> usize
+pub(crate) fn head_len(bytes: &[u8]) -> usize
     ensures { result ≡ head_len bytes.now }
 {
     match bytes.first() {
@@ -85,7 +99,7 @@ pub(crate) fn without_tag_located(number: Option<u64>, whole: Located<'_>) -> Lo
 /// The elements of an array that are still to come, and the bytes from the first of them to the end of the input.
 #[derive(Clone, Copy)]
 pub(crate) struct Elements<'a> {
-    members: Items<'a>,
+    pub(crate) members: Items<'a>,
     rest: &'a [u8],
 }
 
@@ -122,12 +136,127 @@ pub(crate) fn next_located(elements: Elements<'_>) -> Option<(Located<'_>, Eleme
     }
 }
 
-/// Whether the key is that integer label.
-fn is_number(key: Pull<'_>, label: i64) -> bool
-    ensures { result ≡ is_label (number label) (pull_item key.entry) }
+/// The element of that index of those that are still to come.
+fn nth_located(elements: Elements<'_>, index: usize) -> Option<Located<'_>>
+    ensures element { option_map located_item result ≡ nth index (elements_left elements.entry) }
+    ensures place { (b : List ℕ) → AreElementsIn b elements.entry → IfSome result (IsLocated b) }
 {
-    match key.integer() {
-        Some(found) => i128::from(found) == i128::from(label),
+    let Elements { members, rest } = elements;
+    let mut rest = rest;
+    let mut left = index;
+    for member in members {
+        if left == 0 {
+            return Some(Located { item: member, rest });
+        }
+        left -= 1;
+        rest = after(rest, member.slice().len());
+    }
+    None
+}
+
+/// The element of that index of an array.
+pub(crate) fn element_located(array: Located<'_>, index: usize) -> Option<Located<'_>>
+    ensures element { option_map located_item result
+        ≡ element index (located_item array.entry) }
+    ensures place { (b : List ℕ) → IsLocated b array.entry → IfSome result (IsLocated b) }
+{
+    match elements_located(array) {
+        Some(elements) => nth_located(elements, index),
+        None => None,
+    }
+}
+
+/// The elements of the element of that index, where that is an array.
+fn array_located(array: Located<'_>, index: usize) -> Option<Elements<'_>>
+    ensures elements { option_map elements_left result
+        ≡ array_in index (located_item array.entry) }
+    ensures place { (b : List ℕ) → IsLocated b array.entry → IfSome result (AreElementsIn b) }
+{
+    match element_located(array, index) {
+        Some(found) => elements_located(found),
+        None => None,
+    }
+}
+
+/// The signatures, recipients or keys of an item of that kind, or the elements of any array.
+pub(crate) fn members_located(kind: Kind, item: Located<'_>) -> Option<Elements<'_>>
+    ensures members { option_map elements_left result
+        ≡ members kind (located_item item.entry) }
+    ensures place { (b : List ℕ) → IsLocated b item.entry → IfSome result (AreElementsIn b) }
+{
+    match kind {
+        Kind::Sign(_) => array_located(item, 3),
+        Kind::Encrypt(_) => array_located(item, 3),
+        Kind::Recipient => array_located(item, 3),
+        Kind::Mac(_) => array_located(item, 4),
+        Kind::KeySet | Kind::Any => elements_located(item),
+        _ => None,
+    }
+}
+
+/// The signature, recipient or key of that index in an item of that kind, or the element of any array.
+pub(crate) fn member_located(kind: Kind, item: Located<'_>, index: usize) -> Option<Located<'_>>
+    ensures member { option_map located_item result
+        ≡ member_at kind index (located_item item.entry) }
+    ensures place { (b : List ℕ) → IsLocated b item.entry → IfSome result (IsLocated b) }
+{
+    match members_located(kind, item) {
+        Some(members) => nth_located(members, index),
+        None => None,
+    }
+}
+
+/// The pair of that index, where the pairs are at the front of the rest.
+fn nth_pair_located<'a>(
+    pairs: Pairs<'a>,
+    rest: &'a [u8],
+    index: usize,
+) -> Option<(Located<'a>, Located<'a>)>
+    ensures pair { option_map (λ p. (located_item p.0, located_item p.1)) result
+        ≡ nth_pair index (pairs_left pairs.entry) }
+    ensures place { (b : List ℕ) → AreLocated b (pairs_bytes pairs.entry) rest.now
+        → IfSome result (λ p. IsLocated b p.0 × IsLocated b p.1) }
+{
+    let mut rest = rest;
+    let mut left = index;
+    for (key, value) in pairs {
+        let behind_key = after(rest, key.slice().len());
+        if left == 0 {
+            let key = Located { item: key, rest };
+            let value = Located {
+                item: value,
+                rest: behind_key,
+            };
+            return Some((key, value));
+        }
+        left -= 1;
+        rest = after(behind_key, value.slice().len());
+    }
+    None
+}
+
+/// The pair of that index of a map: its key, and its value.
+pub(crate) fn pair_located(map: Located<'_>, index: usize) -> Option<(Located<'_>, Located<'_>)>
+    ensures pair { option_map (λ p. (located_item p.0, located_item p.1)) result
+        ≡ pair_in index (located_item map.entry) }
+    ensures place { (b : List ℕ) → IsLocated b map.entry
+        → IfSome result (λ p. IsLocated b p.0 × IsLocated b p.1) }
+{
+    match map.item.pairs() {
+        Some(pairs) => {
+            let first = after(map.rest, head_len(map.item.slice()));
+            nth_pair_located(pairs, first, index)
+        }
+        None => None,
+    }
+}
+
+/// Whether a key is that label, by the number that it is.
+pub(crate) fn is_number(key: &Option<Integer>, label: i64) -> bool
+    ensures { result ≡ is_same int_eq key.now label }
+{
+    match key {
+        Some(number) => i128::from(*number) == i128::from(label),
         None => false,
     }
 }
@@ -142,7 +271,7 @@ fn value_among<'a>(pairs: Pairs<'a>, rest: &'a [u8], label: i64) -> Option<Locat
     let mut rest = rest;
     for (key, value) in pairs {
         let behind_key = after(rest, key.slice().len());
-        if is_number(key, label) {
+        if is_number(&key.integer(), label) {
             return Some(Located {
                 item: value,
                 rest: behind_key,
@@ -168,29 +297,55 @@ pub(crate) fn value_located(map: Located<'_>, label: i64) -> Option<Located<'_>>
     }
 }
 
-/// Whether the bytes open a byte string of indefinite length (RFC 8949, section 3.2.3).
-fn opens_string(bytes: &[u8]) -> bool
-    ensures { result ≡ opens_string bytes.now }
+/// Whether the bytes open a string of indefinite length, a text or a byte string (RFC 8949, section 3.2.3).
+pub(crate) fn opens_chunks(is_text: bool, bytes: &[u8]) -> bool
+    ensures { result ≡ opens_chunks is_text bytes.now }
 {
     match bytes.first() {
-        Some(first) => *first == 0x5F,
+        Some(first) => *first == if is_text { 0x7F } else { 0x5F },
         None => false,
     }
 }
 
-/// What a byte string holds that is one chunk, where its length is announced.
-fn only_chunk(item: Pull<'_>) -> Option<&[u8]>
-    ensures { IfSome result (IsContentOf (pull_bytes item.entry) (pull_item item.entry)) }
+/// What a byte string holds whose length is announced: its one chunk.
+fn only_bytes(item: Pull<'_>) -> Option<&[u8]>
+    ensures { MatchOption result (IsNoString false (pull_bytes item.entry) (pull_item item.entry))
+        (IsContentOf false (pull_bytes item.entry) (pull_item item.entry)) }
 {
-    lent_chunks();
-    if opens_string(item.slice()) {
+    if opens_chunks(false, item.slice()) {
         return None;
     }
     let mut chunks = item.bytes_chunks()?;
-    let content = chunks.next()?;
+    chunks.next()
+}
+
+/// What a text string holds whose length is announced, as UTF-8.
+fn only_text(item: Pull<'_>) -> Option<&[u8]>
+    ensures { MatchOption result (IsNoString true (pull_bytes item.entry) (pull_item item.entry))
+        (IsContentOf true (pull_bytes item.entry) (pull_item item.entry)) }
+{
+    if opens_chunks(true, item.slice()) {
+        return None;
+    }
+    let mut chunks = item.text_chunks()?;
     match chunks.next() {
-        Some(_) => None,
-        None => Some(content),
+        Some(text) => Some(text.as_bytes()),
+        None => None,
+    }
+}
+
+/// What a string holds, which its bytes end with.
+fn ending<'a>(string: Located<'a>, content: &'a [u8]) -> Text<'a>
+    ensures bytes { result.bytes.now ≡ content.now }
+    ensures place { (b : List ℕ) (t : Bool) → IsLocated b string.entry
+        → IsContentOf t (pull_bytes string.entry.item) (located_item string.entry)
+        content.entry
+        → IsTextIn b result }
+{
+    let before = string.item.slice().len().saturating_sub(content.len());
+    Text {
+        bytes: content,
+        rest: after(string.rest, before),
     }
 }
 
@@ -198,12 +353,28 @@ fn only_chunk(item: Pull<'_>) -> Option<&[u8]>
 pub(crate) fn bytes_located(string: Located<'_>) -> Option<Text<'_>>
     ensures bytes { IfSome result (λ t.
         as_bytes (located_item string.entry) ≡ Some t.bytes.now) }
+    ensures none { MatchOption result
+        (IsNoString false (pull_bytes string.entry.item) (located_item string.entry)) (λ t. ⊤) }
     ensures place { (b : List ℕ) → IsLocated b string.entry → IfSome result (IsTextIn b) }
 {
-    let bytes = only_chunk(string.item)?;
-    let before = string.item.slice().len().saturating_sub(bytes.len());
-    Some(Text {
-        bytes,
-        rest: after(string.rest, before),
-    })
+    match only_bytes(string.item) {
+        Some(bytes) => Some(ending(string, bytes)),
+        None => None,
+    }
+}
+
+/// What a byte string or a text string holds whose length is announced; `None` of any other item.
+pub(crate) fn string_located(string: Located<'_>) -> Option<Text<'_>>
+    ensures bytes { MatchOption result
+        (IsNoContent (pull_bytes string.entry.item) (located_item string.entry))
+        (λ t. string_in (located_item string.entry) ≡ Some t.bytes.now) }
+    ensures place { (b : List ℕ) → IsLocated b string.entry → IfSome result (IsTextIn b) }
+{
+    match only_bytes(string.item) {
+        Some(bytes) => Some(ending(string, bytes)),
+        None => match only_text(string.item) {
+            Some(text) => Some(ending(string, text)),
+            None => None,
+        },
+    }
 }

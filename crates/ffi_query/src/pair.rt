@@ -1,20 +1,18 @@
 //! The pairs of a map by their index.
 
-ghost use Rattle.std.specs.Prelude.{◌≡◌, IfOk, IfErr, option_map};
+ghost use Rattle.std.specs.Prelude.{◌≡◌, IfOk, IfErr};
 ghost use Rattle.coset.specs.CoseError.TheVariants.{OutOfMemory};
-ghost use Rattle.coset.specs.Elements.{pairs_left};
 ghost use Rattle.coset.specs.Pulls.{pull_item};
-ghost use Rattle.coset.specs.View.{value_item};
 ghost use Rattle.ffi_query.specs.Answers.{Answers, Finds};
-ghost use Rattle.ffi_query.specs.Pairs.{IsHalf, half_in, half_of, nth_half};
+ghost use Rattle.ffi_query.specs.Pairs.{IsHalf, half_of};
 
 use crate::item::{encoding, item_of};
 use crate::kind::Kind;
+use crate::located::{alone, pair_located};
 use crate::refusal::Refusal;
 use crate::written::write_found;
 use coset::Result;
-use coset::cbor::de::{Pairs, Pull};
-use coset::cbor::value::Value;
+use coset::cbor::de::Pull;
 use std::alloc::Global;
 
 /// Which half of a pair.
@@ -28,7 +26,7 @@ pub enum Half {
 
 /// That half of a pair.
 fn half_of<'a>(half: Half, key: Pull<'a>, value: Pull<'a>) -> Pull<'a>
-    ensures { pull_item result ≡ half_of half (pull_item key.entry) (pull_item value.entry) }
+    ensures { pull_item result ≡ half_of half (pull_item key.entry, pull_item value.entry) }
 {
     match half {
         Half::Key => key,
@@ -36,41 +34,7 @@ fn half_of<'a>(half: Half, key: Pull<'a>, value: Pull<'a>) -> Pull<'a>
     }
 }
 
-/// That half of the pair of that index.
-///
-/// # Errors
-/// `OutOfMemory` alone.
-fn nth_half(alloc: Global, half: Half, pairs: Pairs<'_>, index: usize) -> Result<Option<Value>>
-    ensures value { IfOk result (λ o. option_map value_item o
-        ≡ nth_half half index (pairs_left pairs.entry)) }
-    ensures memory { IfErr result (λ e. e ≡ OutOfMemory) }
-{
-    let mut left = index;
-    for (key, value) in pairs {
-        if left == 0 {
-            return Ok(Some(half_of(half, key, value).to_value(alloc)?));
-        }
-        left -= 1;
-    }
-    Ok(None)
-}
-
-/// The same of the map that the item is.
-///
-/// # Errors
-/// `OutOfMemory` alone.
-fn half_in(alloc: Global, half: Half, item: Pull<'_>, index: usize) -> Result<Option<Value>>
-    ensures value { IfOk result (λ o. option_map value_item o
-        ≡ half_in half index (pull_item item.entry)) }
-    ensures memory { IfErr result (λ e. e ≡ OutOfMemory) }
-{
-    match item.pairs() {
-        Some(pairs) => nth_half(alloc, half, pairs, index),
-        None => Ok(None),
-    }
-}
-
-/// The shortest encoding of that.
+/// The shortest encoding of that half of the pair of that index.
 ///
 /// # Errors
 /// `OutOfMemory` alone.
@@ -79,8 +43,11 @@ fn find_half(alloc: Global, half: Half, item: Pull<'_>, index: usize) -> Result<
         (IsHalf half index (pull_item item.entry))) }
     ensures memory { IfErr result (λ e. e ≡ OutOfMemory) }
 {
-    match half_in(alloc, half, item, index)? {
-        Some(value) => Ok(Some(encoding(alloc, &value)?)),
+    match pair_located(alone(item), index) {
+        Some((key, value)) => {
+            let found = half_of(half, key.item, value.item).to_value(alloc)?;
+            Ok(Some(encoding(alloc, &found)?))
+        }
         None => Ok(None),
     }
 }

@@ -8,8 +8,9 @@ ghost use Rattle.coset.specs.Pulls.{pull_item};
 ghost use Rattle.ffi_query.specs.Answers.{Answers, AnswersNumber, Finds};
 ghost use Rattle.ffi_query.specs.Parts.{HasNoCount, IsMember, IsPart, IsPositiveCount, has_headers, place_of};
 
-use crate::item::{bytes_in, encoding, item_of, member_at, members};
+use crate::item::{bytes_in, encoding, item_of, member_at};
 use crate::kind::Kind;
+use crate::located::{alone, members_located};
 use crate::refusal::Refusal;
 use crate::written::write_found;
 use coset::cbor::de::{Items, Pull};
@@ -173,8 +174,8 @@ pub fn count_of(alloc: Global, kind: Kind, bytes: &[u8]) -> Result<usize, Refusa
         Ok(item) => item,
         Err(error) => return Err(Refusal::Cose(error)),
     };
-    match members(kind, item) {
-        Some(members) => match count_members(members) {
+    match members_located(kind, alone(item)) {
+        Some(members) => match count_members(members.members) {
             Ok(count) => {
                 if count == 0 {
                     Err(Refusal::Empty)

@@ -9,6 +9,7 @@ ghost use Rattle.ffi_query.specs.Spans.{AreLentSpans, IsAt, IsMessageSpans, copi
 ghost use Rattle.ffi_query.specs.declared.spans.MessageSpans.{MessageSpans};
 ghost use Rattle.ffi_query.specs.View.{HasNoView};
 
+use crate::elements::text_span;
 use crate::kind::Kind;
 use crate::lent::Lent;
 use crate::located::Text;
@@ -20,7 +21,7 @@ use std::alloc::Global;
 
 /// Where a text begins.
 #[derive(Clone, Copy, Debug, PartialEq, Eq)]
-pub struct Span {
+pub struct Start {
     /// Whether it is in the input; else it is in what was written.
     pub is_input: bool,
     /// How many bytes are before it there.
@@ -33,23 +34,23 @@ pub struct MessageSpans {
     /// What [`message_view`](crate::message_view) says: how long the texts are, and all else. Its `len` is the length of the four.
     pub view: MessageView,
     /// Where the signature or the tag is.
-    pub proof: Span,
+    pub proof: Start,
     /// Where the payload or the ciphertext is that the message carries.
-    pub content: Span,
+    pub content: Start,
     /// Where the identifier of the key is.
-    pub key_id: Span,
+    pub key_id: Start,
     /// How many bytes were written.
     pub len: usize,
 }
 
 /// Where a text of the input begins.
-fn span_of(text: Text<'_>, input: &[u8]) -> Span
+fn start_of(text: Text<'_>, input: &[u8]) -> Start
     ensures input { result.is_input ≡ true }
     ensures at { IsTextIn input.now text.entry → IsAt input.now result.at text.entry.bytes.now }
 {
-    Span {
+    Start {
         is_input: true,
-        at: input.len().saturating_sub(text.rest.len()),
+        at: text_span(text, input).at,
     }
 }
 
@@ -69,9 +70,9 @@ fn lent_spans(lent: &Lent<'_>, input: &[u8]) -> MessageSpans
 {
     MessageSpans {
         view: lent.view,
-        proof: span_of(lent.proof, input),
-        content: span_of(lent.content, input),
-        key_id: span_of(lent.key_id, input),
+        proof: start_of(lent.proof, input),
+        content: start_of(lent.content, input),
+        key_id: start_of(lent.key_id, input),
         len: lent.view.structure_len,
     }
 }
@@ -92,10 +93,10 @@ fn put_lent(lent: &Lent<'_>, input: &[u8], out: &mut [u8]) -> Result<MessageSpan
 }
 
 /// A place in what was written.
-fn written_at(at: usize) -> Span
+fn written_at(at: usize) -> Start
     ensures { result ≡ written_at at }
 {
-    Span {
+    Start {
         is_input: false,
         at,
     }

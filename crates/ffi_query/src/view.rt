@@ -10,9 +10,10 @@ ghost use Rattle.ffi_query.specs.Kinds.{IsWholeOf};
 ghost use Rattle.ffi_query.specs.View.{HasAlgorithm, HasNoView, IsAlgorithm, IsContent, IsKeyId, IsMessageView, IsViewOf, bearer, content_part, is_under_tag, kind_of_bearer, proof_in};
 
 use crate::critical::critical_of;
-use crate::item::{bytes_in, is_under, member_at, without_tag};
+use crate::item::{bytes_in, is_under, member_at};
 use crate::kind::Kind;
 use crate::label::{Label, Map, find_string, find_value, number_in};
+use crate::located::{alone, without_tag_located};
 use crate::part::{Part, find_part};
 use crate::refusal::Refusal;
 use crate::structure::{find_structure, is_given_twice};
@@ -312,7 +313,7 @@ pub(crate) fn view_of(
         AnswersWith kind b (IsMessageView kind index external_aad.now d known.now b)
         (HasNoView kind index external_aad.now d known.now) out.old out.new result }
 {
-    let item = without_tag(kind.tag(), whole);
+    let item = without_tag_located(kind.tag(), alone(whole)).item;
     if is_given_twice(kind, detached, item) {
         return Err(Refusal::Misuse);
     }

@@ -1,11 +1,11 @@
 use mir.Syntax.{w32, w64}
 use mir.Val.{of_z, to_z}
-use Rattle.std.proofs.Common.{◌≡◌, rules, subst}
+use Rattle.std.proofs.Common.{◌≡◌, pos, rules, subst}
 use Rattle.std.proofs.lemmas.Int.{to_z-of_z}
 use Rattle.coset.specs.Names.{number}
 use Rattle.ffi_query.specs.Answers.{AnswersNumber}
 use Rattle.ffi_query.specs.Labels.{HasNoNumber, IsNumberOf}
-use Rattle.ffi_c.specs.Replies.{RepliesInteger, reply_status}
+use Rattle.ffi_c.specs.Replies.{RepliesValue, reply_status}
 use Rattle.ffi_c.proofs.Replying.{replied}
 use Rattle.ffi_c.proofs.coset_label_int.Goals as goal
 
@@ -15,8 +15,8 @@ returns-in-Some c =
     let m = c.in-Some.map in
     let answers = subst (λ n. AnswersNumber k c.args.input.now (IsNumberOf k m (number n)) (HasNoNumber k m (number n)) c.integer_of.result)
     (to_z-of_z w64 c.args.label c.ranges.label) c.integer_of.ensures in
-    let status : to_z w32 (of_z w32 c.reply_integer.result) ≡ reply_status c.integer_of.result = search rules in
+    let status : to_z w32 (of_z w32 c.reply_value.result) ≡ reply_status c.integer_of.result = search rules in
     replied
-    (λ q. RepliesInteger (AnswersNumber q.0 c.args.input.now (IsNumberOf q.0 q.1 (number c.args.label)) (HasNoNumber q.0 q.1 (number c.args.label)))
-    (to_z w32 (of_z w32 c.reply_integer.result)) c.reply_integer.new.place)
-    _ _ (k, m) c.in-Some.ensures (c.integer_of.result, answers, status, c.reply_integer.ensures.number)
+    (λ q. RepliesValue (pos 0) (AnswersNumber q.0 c.args.input.now (IsNumberOf q.0 q.1 (number c.args.label)) (HasNoNumber q.0 q.1 (number c.args.label)))
+    (to_z w32 (of_z w32 c.reply_value.result)) c.reply_value.new.place)
+    _ _ (k, m) c.in-Some.ensures (c.integer_of.result, answers, status, c.reply_value.ensures.value)

@@ -4,5 +4,6 @@ use Rattle.ffi_query.proofs.lent.algorithm_in.Goals as goal
 
 pub returns-in-Some : goal.returns-in-Some
 returns-in-Some c =
-    λ b v h.
-    knows_algorithm v (located_item c.in-Some.found) c.algorithm_by.result (c.in-Some.ensures b v h).0 c.algorithm_by.ensures
+    λ b v n.
+    let named = rw c.in-Some.is at n.algorithm in
+    knows_algorithm v (located_item c.in-Some.found) c.algorithm_by.result named c.algorithm_by.ensures

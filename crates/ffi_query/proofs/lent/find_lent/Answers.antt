@@ -19,7 +19,7 @@ returns-clause-lent c =
     let found = rw c.in-Some-found.is at c.in_ok-found.ensures.found in
     let long = c.in-Some-length_of.ensures ∙ (ap (λ y. length y + length end) c.deref.ensures.value ∙ sym (length-append front end)) in record {
       says =
-          says_of b aad s i d ns v _ x (c.algorithm_in.ensures b v texts.headers) refl refl refl long refl refl refl c.in-Some-sum_of.ensures c.args.kind
+          says_of b aad s i d ns v _ x texts.is_algorithm refl refl refl long refl refl refl c.in-Some-sum_of.ensures c.args.kind
           texts found;
       proof_in_b = texts.proof_in_b;
       content_in_b = texts.content_in_b;

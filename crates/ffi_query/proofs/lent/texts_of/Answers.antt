@@ -19,11 +19,14 @@ returns c =
     (ap (option_and_then (nth 1)) three.array) in
     let content = c.in_ok-content.ensures b three.content_in none in
     let proof = c.in_ok-proof_located.ensures b v (_, _, _, three.array) three.behind_in none in
-    let key_id = c.in_ok-key_id_in.ensures b v headers none in record {
+    let protected = c.protected_named-protected.ensures b v headers in
+    let unprotected = c.unprotected_named-unprotected.ensures b v headers in
+    let key_id = c.in_ok-key_id_in.ensures b v protected unprotected none in record {
       place = place;
-      headers = headers;
+      is_protected = headers.protected;
+      is_algorithm = c.algorithm_in.ensures b v protected;
       is_place = ap (option_and_then (nth 2)) three.array;
-      is_uncritical = c.is_critical.ensures b v headers c.if-is_critical.false;
+      is_uncritical = c.is_critical.ensures b v protected unprotected c.if-is_critical.false;
       is_proof = proof.0;
       proof_in_b = proof.1;
       is_content = content.0;

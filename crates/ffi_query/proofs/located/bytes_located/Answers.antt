@@ -1,14 +1,5 @@
-use Rattle.std.proofs.Common.{◌∙◌, ◌-◌, ap, length, subst, sym}
-use Rattle.coset.specs.Pulls.{pull_bytes}
-use Rattle.ffi_query.specs.Located.{AreLocated}
-use Rattle.ffi_query.proofs.Locating.{located_end}
+use Rattle.std.proofs.Common.{false}
 use Rattle.ffi_query.proofs.located.bytes_located.Goals as goal
 
-pub returns-clause-place : goal.returns-clause-place
-returns-clause-place c =
-    λ b l.
-    let s = c.in_ok-bytes.bytes.now in
-    let x = c.in_ok-bytes.ensures in
-    let size = c.saturating_sub-before.ensures ∙ ap (λ y. length y - length s) c.slice.ensures.bytes in
-    subst (AreLocated b s) (sym c.after.ensures)
-    (located_end b (pull_bytes c.args.string.item) x.head s c.args.string.rest.now c.saturating_sub-before.result x.ends size l)
+pub returns-in-Some-clause-place : goal.returns-in-Some-clause-place
+returns-in-Some-clause-place c = λ b l. c.ending.ensures.place b false l c.in-Some.ensures

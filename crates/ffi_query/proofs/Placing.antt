@@ -1,0 +1,37 @@
+-- Values by their places.
+use Rattle.std.proofs.Common.{◌≡◌, List, ℕ, Option, Some, None, Result, Ok, Err, true, refl, subst, sym}
+use Rattle.std.specs.Prelude.{IfSome, MatchResult}
+use Rattle.coset.specs.Item.{Item}
+use Rattle.coset.specs.Names.{Name}
+use Rattle.ffi_query.specs.declared.kind.Kind as kinds
+use Rattle.ffi_query.specs.declared.label.Map as maps
+use Rattle.ffi_query.specs.declared.label.Map.TheVariants as of
+use Rattle.ffi_query.specs.declared.located.Located.{Located}
+use Rattle.ffi_query.specs.declared.refusal.Refusal as refusals
+use Rattle.ffi_query.specs.declared.refusal.Refusal.TheVariants.{WrongType}
+use Rattle.ffi_query.specs.Answers.{Finds}
+use Rattle.ffi_query.specs.Elements.{HasNoValueAt, IsProtectedInChunks}
+use Rattle.ffi_query.specs.Labels.{IsProtected, IsUnder}
+use Rattle.ffi_query.specs.Located.{IsLocated, located_item}
+use Rattle.ffi_query.specs.Parts.{has_headers}
+use Rattle.ffi_query.specs.Places.{bytes_in}
+
+module _ (b : List ℕ) (k : kinds.Kind) where
+  in_protected :
+      (l : Name) (v : Item) (r : Result (Option Located) refusals.Refusal) → has_headers k ≡ true
+      → MatchResult r (λ o. Finds located_item (IsProtected l (bytes_in 0 v)) o × IfSome o (IsLocated b))
+      (λ e. (e ≡ WrongType) × IsProtectedInChunks b v)
+      → MatchResult r (λ o. Finds located_item (IsUnder k of.Protected l v) o × IfSome o (IsLocated b)) (HasNoValueAt b k of.Protected l v)
+  in_protected l v (Ok (Some x)) has h = ((has, h.0), h.1)
+  in_protected l v (Ok None) has h = (λ w u. h.0 w u.1, h.1)
+  in_protected l v (Err e) has h = subst (HasNoValueAt b k of.Protected l v) (sym h.0) (refl, h.1)
+
+  -- what is under a label in the protected header, where that is the map that is asked for
+  pub under_protected :
+      (m : maps.Map) (l : Name) (v : Item) (r : Result (Option Located) refusals.Refusal) → m ≡ of.Protected → has_headers k ≡ true
+      → MatchResult r (λ o. Finds located_item (IsProtected l (bytes_in 0 v)) o × IfSome o (IsLocated b))
+      (λ e. (e ≡ WrongType) × IsProtectedInChunks b v)
+      → MatchResult r (λ o. Finds located_item (IsUnder k m l v) o × IfSome o (IsLocated b)) (HasNoValueAt b k m l v)
+  under_protected m l v r is has h =
+      subst (λ x. MatchResult r (λ o. Finds located_item (IsUnder k x l v) o × IfSome o (IsLocated b)) (HasNoValueAt b k x l v)) (sym is)
+      (in_protected l v r has h)

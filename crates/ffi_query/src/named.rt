@@ -1,0 +1,105 @@
+//! What a header has under the labels `alg`, `crit` and `kid` (RFC 8152, section 3.1), found in one walk over its pairs.
+
+ghost use Rattle.std.specs.Option.{option_or};
+ghost use Rattle.std.specs.Prelude.{◌≡◌, List, ℕ, IfSome, None, option_map};
+ghost use Rattle.coset.specs.Elements.{pairs_bytes, pairs_left};
+ghost use Rattle.ffi_query.specs.Critical.{crit_label};
+ghost use Rattle.ffi_query.specs.Labels.{first_value, is_label, value_under};
+ghost use Rattle.ffi_query.specs.Lent.{value_if};
+ghost use Rattle.ffi_query.specs.Located.{AreLocated, IsLocated, located_item};
+ghost use Rattle.ffi_query.specs.View.{alg_label, kid_label};
+
+use crate::located::{Located, after, head_len, is_number};
+use coset::cbor::de::Pairs;
+
+/// The values under the three labels, each that of the first pair which has the label.
+#[derive(Clone, Copy)]
+pub(crate) struct Named<'a> {
+    pub(crate) algorithm: Option<Located<'a>>,
+    pub(crate) critical: Option<Located<'a>>,
+    pub(crate) key_id: Option<Located<'a>>,
+}
+
+/// What was found so far; or else the value, where its key is the label.
+fn first_of<'a>(
+    found: Option<Located<'a>>,
+    is_label: bool,
+    value: Located<'a>,
+) -> Option<Located<'a>>
+    ensures item { option_map located_item result
+        ≡ option_or (option_map located_item found.entry)
+        (value_if is_label (located_item value.entry)) }
+    ensures place { (b : List ℕ) → IfSome found.entry (IsLocated b) → IsLocated b value.entry
+        → IfSome result (IsLocated b) }
+{
+    match found {
+        Some(first) => Some(first),
+        None => { if is_label { Some(value) } else { None } }
+    }
+}
+
+/// The values under the labels among these pairs, which are at the front of the rest.
+fn named_among<'a>(pairs: Pairs<'a>, rest: &'a [u8]) -> Named<'a>
+    ensures algorithm { option_map located_item result.algorithm
+        ≡ first_value (is_label alg_label) (pairs_left pairs.entry) }
+    ensures critical { option_map located_item result.critical
+        ≡ first_value (is_label crit_label) (pairs_left pairs.entry) }
+    ensures key_id { option_map located_item result.key_id
+        ≡ first_value (is_label kid_label) (pairs_left pairs.entry) }
+    ensures place { (b : List ℕ) → AreLocated b (pairs_bytes pairs.entry) rest.now
+        → IfSome result.key_id (IsLocated b) }
+{
+    let (mut algorithm, mut critical, mut key_id) = (None, None, None);
+    let mut rest = rest;
+    for (key, value) in pairs {
+        let behind_key = after(rest, key.slice().len());
+        let number = key.integer();
+        let found = Located {
+            item: value,
+            rest: behind_key,
+        };
+        algorithm = first_of(algorithm, is_number(&number, 1), found);
+        critical = first_of(critical, is_number(&number, 2), found);
+        key_id = first_of(key_id, is_number(&number, 4), found);
+        rest = after(behind_key, value.slice().len());
+    }
+    Named {
+        algorithm,
+        critical,
+        key_id,
+    }
+}
+
+/// The values under the labels in a map; nothing of any other item.
+pub(crate) fn named_in(map: Located<'_>) -> Named<'_>
+    ensures algorithm { option_map located_item result.algorithm
+        ≡ value_under alg_label (located_item map.entry) }
+    ensures critical { option_map located_item result.critical
+        ≡ value_under crit_label (located_item map.entry) }
+    ensures key_id { option_map located_item result.key_id
+        ≡ value_under kid_label (located_item map.entry) }
+    ensures place { (b : List ℕ) → IsLocated b map.entry
+        → IfSome result.key_id (IsLocated b) }
+{
+    match map.item.pairs() {
+        Some(pairs) => {
+            let first = after(map.rest, head_len(map.item.slice()));
+            named_among(pairs, first)
+        }
+        None => nothing_named(),
+    }
+}
+
+/// Nothing.
+pub(crate) fn nothing_named<'a>() -> Named<'a>
+    ensures algorithm { option_map located_item result.algorithm ≡ None }
+    ensures critical { option_map located_item result.critical ≡ None }
+    ensures key_id { option_map located_item result.key_id ≡ None }
+    ensures place { (b : List ℕ) → IfSome result.key_id (IsLocated b) }
+{
+    Named {
+        algorithm: None,
+        critical: None,
+        key_id: None,
+    }
+}
