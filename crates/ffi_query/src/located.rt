@@ -139,7 +139,8 @@ pub(crate) fn next_located(elements: Elements<'_>) -> Option<(Located<'_>, Eleme
 /// The element of that index of those that are still to come.
 fn nth_located(elements: Elements<'_>, index: usize) -> Option<Located<'_>>
     ensures element { option_map located_item result ≡ nth index (elements_left elements.entry) }
-    ensures place { (b : List ℕ) → AreElementsIn b elements.entry → IfSome result (IsLocated b) }
+    ensures place { (b : List ℕ) → AreElementsIn b elements.entry
+        → IfSome result (IsLocated b) }
 {
     let Elements { members, rest } = elements;
     let mut rest = rest;

@@ -16,10 +16,14 @@ loop-key-preserved c =
     let x = c.after-behind_key.result.now in
     let passed = c.after-behind_key.ensures ∙ ap (λ y. drop (length y) r) c.slice.ensures.bytes in
     let number = c.integer-number.ensures in
+    let step = c.in-Some.ensures.steps.0 in
+    let is_algorithm = c.is_number.ensures ∙ ap (λ z. is_same int_eq z (pos 1)) number in
+    let is_critical = c.is_number-in-loop-key.ensures ∙ ap (λ z. is_same int_eq z (pos 2)) number in
+    let is_key_id = c.is_number-in-loop-key-2.ensures ∙ ap (λ z. is_same int_eq z (pos 4)) number in
     let again = c.after-rest.ensures ∙ ap (λ y. drop (length y) x) c.slice-in-loop-key.ensures.bytes in record {
-      algorithm = named_step _ _ _ _ _ _ _ _ _ c.in-Some.ensures.steps.0 (c.is_number.ensures ∙ ap (λ z. is_same int_eq z (pos 1)) number) c.first_of-algorithm.ensures.item c.loop-key.invariant.algorithm;
-      critical = named_step _ _ _ _ _ _ _ _ _ c.in-Some.ensures.steps.0 (c.is_number-in-loop-key.ensures ∙ ap (λ z. is_same int_eq z (pos 2)) number) c.first_of-critical.ensures.item c.loop-key.invariant.critical;
-      key_id = named_step _ _ _ _ _ _ _ _ _ c.in-Some.ensures.steps.0 (c.is_number-in-loop-key-2.ensures ∙ ap (λ z. is_same int_eq z (pos 4)) number) c.first_of-key_id.ensures.item c.loop-key.invariant.key_id;
+      algorithm = named_step _ _ _ _ _ _ _ _ _ step is_algorithm c.first_of-algorithm.ensures.item c.loop-key.invariant.algorithm;
+      critical = named_step _ _ _ _ _ _ _ _ _ step is_critical c.first_of-critical.ensures.item c.loop-key.invariant.critical;
+      key_id = named_step _ _ _ _ _ _ _ _ _ step is_key_id c.first_of-key_id.ensures.item c.loop-key.invariant.key_id;
       place =
           λ b l.
           located_next b (v ++ more) v more x c.after-rest.result.now refl again
