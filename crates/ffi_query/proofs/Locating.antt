@@ -1,15 +1,15 @@
 -- Parts of the input.
-use Rattle.std.proofs.Common.{◌≡◌, ◌∙◌, ◌++◌, ◌+◌, ◌-◌, ◌*◌, ◌%◌, ◌<◌, ℕ, zero, suc, List, []}
+use Rattle.std.proofs.Common.{◌≡◌, ◌∙◌, ◌++◌, ◌+◌, ◌-◌, ◌*◌, ◌%◌, ◌<◌, ℕ, List, []}
 use Rattle.std.proofs.Common.{◌∷◌, length, drop, Option, Some, None, Bool, Bor, false, true, true≢false, ap, sym, subst, refl, inl, inr, arith}
 use Rattle.std.specs.Prelude.{MatchOption}
 use Rattle.std.proofs.lemmas.List.{append-nil, append_assoc, drop_at, length-append}
 use Rattle.coset.specs.Grammar.{HeadWidth, within, one, two, four, eight, Holds, IsHeld, head_in, joined_chunks, string_type}
-use Rattle.coset.specs.Item.{Item, Items, item, integer, bytes, float, text, boolean, null, tag, array, dict}
+use Rattle.coset.specs.Item.{Item, integer, bytes, float, text, boolean, null, tag, array, dict}
 use Rattle.coset.specs.Chunks.{YieldsChunk, chunks_left}
 use Rattle.coset.specs.ShapeLaws.{some-none}
 use Rattle.coset_cbor.specs.StringChunks.{HasChunks, as_string}
 use Rattle.coset_cbor.specs.declared.chunks.ByteChunks.{ByteChunks}
-use Rattle.ffi_query.specs.Places.{nth, string_in}
+use Rattle.ffi_query.specs.Places.{string_in}
 use Rattle.ffi_query.specs.Located.{AreLocated, IsContentOf, IsNoContent, IsNoString, IsString, head_len, head_len_by, opens_chunks}
 
 -- all of the input
@@ -40,9 +40,21 @@ located_behind b t u r l =
 pub located_next : (b s t u r x : List ℕ) → s ≡ t ++ u → x ≡ drop (length t) r → AreLocated b s r → AreLocated b u x
 located_next b s t u r x e is l = subst (AreLocated b u) (sym is) (located_behind b t u r (subst (λ y. AreLocated b y r) e l))
 
-pub nth_step : (k : ℕ) (v : Item) (vs : Items) → (k ≡ 0 → ⊥) → nth k (item v vs) ≡ nth (k - 1) vs
-nth_step zero v vs some = absurd (some refl)
-nth_step (suc k) v vs some = let less : k ≡ suc k - 1 = omega arith in ap (λ j. nth j vs) less
+-- a key, its value, and what is behind these
+pub record PairIn (b k v more r x y : List ℕ) : Type 0 where
+  pub key : AreLocated b k r
+  pub value : AreLocated b v x
+  pub behind : AreLocated b more y
+
+pub located_pair :
+    (b s k v more r x y : List ℕ) → s ≡ k ++ (v ++ more) → x ≡ drop (length k) r → y ≡ drop (length v) x → AreLocated b s r
+    → PairIn b k v more r x y
+located_pair b s k v more r x y parts behind_key behind_value l =
+    let rest = located_next b s k (v ++ more) r x parts behind_key l in record {
+      key = located_front b k (v ++ more) r (subst (λ z. AreLocated b z r) parts l);
+      value = located_front b v more x rest;
+      behind = located_next b (v ++ more) v more x y refl behind_value rest;
+    }
 
 -- ---- heads
 

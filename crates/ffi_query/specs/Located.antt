@@ -1,11 +1,12 @@
 -- Parts of the input, each with the bytes from its first one to the input's end.
 use Rattle.std.specs.Prelude.{◌≡◌, ◌⊎◌, ◌==◌, ◌%◌, ℕ, List, [], ◌∷◌, ◌++◌, Some, None, Bool, false, true, if◌then◌else◌}
 use Rattle.std.specs.Borrow.{Bor}
-use Rattle.coset.specs.Elements.{items_bytes, items_left}
-use Rattle.coset.specs.Item.{Item, Items}
+use Rattle.coset.specs.Elements.{items_bytes, items_left, pairs_bytes, pairs_left}
+use Rattle.coset.specs.Item.{Item, Items, Pairs}
 use Rattle.coset_cbor.specs.StringChunks.{as_string}
 use Rattle.coset.specs.Pulls.{pull_bytes, pull_item}
 use Rattle.ffi_query.specs.declared.located.Elements.{Elements}
+use Rattle.ffi_query.specs.declared.located.Entries.{Entries}
 use Rattle.ffi_query.specs.declared.located.Located.{Located}
 use Rattle.ffi_query.specs.declared.located.Text.{Text}
 use Rattle.ffi_query.specs.Places.{string_in}
@@ -33,6 +34,13 @@ elements_left e = items_left e.members
 
 abbrev pub AreElementsIn : List ℕ → Elements → Type 0
 AreElementsIn b e = AreLocated b (items_bytes e.members) e.rest.now
+
+-- the pairs, and where they are in b
+abbrev pub entries_left : Entries → Pairs
+entries_left e = pairs_left e.pairs
+
+abbrev pub AreEntriesIn : List ℕ → Entries → Type 0
+AreEntriesIn b e = AreLocated b (pairs_bytes e.pairs) e.rest.now
 
 -- how many bytes a head has with that additional information, and the head that b begins with (RFC 8949, section 3)
 abbrev pub head_len_by : ℕ → ℕ

@@ -5,11 +5,11 @@ ghost use Rattle.std.specs.Prelude.{◌≡◌, ⊤, List, ℕ, Bool, IfSome, Mat
 ghost use Rattle.coset.specs.Elements.{items_bytes, items_left, pairs_bytes, pairs_left};
 ghost use Rattle.coset.specs.Item.{item, no_items};
 ghost use Rattle.coset.specs.Names.{number};
-ghost use Rattle.coset.specs.Parts.{as_array, as_bytes};
+ghost use Rattle.coset.specs.Parts.{as_array, as_bytes, as_map};
 ghost use Rattle.coset.specs.Pulls.{pull_bytes, pull_item};
 ghost use Rattle.ffi_query.specs.Kinds.{without_tag};
 ghost use Rattle.ffi_query.specs.Labels.{first_value, is_label, is_same, value_under};
-ghost use Rattle.ffi_query.specs.Located.{AreElementsIn, AreLocated, IsContentOf, IsLocated, IsNoContent, IsNoString, IsTextIn, elements_left, head_len, located_item, opens_chunks};
+ghost use Rattle.ffi_query.specs.Located.{AreElementsIn, AreEntriesIn, AreLocated, IsContentOf, IsLocated, IsNoContent, IsNoString, IsTextIn, elements_left, entries_left, head_len, located_item, opens_chunks};
 ghost use Rattle.ffi_query.specs.Pairs.{nth_pair, pair_in};
 ghost use Rattle.ffi_query.specs.Places.{array_in, element, member_at, members, nth, string_in};
 
@@ -53,7 +53,7 @@ pub(crate) fn after(bytes: &[u8], count: usize) -> &[u8]
 }
 
 /// How many bytes the head takes that is at the front (RFC 8949, section 3), and the opening of an indefinite length.
-pub(crate) fn head_len(bytes: &[u8]) -> usize
+fn head_len(bytes: &[u8]) -> usize
     ensures { result ≡ head_len bytes.now }
 {
     match bytes.first() {
@@ -207,17 +207,35 @@ pub(crate) fn member_located(kind: Kind, item: Located<'_>, index: usize) -> Opt
     }
 }
 
-/// The pair of that index, where the pairs are at the front of the rest.
-fn nth_pair_located<'a>(
-    pairs: Pairs<'a>,
-    rest: &'a [u8],
-    index: usize,
-) -> Option<(Located<'a>, Located<'a>)>
+/// The pairs of a map, and the bytes from the first of them to the end of the input.
+#[derive(Clone, Copy)]
+pub(crate) struct Entries<'a> {
+    pub(crate) pairs: Pairs<'a>,
+    pub(crate) rest: &'a [u8],
+}
+
+/// The pairs of a map.
+pub(crate) fn entries_located(map: Located<'_>) -> Option<Entries<'_>>
+    ensures entries { option_map entries_left result ≡ as_map (located_item map.entry) }
+    ensures place { (b : List ℕ) → IsLocated b map.entry → IfSome result (AreEntriesIn b) }
+{
+    match map.item.pairs() {
+        Some(pairs) => {
+            let rest = after(map.rest, head_len(map.item.slice()));
+            Some(Entries { pairs, rest })
+        }
+        None => None,
+    }
+}
+
+/// The pair of that index.
+fn nth_pair_located(entries: Entries<'_>, index: usize) -> Option<(Located<'_>, Located<'_>)>
     ensures pair { option_map (λ p. (located_item p.0, located_item p.1)) result
-        ≡ nth_pair index (pairs_left pairs.entry) }
-    ensures place { (b : List ℕ) → AreLocated b (pairs_bytes pairs.entry) rest.now
+        ≡ nth_pair index (entries_left entries.entry) }
+    ensures place { (b : List ℕ) → AreEntriesIn b entries.entry
         → IfSome result (λ p. IsLocated b p.0 × IsLocated b p.1) }
 {
+    let Entries { pairs, rest } = entries;
     let mut rest = rest;
     let mut left = index;
     for (key, value) in pairs {
@@ -243,11 +261,8 @@ pub(crate) fn pair_located(map: Located<'_>, index: usize) -> Option<(Located<'_
     ensures place { (b : List ℕ) → IsLocated b map.entry
         → IfSome result (λ p. IsLocated b p.0 × IsLocated b p.1) }
 {
-    match map.item.pairs() {
-        Some(pairs) => {
-            let first = after(map.rest, head_len(map.item.slice()));
-            nth_pair_located(pairs, first, index)
-        }
+    match entries_located(map) {
+        Some(entries) => nth_pair_located(entries, index),
         None => None,
     }
 }
@@ -262,13 +277,14 @@ pub(crate) fn is_number(key: &Option<Integer>, label: i64) -> bool
     }
 }
 
-/// The value of the first pair whose key is that label, where the pairs are at the front of the rest.
-fn value_among<'a>(pairs: Pairs<'a>, rest: &'a [u8], label: i64) -> Option<Located<'a>>
+/// The value of the first pair whose key is that label.
+fn value_among(entries: Entries<'_>, label: i64) -> Option<Located<'_>>
     ensures value { option_map located_item result
-        ≡ first_value (is_label (number label)) (pairs_left pairs.entry) }
-    ensures place { (b : List ℕ) → AreLocated b (pairs_bytes pairs.entry) rest.now
+        ≡ first_value (is_label (number label)) (entries_left entries.entry) }
+    ensures place { (b : List ℕ) → AreEntriesIn b entries.entry
         → IfSome result (IsLocated b) }
 {
+    let Entries { pairs, rest } = entries;
     let mut rest = rest;
     for (key, value) in pairs {
         let behind_key = after(rest, key.slice().len());
@@ -289,11 +305,8 @@ pub(crate) fn value_located(map: Located<'_>, label: i64) -> Option<Located<'_>>
         ≡ value_under (number label) (located_item map.entry) }
     ensures place { (b : List ℕ) → IsLocated b map.entry → IfSome result (IsLocated b) }
 {
-    match map.item.pairs() {
-        Some(pairs) => {
-            let first = after(map.rest, head_len(map.item.slice()));
-            value_among(pairs, first, label)
-        }
+    match entries_located(map) {
+        Some(entries) => value_among(entries, label),
         None => None,
     }
 }

@@ -2,15 +2,13 @@
 
 ghost use Rattle.std.specs.Option.{option_or};
 ghost use Rattle.std.specs.Prelude.{◌≡◌, List, ℕ, IfSome, None, option_map};
-ghost use Rattle.coset.specs.Elements.{pairs_bytes, pairs_left};
 ghost use Rattle.ffi_query.specs.Critical.{crit_label};
 ghost use Rattle.ffi_query.specs.Labels.{first_value, is_label, value_under};
 ghost use Rattle.ffi_query.specs.Lent.{value_if};
-ghost use Rattle.ffi_query.specs.Located.{AreLocated, IsLocated, located_item};
+ghost use Rattle.ffi_query.specs.Located.{AreEntriesIn, IsLocated, entries_left, located_item};
 ghost use Rattle.ffi_query.specs.View.{alg_label, kid_label};
 
-use crate::located::{Located, after, head_len, is_number};
-use coset::cbor::de::Pairs;
+use crate::located::{Entries, Located, after, entries_located, is_number};
 
 /// The values under the three labels, each that of the first pair which has the label.
 #[derive(Clone, Copy)]
@@ -38,17 +36,18 @@ fn first_of<'a>(
     }
 }
 
-/// The values under the labels among these pairs, which are at the front of the rest.
-fn named_among<'a>(pairs: Pairs<'a>, rest: &'a [u8]) -> Named<'a>
+/// The values under the labels among these pairs.
+fn named_among(entries: Entries<'_>) -> Named<'_>
     ensures algorithm { option_map located_item result.algorithm
-        ≡ first_value (is_label alg_label) (pairs_left pairs.entry) }
+        ≡ first_value (is_label alg_label) (entries_left entries.entry) }
     ensures critical { option_map located_item result.critical
-        ≡ first_value (is_label crit_label) (pairs_left pairs.entry) }
+        ≡ first_value (is_label crit_label) (entries_left entries.entry) }
     ensures key_id { option_map located_item result.key_id
-        ≡ first_value (is_label kid_label) (pairs_left pairs.entry) }
-    ensures place { (b : List ℕ) → AreLocated b (pairs_bytes pairs.entry) rest.now
+        ≡ first_value (is_label kid_label) (entries_left entries.entry) }
+    ensures place { (b : List ℕ) → AreEntriesIn b entries.entry
         → IfSome result.key_id (IsLocated b) }
 {
+    let Entries { pairs, rest } = entries;
     let (mut algorithm, mut critical, mut key_id) = (None, None, None);
     let mut rest = rest;
     for (key, value) in pairs {
@@ -81,11 +80,8 @@ pub(crate) fn named_in(map: Located<'_>) -> Named<'_>
     ensures place { (b : List ℕ) → IsLocated b map.entry
         → IfSome result.key_id (IsLocated b) }
 {
-    match map.item.pairs() {
-        Some(pairs) => {
-            let first = after(map.rest, head_len(map.item.slice()));
-            named_among(pairs, first)
-        }
+    match entries_located(map) {
+        Some(entries) => named_among(entries),
         None => nothing_named(),
     }
 }
