@@ -6,7 +6,7 @@
  * in, in_len     the bytes of an item of the kind. Any pointer to bytes may be NULL where the length beside it is 0.
  * out, cap, len  where an answer goes, and how long it is. COSET_SHORT: it is longer than cap, and *len says how long.
  *                Where the status isn't COSET_OK, out is as it was; where it is neither that nor COSET_SHORT, *len is 0.
- * No length is above PTRDIFF_MAX: no object is as long, and no call looks.
+ * A length above PTRDIFF_MAX, as -1 becomes one, is COSET_MISUSE: no object is as long.
  * What is const may overlap; out, and each place for a number or a struct, overlaps nothing else that the call is given, and but
  * for out they are never NULL. A call may take 1 MB of stack (docs/C.md: what a call takes), and asks for memory: it is not for signal
  * handlers, nor for a child that a process with threads forked. The library asks the C library for malloc, free, memcpy, memmove
@@ -25,7 +25,7 @@ extern "C" {
 #endif
 
 /* What is declared here; coset_version says what is linked. */
-#define COSET_VERSION "0.4.2-rattle.6"
+#define COSET_VERSION "0.4.2-rattle.7"
 
 /* A call whose status may not be ignored, and which arguments, counted from 1, are never NULL. */
 #if defined(__GNUC__) || defined(__clang__)
@@ -54,8 +54,8 @@ enum {
   COSET_NOT_PRIVATE = 11,  /* an integer without a name, and outside the private range of its registry */
   COSET_ABSENT = 12,       /* what is asked for isn't in the bytes, or what is given has no place in items of the kind */
   COSET_MISUSE = 13,       /* a number that is of no kind, no part, no map, no order or no countersignature, or for a kind of
-                              another call; or a payload that is given as detached, and the message carries one, or the flag says
-                              that none is */
+                              another call; a payload that is given as detached, and the message carries one, or the flag says
+                              that none is; or a length above PTRDIFF_MAX */
   COSET_TYPE = 14,         /* what is asked for is there, and is no string, or no integer of 64 bits */
   COSET_EMPTY = 15,        /* the list is empty: who verifies each of its signatures has verified none */
   /* Of coset_token_claims; the first two of coset_verify.h too. */
@@ -197,6 +197,12 @@ coset_status coset_value_at(uint32_t kind, const uint8_t *in, size_t in_len, siz
 COSET_CALL(5, 6)
 coset_status coset_pair_spans(uint32_t kind, const uint8_t *in, size_t in_len, size_t index, coset_span *label,
                               coset_span *value);
+
+/* Where the item is that begins `at` bytes behind `in`, as it was received. Where it ends, the next element of an array begins, or
+ * the next label or value of a map: so who has the first finds all of them in one walk. Zeros where the status isn't COSET_OK.
+ * Also: COSET_ABSENT where at is above in_len. */
+COSET_CALL(4)
+coset_status coset_item_span(const uint8_t *in, size_t in_len, size_t at, coset_span *span);
 
 /* Of a COSET_ITEM: where the content of a byte string or a text string is in `in`, whose length is announced; and the integer that
  * it is. Zeros where the status isn't COSET_OK. Also: COSET_TYPE where it is no string, or one in chunks; or no integer of 64 bits. */

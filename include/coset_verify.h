@@ -1,7 +1,8 @@
 /* Verifying and decrypting in one call, over the calls of coset.h and the cryptography that the caller has. What the message
  * says is handed out only after the caller's function said yes.
  *
- * These are static inline, and nothing is proved of them; they look at nothing but what the calls of coset.h answer, which is. */
+ * These are static inline, and nothing is proved of them; beside lengths they look at nothing but what the calls of coset.h
+ * answer, which is. */
 #ifndef COSET_VERIFY_H
 #define COSET_VERIFY_H
 
@@ -54,9 +55,11 @@ static inline void coset_cleared(uint8_t *at, size_t len) {
   for (volatile uint8_t *byte = at; len > 0; len--) *byte++ = 0;
 }
 
-/* What the view says against the policy: COSET_OK, COSET_NOT_ALLOWED or COSET_CRITICAL. */
+/* What the view says against the policy: COSET_OK, COSET_NOT_ALLOWED or COSET_CRITICAL; or COSET_MISUSE, where the list is longer
+ * than any is. */
 static inline coset_status coset_permitted(const coset_message_spans_view *view, const coset_policy *policy) {
   size_t i = 0;
+  if (policy->algorithms_len > (size_t)PTRDIFF_MAX / sizeof *policy->algorithms) return COSET_MISUSE;
   if (view->critical == COSET_NOT_UNDERSTOOD) return COSET_CRITICAL;
   if (view->algorithm_form != COSET_INT) return COSET_NOT_ALLOWED;
   while (i < policy->algorithms_len && policy->algorithms[i] != view->algorithm) i++;
@@ -163,10 +166,13 @@ static inline coset_status coset_encrypt0_decrypt(uint32_t form, const uint8_t *
   coset_message_spans_view view;
   coset_question question;
   size_t len, iv_len = 0;
-  coset_status status = coset_message_spans(kind, in, in_len, 0, policy->external_aad, policy->external_aad_len,
-                                            policy->has_detached, policy->detached, policy->detached_len, policy->critical,
-                                            policy->critical_len, out, cap, &len, &view);
-  *plain_len = status == COSET_SHORT ? len : 0;
+  coset_status status;
+  *plain_len = 0;
+  if (plain_cap > (size_t)PTRDIFF_MAX) return COSET_MISUSE;
+  status = coset_message_spans(kind, in, in_len, 0, policy->external_aad, policy->external_aad_len, policy->has_detached,
+                               policy->detached, policy->detached_len, policy->critical, policy->critical_len, out, cap, &len,
+                               &view);
+  if (status == COSET_SHORT) *plain_len = len;
   if (status) return status;
   status = coset_iv(kind, in, in_len, out + len, cap - len, &iv_len);
   if (status == COSET_SHORT) *plain_len = len + iv_len;
@@ -263,9 +269,10 @@ static inline int coset_step(struct coset_walk *walk) {
 /* Whether arrays, maps, tags and protected headers are more than `most` within one another, as far as the bytes can be read:
  * 1 or 0. `most` is at most COSET_MOST_LEVELS. A call takes stack by levels (docs/C.md): so a thread that has little asks this
  * first, and refuses what is deeper. Any byte string that begins an array counts as a protected header here, and one of these
- * without a length as deeper than any bound. It takes 3 kB of stack, and no heap. */
+ * without a length as deeper than any bound, and so does a length above PTRDIFF_MAX. It takes 3 kB of stack, and no heap. */
 static inline int coset_is_deeper(const uint8_t *in, size_t len, size_t most) {
   struct coset_walk walk;
+  if (len > (size_t)PTRDIFF_MAX) return 1;
   walk.in = in, walk.at = 0, walk.end = len, walk.depth = 0;
   walk.most = most < (size_t)COSET_MOST_LEVELS ? most : (size_t)COSET_MOST_LEVELS;
   walk.levels[0].left = 1, walk.levels[0].is_array = 0, walk.levels[0].is_first = 0;
@@ -360,6 +367,7 @@ static inline coset_status coset_token_judge(const uint8_t *in, size_t in_len, i
   coset_status status;
   *claims = NULL;
   *claims_len = 0;
+  if (cap > (size_t)PTRDIFF_MAX) return COSET_MISUSE;
   for (;;) {
     status = coset_token_claims(&policy->rules, policy->signatures, policy->signatures_len, policy->macs, policy->macs_len,
                                 policy->ciphers, policy->ciphers_len, policy->critical, policy->critical_len,

@@ -3,8 +3,8 @@
  * Eight threads make calls of bytes that are rows of test vectors, most of them damaged. Each place that a call is given ends
  * at a page that nobody may touch, or begins behind one, and 64 bytes on its other side are looked at afterwards, as are the
  * input and what of `out` shouldn't be written. Blocks of the heap have such bytes around them, and are overwritten when they
- * are freed. Each answer is asked for again: with just enough memory, with one byte less, and with each request for memory
- * refused in turn. The same seed makes the same calls. What is wrong is told with the call's arguments, and the status is 1.
+ * are freed. Each answer is asked for again: with just enough memory, with one byte less, with each request for memory refused
+ * in turn, and with each length in turn above PTRDIFF_MAX. The same seed makes the same calls. What is wrong is told with the call's arguments, and the status is 1.
  *
  * With FUZZ defined it is what libFuzzer calls (tools/fuzz): the first 24 bytes choose the call and its numbers. */
 #define _GNU_SOURCE
@@ -53,7 +53,7 @@ static uint64_t seed;
 static _Thread_local struct place places[WORDS];
 static _Thread_local union word words[WORDS];
 static _Thread_local const struct function *now;
-static _Thread_local uint64_t state, calls, refused, accepted;
+static _Thread_local uint64_t state, calls, refused, accepted, lengths;
 static _Thread_local struct {
   uint64_t count;
   const struct row *rows[64];
@@ -62,6 +62,7 @@ static _Thread_local const struct row *row_now;
 static _Thread_local const uint8_t *choices;
 static _Thread_local size_t choices_left;
 static _Thread_local long requests, refused_at = -1, live;
+static _Thread_local int long_at = -1; /* the length that is too long */
 
 /* ---- What is wrong */
 
@@ -352,7 +353,10 @@ static int32_t made(size_t cap, size_t *len) {
   for (int i = 0; now->classes[i]; i++)
     if (strchr("lav", now->classes[i])) lend(&places[i], places[i].n, 0);
   requests = 0;
+  uint64_t length_was = long_at < 0 ? 0 : words[long_at].number;
+  if (long_at >= 0) words[long_at].number = chosen(2) ? SIZE_MAX : (size_t)PTRDIFF_MAX + 1;
   int32_t status = now->call(words);
+  if (long_at >= 0) words[long_at].number = length_was;
   calls++, accepted += is_answer(status);
   *len = 0;
   if (length) memcpy(len, length->at, sizeof *len);
@@ -373,7 +377,19 @@ static void refuse_each(int32_t status, size_t cap, size_t len) {
   }
 }
 
-/* Makes a call again with just enough room, with a byte less and more, and with memory refused. */
+/* Whether the call refuses each length, in turn, that no object has. */
+static void lengthen_each(size_t cap) {
+  for (int i = 0; now->classes[i]; i++) {
+    size_t told;
+    if (!strchr("zyqnc", now->classes[i])) continue;
+    long_at = i;
+    if (made(cap, &told) != COSET_MISUSE) fail("a length above PTRDIFF_MAX isn't COSET_MISUSE");
+    long_at = -1;
+    lengths++;
+  }
+}
+
+/* Makes a call again with just enough room, with a byte less and more, with memory refused, and with lengths that are too long. */
 static void attack(void) {
   static _Thread_local uint8_t answer[ROOM];
   struct place *out = of('o');
@@ -387,6 +403,7 @@ static void attack(void) {
   }
   if (is_answer(status) && row_now) liked[now - functions].rows[liked[now - functions].count++ % 64] = row_now;
   if (!choices && chosen(8) == 0) refuse_each(status, cap, len);
+  if (!choices && chosen(32) == 0) lengthen_each(cap);
 }
 
 #ifdef FUZZ
@@ -422,7 +439,7 @@ static void read_rows(const char *path) {
 
 struct share {
   pthread_t thread;
-  uint64_t number, wanted, calls, refused, accepted;
+  uint64_t number, wanted, calls, refused, accepted, lengths;
 };
 
 static void *work(void *of_thread) {
@@ -432,7 +449,7 @@ static void *work(void *of_thread) {
   make_places();
   state = (seed + share->number) * 0x9e3779b97f4a7c15 + 1;
   while (calls < share->wanted) choose(NULL, 0), attack();
-  share->calls = calls, share->refused = refused, share->accepted = accepted;
+  share->calls = calls, share->refused = refused, share->accepted = accepted, share->lengths = lengths;
   return NULL;
 }
 
@@ -449,10 +466,11 @@ int main(int count, char **word) {
   }
   for (int i = 0; i < THREADS; i++) {
     pthread_join(shares[i].thread, NULL);
-    sum.calls += shares[i].calls, sum.refused += shares[i].refused, sum.accepted += shares[i].accepted;
+    sum.calls += shares[i].calls, sum.refused += shares[i].refused, sum.accepted += shares[i].accepted, sum.lengths += shares[i].lengths;
   }
-  printf("attacked by %" PRIu64 " calls of %zu functions in %d threads (seed %" PRIu64 "): answers %" PRIu64 ", memory refused %" PRIu64 "\n",
-         sum.calls, sizeof functions / sizeof *functions, THREADS, seed, sum.accepted, sum.refused);
+  printf("attacked by %" PRIu64 " calls of %zu functions in %d threads (seed %" PRIu64 "): answers %" PRIu64 ", memory refused %" PRIu64
+         ", lengths refused %" PRIu64 "\n",
+         sum.calls, sizeof functions / sizeof *functions, THREADS, seed, sum.accepted, sum.refused, sum.lengths);
   return 0;
 }
 

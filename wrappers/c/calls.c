@@ -3,6 +3,7 @@
  *   check KIND IN | count KIND IN | part KIND IN CAP PART | member KIND IN CAP INDEX | label KIND IN CAP MAP LABEL
  *   label_at KIND IN CAP INDEX | value_at KIND IN CAP INDEX | key_of 11 IN CAP KID
  *   member_span KIND IN INDEX | pair_spans KIND IN INDEX | label_span KIND IN MAP LABEL | string_span 13 IN | integer 13 IN
+ *   item_span 13 IN AT
  *   label_bytes KIND IN CAP MAP LABEL | label_int KIND IN MAP LABEL | text_label KIND IN CAP MAP LABEL
  *   structure KIND IN CAP INDEX AAD HAS DETACHED | recipient_structure HOLDER IN CAP AAD
  *   sign1 KIND IN CAP AAD HAS DETACHED | message KIND IN CAP INDEX AAD HAS DETACHED KNOWN
@@ -12,7 +13,7 @@
  *   structure_of KIND PROTECTED CAP SIGNER AAD CONTENT | recipient_structure_of HOLDER PROTECTED CAP AAD
  *   make KIND PROTECTED CAP UNPROTECTED HAS CONTENT PROOF
  *   add KIND IN CAP MEMBER | write KIND IN CAP | canonical_key ORDER IN CAP
- *   deeper 0 IN CAP
+ *   deeper 0 IN CAP | lengths 0 IN CAP
  *   token 0 IN CAP NOW RULES SIGNATURES MACS CIPHERS CRITICAL ISS AUD ANSWERS
  *   text STATUS | issued 0 KID CAP ISS SUB AUD CTI EXP NBF IAT SIGNED SIGNATURE
  *
@@ -213,6 +214,20 @@ static void deeper(struct bytes in) {
   printf("levels %zu\n", most + (size_t)coset_is_deeper(in.at, in.len, most));
 }
 
+/* Prints what the calls of coset_verify.h return of a length that no object has: of a list of algorithms, of the memory for a
+ * plaintext, of the memory to work in, and of bytes whose depth is asked for. */
+static void lengths(struct bytes in, uint8_t *out, size_t cap) {
+  const int64_t es256 = -7;
+  const coset_policy policy = {.algorithms = &es256, .algorithms_len = SIZE_MAX};
+  const coset_token_policy rules = {.rules.size = sizeof(coset_rules)};
+  const uint8_t *payload = NULL;
+  size_t len;
+  printf("%" PRId32, coset_sign1_verify(COSET_EITHER, in.at, in.len, &policy, NULL, NULL, out, cap, &payload, &len));
+  printf(" %" PRId32, coset_encrypt0_decrypt(COSET_EITHER, in.at, in.len, &policy, NULL, NULL, out, cap, out, SIZE_MAX, &len));
+  printf(" %" PRId32, coset_token_judge(in.at, in.len, 0, &rules, NULL, NULL, out, SIZE_MAX, &payload, &len));
+  printf(" %d\n", coset_is_deeper(in.at, SIZE_MAX, COSET_MOST_LEVELS));
+}
+
 /* Whether the question is that of the words; a plaintext is then the IV, and the bytes of the ciphertext, each xor 5a. */
 static int is_asked(void *words, const coset_question *question) {
   char **word = words;
@@ -404,12 +419,13 @@ static int32_t made(char **word, uint32_t kind, struct bytes in, uint8_t *out, s
   return status;
 }
 
-/* Says where an element is, the two halves of a pair, the value of a label, or what a string holds. */
+/* Says where an element is, the two halves of a pair, the value of a label, any item, or what a string holds. */
 static void located(char call, uint32_t kind, struct bytes in, size_t index, int64_t label) {
   coset_span a = {77, 77}, b = {77, 77};
   coset_status status = call == 'p'   ? coset_pair_spans(kind, in.at, in.len, index, &a, &b)
                         : call == 'm' ? coset_member_span(kind, in.at, in.len, index, &a)
                         : call == 'l' ? coset_label_span(kind, in.at, in.len, (uint32_t)index, label, &a)
+                        : call == 'i' ? coset_item_span(in.at, in.len, index, &a)
                                       : coset_string_span(in.at, in.len, &a);
   left = -1;
   printf("%" PRId32 " %zu %zu", status, a.at, a.len);
@@ -440,14 +456,16 @@ int main(void) {
     coset_message_view message = {77, 77, 77, 77, 77, 77, 77, 77, 77};
     memset(out, 0xee, room);
     left = refused ? atol(refused) : -1;
-    if (!strcmp(call, "token") || !strcmp(call, "deeper")) {
+    if (!strcmp(call, "token") || !strcmp(call, "deeper") || !strcmp(call, "lengths")) {
       if (*call == 't') token(word, in, cap);
-      else deeper(in);
+      else if (*call == 'd') deeper(in);
+      else lengths(in, out, cap);
       free(in.at), free(out);
       if (live) return fprintf(stderr, "%ld blocks are left\n", live), 1;
       continue;
     }
-    if (!strcmp(call, "member_span") || !strcmp(call, "pair_spans") || !strcmp(call, "label_span") || !strcmp(call, "string_span")) {
+    if (!strcmp(call, "member_span") || !strcmp(call, "pair_spans") || !strcmp(call, "label_span") || !strcmp(call, "string_span") ||
+        !strcmp(call, "item_span")) {
       located(*call, kind, in, strtoul(word[3], NULL, 0), strtoll(word[4], NULL, 0));
       free(in.at), free(out);
       if (live) return fprintf(stderr, "%ld blocks are left\n", live), 1;

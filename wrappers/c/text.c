@@ -24,7 +24,7 @@ const char *coset_status_text(coset_status status) {
   case COSET_UNREGISTERED: return "an integer isn't registered";
   case COSET_NOT_PRIVATE: return "an integer isn't registered, nor for private use";
   case COSET_ABSENT: return "what is asked for isn't there, or what is given has no place";
-  case COSET_MISUSE: return "a number without a meaning for this call, or a payload that is given twice or without its flag";
+  case COSET_MISUSE: return "a number without a meaning for this call, or a payload that is given twice or without its flag, or a length above PTRDIFF_MAX";
   case COSET_TYPE: return "what is asked for is there, and of another kind";
   case COSET_EMPTY: return "the list is empty";
   case COSET_NOT_ALLOWED: return "the algorithm isn't one that is allowed";

@@ -145,6 +145,8 @@ def answer(name, kind, given="-", *words):
         return span(coset.member_span(kind, given, int(words[0])))
     if name == "label_span":
         return span(coset.label_span(kind, given, int(words[0]), int(words[1])))
+    if name == "item_span":
+        return span(coset.item_span(given, int(words[0])))
     if name == "string_span":
         return span(coset.string_span(given))
     if name == "integer":

@@ -270,7 +270,10 @@ def _declare():
     for name, arguments in calls.items():
         call = getattr(_library, "coset_" + name)
         call.argtypes, call.restype = given + arguments, ctypes.c_int32
-    _library.coset_key_of.argtypes, _library.coset_key_of.restype = [at, size, at, size] + to, ctypes.c_int32
+    for name, arguments in {"key_of": [at, size] + to, "item_span": [size, ctypes.POINTER(_Span)], "string_span": [ctypes.POINTER(_Span)],
+                            "integer": [ctypes.POINTER(integer)]}.items():
+        call = getattr(_library, "coset_" + name)
+        call.argtypes, call.restype = [at, size] + arguments, ctypes.c_int32
     lists, names = [ctypes.POINTER(integer), size] * 4, [at, size] * 3
     opened = [ctypes.POINTER(_Opened), size, at, size]
     _library.coset_token_claims.argtypes = [ctypes.POINTER(_Rules), *lists, *names, integer, *opened, *to, ctypes.POINTER(_Layer)]
@@ -400,6 +403,14 @@ def label_span(kind, data, which, name):
     """Where the value of an integer label is in the bytes, as it was received: a slice."""
     span = _Span()
     _raise(_library.coset_label_span(_kind(kind), *_bytes(data), _number(which), _int64(name), ctypes.byref(span)))
+    return _slice(span)
+
+
+def item_span(data, at):
+    """Where the item is that begins `at` bytes behind the first, as it was received: a slice. Where it ends, the next element of an
+    array begins, or the next label or value of a map."""
+    span = _Span()
+    _raise(_library.coset_item_span(*_bytes(data), _size(at), ctypes.byref(span)))
     return _slice(span)
 
 

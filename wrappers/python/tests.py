@@ -90,12 +90,21 @@ assert type(raised(coset.countersign_structure, coset.SIGN1, bare, 8)) is coset.
 assert type(raised(coset.countersign_structure, coset.SIGN1, bare, 12, b"\xa0")) is coset.Absent
 
 
+def elements(array):
+    """The elements of an array, in one walk: each begins where the one before it ends."""
+    at = coset.member_span(coset.ITEM, array, 0).start
+    for _ in range(coset.count(coset.ITEM, array)):
+        span = coset.item_span(array, at)
+        yield array[span]
+        at = span.stop
+
+
 def certificates(kind, message):
     """The certificates under x5chain, label 33 of the unprotected header: one byte string, or an array of them (RFC 9360, section
     2). Each is a part of the message, and not a copy."""
     chain = memoryview(message)[coset.label_span(kind, message, coset.IN_UNPROTECTED, 33)]
     try:
-        parts = [chain[coset.member_span(coset.ITEM, chain, index)] for index in range(coset.count(coset.ITEM, chain))]
+        parts = list(elements(chain))
     except coset.Absent:
         parts = [chain]
     return [part[coset.string_span(part)] for part in parts]

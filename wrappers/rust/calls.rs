@@ -289,6 +289,7 @@ fn answer(w: &[&str]) -> Result<String, Error> {
         "value_at" => hex(&coset::value_at(k, &input, w[4].parse().unwrap())?),
         "member_span" => span(coset::member_span(k, &input, w[3].parse().unwrap())?),
         "label_span" => span(coset::label_span(k, &input, map(w[3]), w[4].parse().unwrap())?),
+        "item_span" => span(coset::item_span(&input, w[3].parse().unwrap())?),
         "string_span" => span(coset::string_span(&input)?),
         "integer" => coset::integer(&input)?.to_string(),
         "pair_spans" => {

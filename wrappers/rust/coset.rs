@@ -516,6 +516,7 @@ mod c {
         pub fn coset_member_span(kind: u32, input: *const u8, input_len: usize, index: usize, span: *mut Span) -> i32;
         pub fn coset_pair_spans(kind: u32, input: *const u8, input_len: usize, index: usize, label: *mut Span, value: *mut Span) -> i32;
         pub fn coset_label_span(kind: u32, input: *const u8, input_len: usize, map: u32, label: i64, span: *mut Span) -> i32;
+        pub fn coset_item_span(input: *const u8, input_len: usize, at: usize, span: *mut Span) -> i32;
         pub fn coset_string_span(input: *const u8, input_len: usize, span: *mut Span) -> i32;
         pub fn coset_integer(input: *const u8, input_len: usize, value: *mut i64) -> i32;
         pub fn coset_label(kind: u32, input: *const u8, input_len: usize, map: u32, label: i64, out: *mut u8, cap: usize, len: *mut usize) -> i32;
@@ -672,6 +673,14 @@ pub fn pair_spans(kind: Kind, bytes: &[u8], index: usize) -> Result<(std::ops::R
 pub fn label_span(kind: Kind, bytes: &[u8], map: Map, label: i64) -> Result<std::ops::Range<usize>, Error> {
     let mut span = c::Span::default();
     let status = unsafe { c::coset_label_span(kind.number(), bytes.as_ptr(), bytes.len(), map as u32, label, &mut span) };
+    answer(status, range(&span))
+}
+
+/// Where the item is that begins `at` bytes behind the first, as it was received. Where it ends, the next element of an array begins,
+/// or the next label or value of a map.
+pub fn item_span(bytes: &[u8], at: usize) -> Result<std::ops::Range<usize>, Error> {
+    let mut span = c::Span::default();
+    let status = unsafe { c::coset_item_span(bytes.as_ptr(), bytes.len(), at, &mut span) };
     answer(status, range(&span))
 }
 

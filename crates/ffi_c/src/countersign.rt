@@ -6,6 +6,7 @@ ghost use Rattle.ffi_query.specs.Countersigns.{HasNoCountersigned, IsCountersign
 ghost use Rattle.ffi_c.specs.Numbers.{bytes_if, countersign_query};
 ghost use Rattle.ffi_c.specs.Replies.{IsMisuse, Replies};
 
+use crate::lengths::within;
 use crate::numbers::{bytes_if, countersign_query};
 use crate::replies::{misused, reply};
 use ffi_query::countersign_structure_of;
@@ -34,7 +35,12 @@ pub extern "C" fn coset_countersign_structure(
         (HasNoCountersigned q.0 q.1 signer.now external_aad.now d) out.old out.new)
         result len.new) }
 {
-    match countersign_query(kind, label, has_detached, detached) {
+    let query = within(
+        countersign_query(kind, label, has_detached, detached),
+        input,
+        out,
+    );
+    match within(within(query, signer, external_aad), detached, &[]) {
         Some((kind, countersignature)) => {
             let detached = bytes_if(has_detached, detached);
             reply(

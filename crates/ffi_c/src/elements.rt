@@ -6,7 +6,7 @@ ghost use Rattle.ffi_query.specs.declared.kind.Kind.TheVariants.{Any, KeySet};
 ghost use Rattle.ffi_query.specs.declared.elements.Span.{Span};
 ghost use Rattle.ffi_query.specs.declared.pair.Half.TheVariants as of;
 ghost use Rattle.ffi_query.specs.Answers.{Answers, AnswersNumber};
-ghost use Rattle.ffi_query.specs.Elements.{ArePairAt, HasNoContent, HasNoInteger, HasNoMember, HasNoPair, HasNoValueAt, IsMemberAt, IsStringAt, IsValueAt};
+ghost use Rattle.ffi_query.specs.Elements.{AnswersItem, ArePairAt, HasNoContent, HasNoInteger, HasNoMember, HasNoPair, HasNoValueAt, IsMemberAt, IsStringAt, IsValueAt};
 ghost use Rattle.ffi_query.specs.Labels.{IsNumber};
 ghost use Rattle.ffi_query.specs.Pairs.{IsHalf};
 ghost use Rattle.ffi_query.specs.Sets.{IsKeyBy};
@@ -14,10 +14,12 @@ ghost use Rattle.coset.specs.Names.{number};
 ghost use Rattle.ffi_c.specs.Numbers.{kind_of, map_query};
 ghost use Rattle.ffi_c.specs.Replies.{IsMisuse, Replies, RepliesValue, no_pair, no_span};
 
+use crate::lengths::within;
 use crate::numbers::{kind_of, map_query};
 use crate::replies::{COSET_MISUSE, misused, reply, reply_value};
 use ffi_query::{
-    Half, Span, integer_at, key_of, member_span, pair_of, pair_spans, string_span, value_span,
+    Half, Span, integer_at, item_span, key_of, member_span, pair_of, pair_spans, string_span,
+    value_span,
 };
 use std::alloc::Global;
 
@@ -41,7 +43,7 @@ pub extern "C" fn coset_member_span(
         (λ k. RepliesValue no_span (AnswersNumber k input.now (IsMemberAt input.now k index)
         (HasNoMember k index)) result span.new) }
 {
-    match kind_of(kind) {
+    match within(kind_of(kind), input, &[]) {
         Some(kind) => reply_value(member_span(alloc, kind, input, index), no_span(), span),
         None => misused(no_span(), span),
     }
@@ -62,7 +64,7 @@ pub extern "C" fn coset_label_span(
         (IsValueAt input.now q.0 q.1 (number label))
         (HasNoValueAt input.now q.0 q.1 (number label))) result span.new) }
 {
-    match map_query(kind, map) {
+    match within(map_query(kind, map), input, &[]) {
         Some((kind, map)) => {
             let answer = value_span(alloc, kind, input, map, label);
             reply_value(answer, no_span(), span)
@@ -87,7 +89,7 @@ pub extern "C" fn coset_pair_spans(
         (ArePairAt input.now index) (HasNoPair index)) result spans) }
 {
     let mut found = (no_span(), no_span());
-    let status = match kind_of(kind) {
+    let status = match within(kind_of(kind), input, &[]) {
         Some(kind) => {
             let answer = pair_spans(alloc, kind, input, index);
             reply_value(answer, (no_span(), no_span()), &mut found)
@@ -99,13 +101,27 @@ pub extern "C" fn coset_pair_spans(
     status
 }
 
+/// Says where the item is that begins `at` bytes behind the first.
+#[unsafe(no_mangle)]
+pub extern "C" fn coset_item_span(input: &[u8], at: usize, span: &mut Span) -> i32
+    ensures { RepliesValue no_span (AnswersItem input.now at) result span.new }
+{
+    match within(Some(()), input, &[]) {
+        Some(()) => reply_value(item_span(input, at), no_span(), span),
+        None => misused(no_span(), span),
+    }
+}
+
 /// Says where the content of the string is in the input, which is one whose length is announced.
 #[unsafe(no_mangle)]
 pub extern "C" fn coset_string_span(alloc: Global, input: &[u8], span: &mut Span) -> i32
     ensures { RepliesValue no_span (AnswersNumber Any input.now (IsStringAt input.now)
         (HasNoContent input.now)) result span.new }
 {
-    reply_value(string_span(alloc, input), no_span(), span)
+    match within(Some(()), input, &[]) {
+        Some(()) => reply_value(string_span(alloc, input), no_span(), span),
+        None => misused(no_span(), span),
+    }
 }
 
 /// The integer that the input is.
@@ -114,7 +130,10 @@ pub extern "C" fn coset_integer(alloc: Global, input: &[u8], value: &mut i64) ->
     ensures { RepliesValue (pos 0) (AnswersNumber Any input.now IsNumber HasNoInteger)
         result value.new }
 {
-    reply_value(integer_at(alloc, input), 0, value)
+    match within(Some(()), input, &[]) {
+        Some(()) => reply_value(integer_at(alloc, input), 0, value),
+        None => misused(0, value),
+    }
 }
 
 /// Writes the label of the pair of that index, as its shortest encoding.
@@ -130,7 +149,7 @@ pub extern "C" fn coset_label_at(
     ensures { MatchOption (kind_of kind) (IsMisuse result len.new 0 × (out.new ≡ out.old))
         (λ k. Replies (Answers k input.now (IsHalf of.Key index) out.old out.new) result len.new) }
 {
-    match kind_of(kind) {
+    match within(kind_of(kind), input, out) {
         Some(kind) => reply(pair_of(alloc, kind, input, Half::Key, index, out), len),
         None => misused(0, len),
     }
@@ -150,7 +169,7 @@ pub extern "C" fn coset_value_at(
         (λ k. Replies (Answers k input.now (IsHalf of.Value index) out.old out.new)
         result len.new) }
 {
-    match kind_of(kind) {
+    match within(kind_of(kind), input, out) {
         Some(kind) => reply(pair_of(alloc, kind, input, Half::Value, index, out), len),
         None => misused(0, len),
     }
@@ -168,5 +187,8 @@ pub extern "C" fn coset_key_of(
     ensures { Replies (Answers KeySet input.now (IsKeyBy key_id.now) out.old out.new)
         result len.new }
 {
-    reply(key_of(alloc, input, key_id, out), len)
+    match within(within(Some(()), input, out), key_id, &[]) {
+        Some(()) => reply(key_of(alloc, input, key_id, out), len),
+        None => misused(0, len),
+    }
 }

@@ -16,6 +16,7 @@ ghost use Rattle.ffi_c.specs.Replies.{IsMisuse, Replies, RepliesCheck, RepliesVa
 
 mod countersign;
 mod elements;
+mod lengths;
 mod making;
 mod message;
 mod numbers;
@@ -25,6 +26,7 @@ mod sign1;
 mod spans;
 mod token;
 
+use crate::lengths::within;
 use ffi_query::{
     Label, check, count_of, integer_of, member_of, part_of, recipient_structure_of, string_of,
     structure_of, value_of,
@@ -40,7 +42,7 @@ pub extern "C" fn coset_check(alloc: Global, kind: u32, input: &[u8], offset: &m
     ensures { MatchOption (kind_of kind) (IsMisuse result offset.new usize.MAX)
         (λ k. RepliesCheck k input.now result offset.new) }
 {
-    match kind_of(kind) {
+    match within(kind_of(kind), input, &[]) {
         Some(kind) => reply_check(check(alloc, kind, input), input, offset),
         None => misused(usize::MAX, offset),
     }
@@ -53,7 +55,7 @@ pub extern "C" fn coset_count(alloc: Global, kind: u32, input: &[u8], count: &mu
         (λ k. Replies (AnswersNumber k input.now (IsPositiveCount k) (HasNoCount k))
         result count.new) }
 {
-    match kind_of(kind) {
+    match within(kind_of(kind), input, &[]) {
         Some(kind) => reply(count_of(alloc, kind, input), count),
         None => misused(0, count),
     }
@@ -73,7 +75,7 @@ pub extern "C" fn coset_part(
         (IsMisuse result len.new 0 × (out.new ≡ out.old))
         (λ q. Replies (Answers q.0 input.now (IsPart q.0 q.1) out.old out.new) result len.new) }
 {
-    match part_query(kind, part) {
+    match within(part_query(kind, part), input, out) {
         Some((kind, part)) => reply(part_of(alloc, kind, input, part, out), len),
         None => misused(0, len),
     }
@@ -92,7 +94,7 @@ pub extern "C" fn coset_member(
     ensures { MatchOption (kind_of kind) (IsMisuse result len.new 0 × (out.new ≡ out.old))
         (λ k. Replies (Answers k input.now (IsMember k index) out.old out.new) result len.new) }
 {
-    match kind_of(kind) {
+    match within(kind_of(kind), input, out) {
         Some(kind) => reply(member_of(alloc, kind, input, index, out), len),
         None => misused(0, len),
     }
@@ -113,7 +115,7 @@ pub extern "C" fn coset_label(
         (λ q. Replies (Answers q.0 input.now (IsValueOf q.0 q.1 (number label)) out.old out.new)
         result len.new) }
 {
-    match map_query(kind, map) {
+    match within(map_query(kind, map), input, out) {
         Some((kind, map)) => {
             let label = Label::Number(label);
             reply(value_of(alloc, kind, input, map, label, out), len)
@@ -137,7 +139,7 @@ pub extern "C" fn coset_label_bytes(
         (λ q. Replies (AnswersOr q.0 input.now (IsStringOf q.0 q.1 (number label))
         (HasNoString q.0 q.1 (number label)) out.old out.new) result len.new) }
 {
-    match map_query(kind, map) {
+    match within(map_query(kind, map), input, out) {
         Some((kind, map)) => {
             let label = Label::Number(label);
             reply(string_of(alloc, kind, input, map, label, out), len)
@@ -161,7 +163,7 @@ pub extern "C" fn coset_label_int(
         (IsNumberOf q.0 q.1 (number label)) (HasNoNumber q.0 q.1 (number label)))
         result value.new) }
 {
-    match map_query(kind, map) {
+    match within(map_query(kind, map), input, &[]) {
         Some((kind, map)) => {
             let label = Label::Number(label);
             reply_value(integer_of(alloc, kind, input, map, label), 0, value)
@@ -185,7 +187,7 @@ pub extern "C" fn coset_text_label(
         (λ q. Replies (Answers q.0 input.now (IsValueOf q.0 q.1 (text_label label.now))
         out.old out.new) result len.new) }
 {
-    match map_query(kind, map) {
+    match within(within(map_query(kind, map), input, out), label, &[]) {
         Some((kind, map)) => {
             let label = Label::Text(label);
             reply(value_of(alloc, kind, input, map, label, out), len)
@@ -214,7 +216,8 @@ pub extern "C" fn coset_structure(
         (λ k. Replies (AnswersOr k input.now (IsStructure k index external_aad.now d)
         (HasNoStructure k index external_aad.now d) out.old out.new) result len.new) }
 {
-    match content_query(kind, has_detached, detached) {
+    let query = within(content_query(kind, has_detached, detached), input, out);
+    match within(query, external_aad, detached) {
         Some(kind) => {
             let detached = bytes_if(has_detached, detached);
             reply(
@@ -240,7 +243,7 @@ pub extern "C" fn coset_recipient_structure(
         (λ k. Replies (Answers Recipient input.now (IsRecipientStructure k external_aad.now)
         out.old out.new) result len.new) }
 {
-    match kind_of(holder) {
+    match within(within(kind_of(holder), input, out), external_aad, &[]) {
         Some(holder) => reply(
             recipient_structure_of(alloc, holder, input, external_aad, out),
             len,

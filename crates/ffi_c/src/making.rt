@@ -12,6 +12,7 @@ ghost use Rattle.ffi_make.specs.StructuresMade.{MakesRecipientStructure, MakesSt
 ghost use Rattle.ffi_c.specs.Numbers.{bytes_if, content_query, kind_of, order_of};
 ghost use Rattle.ffi_c.specs.Replies.{IsMisuse, Replies};
 
+use crate::lengths::within;
 use crate::numbers::{bytes_if, content_query, kind_of, order_of};
 use crate::replies::{misused, reply};
 use ffi_make::{Entry, add, canonical_key, make, put, recipient_structure_of, structure_of, write};
@@ -33,7 +34,7 @@ pub extern "C" fn coset_put(
         (λ k. Replies (PutsPair k input.now (number label) (an_encoding value.now) out.old out.new)
         result len.new) }
 {
-    match kind_of(kind) {
+    match within(within(kind_of(kind), input, out), value, &[]) {
         Some(kind) => {
             let label = Label::Number(label);
             let value = Entry::Encoded(value);
@@ -58,7 +59,7 @@ pub extern "C" fn coset_put_bytes(
         (λ k. Replies (PutsPair k input.now (number label) (a_string value.now) out.old out.new)
         result len.new) }
 {
-    match kind_of(kind) {
+    match within(within(kind_of(kind), input, out), value, &[]) {
         Some(kind) => {
             let label = Label::Number(label);
             let value = Entry::Bytes(value);
@@ -83,7 +84,7 @@ pub extern "C" fn coset_put_text(
         (λ k. Replies (PutsPair k input.now (number label) (a_text value.now) out.old out.new)
         result len.new) }
 {
-    match kind_of(kind) {
+    match within(within(kind_of(kind), input, out), value, &[]) {
         Some(kind) => {
             let label = Label::Number(label);
             let value = Entry::Text(value);
@@ -108,7 +109,7 @@ pub extern "C" fn coset_put_int(
         (λ k. Replies (PutsPair k input.now (number label) (an_integer value) out.old out.new)
         result len.new) }
 {
-    match kind_of(kind) {
+    match within(kind_of(kind), input, out) {
         Some(kind) => {
             let label = Label::Number(label);
             let value = Entry::Integer(value);
@@ -133,7 +134,7 @@ pub extern "C" fn coset_put_text_label(
         (λ k. Replies (PutsPair k input.now (text_label label.now) (an_encoding value.now)
         out.old out.new) result len.new) }
 {
-    match kind_of(kind) {
+    match within(within(kind_of(kind), input, out), label, value) {
         Some(kind) => {
             let label = Label::Text(label);
             let value = Entry::Encoded(value);
@@ -159,7 +160,8 @@ pub extern "C" fn coset_structure_of(
         (λ k. Replies (MakesStructure k protected.now signer.now external_aad.now content.now
         out.old out.new) result len.new) }
 {
-    match kind_of(kind) {
+    let query = within(kind_of(kind), out, protected);
+    match within(within(query, signer, external_aad), content, &[]) {
         Some(kind) => {
             let made = structure_of(alloc, kind, protected, signer, external_aad, content, out);
             reply(made, len)
@@ -182,7 +184,7 @@ pub extern "C" fn coset_recipient_structure_of(
         (λ k. Replies (MakesRecipientStructure k protected.now external_aad.now
         out.old out.new) result len.new) }
 {
-    match kind_of(holder) {
+    match within(within(kind_of(holder), out, protected), external_aad, &[]) {
         Some(holder) => {
             let made = recipient_structure_of(alloc, holder, protected, external_aad, out);
             reply(made, len)
@@ -209,7 +211,8 @@ pub extern "C" fn coset_make(
         (λ k. Replies (MakesMessage k protected.now unprotected.now
         (bytes_if has_content content.now) proof.now out.old out.new) result len.new) }
 {
-    match content_query(kind, has_content, content) {
+    let query = within(content_query(kind, has_content, content), out, protected);
+    match within(within(query, unprotected, content), proof, &[]) {
         Some(kind) => {
             let content = bytes_if(has_content, content);
             reply(
@@ -235,7 +238,7 @@ pub extern "C" fn coset_add(
         (λ k. Replies (AddsMember k input.now member.now out.old out.new)
         result len.new) }
 {
-    match kind_of(kind) {
+    match within(within(kind_of(kind), input, out), member, &[]) {
         Some(kind) => reply(add(alloc, kind, input, member, out), len),
         None => misused(0, len),
     }
@@ -254,7 +257,7 @@ pub extern "C" fn coset_write(
         (λ k. Replies (WritesAgain k input.now out.old out.new)
         result len.new) }
 {
-    match kind_of(kind) {
+    match within(kind_of(kind), input, out) {
         Some(kind) => reply(write(alloc, kind, input, out), len),
         None => misused(0, len),
     }
@@ -273,7 +276,7 @@ pub extern "C" fn coset_canonical_key(
         (λ o. Replies (WritesCanonical o input.now out.old out.new)
         result len.new) }
 {
-    match order_of(order) {
+    match within(order_of(order), input, out) {
         Some(order) => reply(canonical_key(alloc, order, input, out), len),
         None => misused(0, len),
     }

@@ -7,6 +7,7 @@ ghost use Rattle.ffi_c.specs.Numbers.{bytes_if, content_query};
 ghost use Rattle.ffi_c.specs.Replies.{IsMisuse, reply_status, length_of};
 ghost use Rattle.ffi_c.specs.Views.{RepliesMessage, critical_number, texts_len, message_of, message_numbers, no_message};
 
+use crate::lengths::{within, within_numbers};
 use crate::numbers::{bytes_if, content_query};
 use crate::replies::{misused, reply};
 use crate::sign1::{COSET_NONE, algorithm_numbers, number_of_bool, number_of_map, texts_len};
@@ -134,7 +135,8 @@ pub extern "C" fn coset_message(
         (IsMessageView k index external_aad.now d known.now input.now)
         (HasNoView k index external_aad.now d known.now) out.old out.new) result len.new view.new) }
 {
-    match content_query(kind, has_detached, detached) {
+    let query = within(content_query(kind, has_detached, detached), input, out);
+    match within_numbers(within(query, external_aad, detached), known, &[]) {
         Some(kind) => {
             let detached = bytes_if(has_detached, detached);
             let answer = message_view(

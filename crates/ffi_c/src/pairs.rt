@@ -9,6 +9,7 @@ ghost use Rattle.ffi_make.specs.PairsMade.{PutsPairs};
 ghost use Rattle.ffi_c.specs.PairsGiven.{entry_of, label_of, pair_of, pairs_of, pairs_query, part_at};
 ghost use Rattle.ffi_c.specs.Replies.{IsMisuse, Replies};
 
+use crate::lengths::{within, within_pairs};
 use crate::numbers::kind_of;
 use crate::replies::{misused, reply};
 use crate::sign1::{COSET_INT, COSET_TEXT};
@@ -176,7 +177,7 @@ pub extern "C" fn coset_put_all(
         (IsMisuse result len.new 0 × (out.new ≡ out.old))
         (λ q. Replies (PutsPairs q.0 input.now q.1 out.old out.new) result len.new) }
 {
-    match kind_of(kind) {
+    match within_pairs(within(within(kind_of(kind), input, out), bytes, &[]), pairs) {
         Some(kind) => {
             if !are_pairs(pairs, bytes) {
                 return misused(0, len);

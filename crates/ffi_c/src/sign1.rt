@@ -8,6 +8,7 @@ ghost use Rattle.ffi_c.specs.Numbers.{bytes_if, sign1_query};
 ghost use Rattle.ffi_c.specs.Replies.{IsMisuse, reply_status, length_of};
 ghost use Rattle.ffi_c.specs.Views.{RepliesView, algorithm_numbers, texts_len, no_view, number_of_map, view_of, sign1_numbers};
 
+use crate::lengths::within;
 use crate::numbers::{COSET_IN_PROTECTED, COSET_IN_UNPROTECTED, bytes_if, sign1_query};
 use crate::replies::{misused, reply};
 use ffi_query::{Algorithm, KeyIdPlace, MessageView, Refusal, message_view};
@@ -160,7 +161,8 @@ pub extern "C" fn coset_sign1(
         (IsMessageView k 0 external_aad.now d [] input.now) (HasNoView k 0 external_aad.now d [])
         out.old out.new) result len.new view.new) }
 {
-    match sign1_query(kind, has_detached, detached) {
+    let query = within(sign1_query(kind, has_detached, detached), input, out);
+    match within(query, external_aad, detached) {
         Some(kind) => {
             let detached = bytes_if(has_detached, detached);
             let answer = message_view(alloc, kind, input, 0, external_aad, detached, &[], out);

@@ -8,6 +8,7 @@ ghost use Rattle.ffi_c.specs.Numbers.{bytes_if, content_query};
 ghost use Rattle.ffi_c.specs.Replies.{IsMisuse, reply_status, length_of};
 ghost use Rattle.ffi_c.specs.SpansNumbers.{RepliesSpans, length_written, no_spans, spans_of, spans_numbers};
 
+use crate::lengths::{within, within_numbers};
 use crate::message::critical_number;
 use crate::numbers::{bytes_if, content_query};
 use crate::replies::{misused, reply};
@@ -155,7 +156,8 @@ pub extern "C" fn coset_message_spans(
         (IsMessageSpans k index external_aad.now d known.now input.now)
         (HasNoView k index external_aad.now d known.now) out.old out.new) result len.new view.new) }
 {
-    match content_query(kind, has_detached, detached) {
+    let query = within(content_query(kind, has_detached, detached), input, out);
+    match within_numbers(within(query, external_aad, detached), known, &[]) {
         Some(kind) => {
             let detached = bytes_if(has_detached, detached);
             let answer = message_spans(

@@ -8,6 +8,7 @@ ghost use Rattle.ffi_token.specs.Tokens.{AnswersToken};
 ghost use Rattle.ffi_c.specs.Replies.{IsMisuse};
 ghost use Rattle.ffi_c.specs.Tokens.{RepliesToken, algorithm_or_0, authentication_of, claims_number, layer_of, layer_numbers, name_of, no_layer, plain_of, policy_of, reason_number, seconds_if, token_length, token_number, token_status, unassigned_of};
 
+use crate::lengths::{within, within_layers, within_numbers};
 use crate::numbers::{COSET_ENCRYPT0, COSET_MAC0, COSET_SIGN1};
 use crate::replies::{COSET_ABSENT, COSET_MEMORY, COSET_OK, COSET_TYPE, misused, status_number};
 use crate::sign1::{COSET_NONE, number_of_map};
@@ -173,6 +174,8 @@ fn rules_of<'a>(
     if rules.size != RULES_SIZE {
         return None;
     }
+    let lists = within_numbers(Some(()), signatures, macs);
+    within(within_numbers(lists, ciphers, critical), issuer, audience)?;
     let issuer = name_of(rules.has_issuer, issuer)?;
     let audience = name_of(rules.has_audience, audience)?;
     let plain = plain_of(rules.plain)?;
@@ -343,7 +346,7 @@ pub extern "C" fn coset_token_claims(
         result len.new layer.new) }
 {
     let rules = rules_of(rules, signatures, macs, ciphers, critical, issuer, audience);
-    match rules {
+    match within_layers(within(within(rules, input, out), bytes, &[]), opened) {
         Some(rules) => {
             let opened = OpenedLayers {
                 alloc,

@@ -1,5 +1,5 @@
 -- What holds of each kind.
-use Rattle.std.proofs.Common.{◌≡◌, ℕ, List, Result, Ok, Err, subst, sym}
+use Rattle.std.proofs.Common.{◌≡◌, ℕ, List, Result, Ok, Err, refl, subst, sym}
 use Rattle.std.specs.Prelude.{IsErrAnd, MatchResult}
 use Rattle.coset.specs.Item.{Item}
 use Rattle.coset.specs.Grammar.{IsItem}
@@ -51,12 +51,17 @@ follows_of KdfContext P Q h p = h _ _ p
 is_item : (k : kinds.Kind) (b : List ℕ) → IsOf k b → (v : Item) × IsItem b v
 is_item k b = follows_of k (λ A s. (x : A) × Describes s b x) ((v : Item) × IsItem b v) (λ A s p. (p.1.0, p.1.1))
 
+-- bytes that are an item are one of any kind
+pub any_item : (b : List ℕ) (w : Item) → IsItem b w → IsOf Any b
+any_item b w is = (w, (w, is, refl))
+
 -- out of memory refuses any bytes
 pub memory_refuses : (k : kinds.Kind) (b : List ℕ) (e : CoseError) → e ≡ OutOfMemory → IsRefused k b e
 memory_refuses k b e is = holds_of_all k (λ A s. UnlessMemory e (λ f. SliceFaults s b f × DescribesNothing s b)) (λ A s n. absurd (n is))
 
 -- bytes of a kind aren't refused as a whole
-pub not_whole : (k : kinds.Kind) (b : List ℕ) (e : CoseError) → IsOf k b → UnlessMemory e (IsWholeFault b) → (e ≡ OutOfMemory → ⊥) → IsRefused k b e
+pub not_whole :
+    (k : kinds.Kind) (b : List ℕ) (e : CoseError) → IsOf k b → UnlessMemory e (IsWholeFault b) → (e ≡ OutOfMemory → ⊥) → IsRefused k b e
 not_whole k b e is fault other = let i = is_item k b is in absurd ((fault other).1 i.0 i.1)
 
 -- the item of a kind that bytes are, without its tag

@@ -1,22 +1,28 @@
 -- Items that are found to be messages.
-use Rattle.std.proofs.Common.{◌≡◌, ◌∙◌, ℕ, List, Option, Some, None, false, ap, sym, subst, refl}
+use Rattle.std.proofs.Common.{◌≡◌, ◌∙◌, ℕ, List, Option, Some, None, Bool, false, true, true≢false, cond, not, ap, sym, subst, refl}
+use Rattle.std.specs.Prelude.{IfSome}
 use Rattle.coset.specs.Encrypt0.{encrypt0, encrypt0_of}
-use Rattle.coset.specs.Item.{Item, integer, bytes, float, text, boolean, null, tag, array, dict, Items, no_items, item}
+use Rattle.coset.specs.Item.{Item, integer, bytes, float, text, boolean, null, tag, array, dict, Items, item}
 use Rattle.coset.specs.Mac0.{mac0, mac0_of}
 use Rattle.coset.specs.ShapeLaws.{some-none}
 use Rattle.coset.specs.Sign1.{sign1, sign1_of}
-use Rattle.coset.specs.Headers.{HeaderView, ProtectedView, header, protected}
+use Rattle.coset.specs.Headers.{HeaderView, ProtectedView}
 use Rattle.coset.specs.Messages.{with_headers}
-use Rattle.coset.specs.Parts.{as_array, as_bytes}
-use Rattle.coset.specs.Shape.{◌then◌, Shape, bstr, end, is_nil, or_nil}
+use Rattle.coset.specs.Parts.{as_bytes, as_tag}
+use Rattle.coset.specs.PerhapsTagged.{untagged}
+use Rattle.coset.specs.Shape.{◌then◌, Elements, Shape, bstr, end, is_nil, or_nil}
 use Rattle.coset.specs.Answers.{Describes, IsOnlyItem}
 use Rattle.ffi_query.specs.declared.kind.Form as forms
 use Rattle.ffi_query.specs.declared.kind.Form.TheVariants.{Plain, Tagged, Either}
 use Rattle.ffi_query.specs.declared.kind.Kind as kinds
 use Rattle.ffi_query.specs.declared.kind.Kind.TheVariants.{Sign1, Sign, Mac0, Mac, Encrypt0, Encrypt, Signature, Recipient}
 use Rattle.ffi_query.specs.declared.kind.Kind.TheVariants.{Header, Key, KeySet, Claims, Any, KdfContext}
-use Rattle.ffi_query.specs.Fits.{FitsKind, IsInForm}
-use Rattle.ffi_query.specs.Kinds.{HoldsOf, IsOf, in_form}
+use Rattle.ffi_query.specs.declared.three.Three.{Three}
+use Rattle.ffi_query.specs.Fits.{Fits, FitsElements, FitsForm, FitsKind, FitsThree, IsInForm}
+use Rattle.ffi_query.specs.Kinds.{HoldsOf, IsOf, in_form, is_under}
+use Rattle.ffi_query.specs.Located.{elements_left}
+use Rattle.ffi_query.specs.Three.{IsThree}
+use Rattle.ffi_query.proofs.Viewed.{same_number, under_some}
 
 none_is : {A : Type 0} {x : A} → None ≡ Some x → ⊥
 none_is p = some-none refl (sym p)
@@ -33,27 +39,57 @@ not_nil (tag t v) s e = refl
 not_nil (array vs) s e = refl
 not_nil (dict ps) s e = refl
 
--- four places, of which each fits; and three
-module _ (v : Item) (a b c d : Item) where
-  pub four :
-      (vs ws xs ys zs : Items) → Some vs ≡ as_array v → vs ≡ item a ws → ws ≡ item b xs → xs ≡ item c ys → ys ≡ item d zs
-      → zs ≡ no_items
-      → (p : ProtectedView) × protected.describes a p → (u : HeaderView) × header.describes b u
-      → (o : Option (List ℕ)) × (or_nil bstr).describes c o → (s : List ℕ) × bstr.describes d s
-      → (x : ProtectedView × (HeaderView × (Option (List ℕ) × (List ℕ × Unit {0})))) × (with_headers (or_nil bstr then bstr then end)).describes v x
-  four vs ws xs ys zs is e f g h i p u o s =
-      let all : vs ≡ item a (item b (item c (item d no_items))) =
-      e ∙ ap (item a) (f ∙ ap (item b) (g ∙ ap (item c) (h ∙ ap (item d) i))) in
-      ((p.0, (u.0, (o.0, (s.0, tt)))), (_, sym is ∙ ap Some all, (p.1, (u.1, (o.1, (s.1, tt))))))
+-- what an item begins with, and what is behind that
+pub begins :
+    {A : Type 0} (ps : Elements A) (v : Item) (t : Three) (b : Bool) → b ≡ true → IsThree v t → FitsThree t b
+    → (x : A) × ps.describes (elements_left t.behind) x
+    → (x : ProtectedView × (HeaderView × (Option (List ℕ) × A))) × (with_headers (or_nil bstr then ps)).describes v x
+begins ps v t b e is f x =
+    let p = f.0 e in
+    let u = f.1 e in
+    let o = f.2 e in
+    ((p.0, (u.0, (o.0, x.0))), (_, is, (p.1, (u.1, (o.1, x.1)))))
 
-  pub three :
-      (vs ws xs ys : Items) → Some vs ≡ as_array v → vs ≡ item a ws → ws ≡ item b xs → xs ≡ item c ys → ys ≡ no_items
-      → (p : ProtectedView) × protected.describes a p → (u : HeaderView) × header.describes b u
-      → (o : Option (List ℕ)) × (or_nil bstr).describes c o
-      → (x : ProtectedView × (HeaderView × (Option (List ℕ) × Unit {0}))) × (with_headers (or_nil bstr then end)).describes v x
-  three vs ws xs ys is e f g i p u o =
-      let all : vs ≡ item a (item b (item c no_items)) = e ∙ ap (item a) (f ∙ ap (item b) (g ∙ ap (item c) i)) in
-      ((p.0, (u.0, (o.0, tt))), (_, sym is ∙ ap Some all, (p.1, (u.1, (o.1, tt)))))
+-- a byte string, and nothing behind it
+pub one_string :
+    (v : Item) (vs ws : Items) (a b : Bool) → vs ≡ item v ws → a ≡ true → Fits bstr v a → FitsElements end ws b
+    → FitsElements (bstr then end) vs b
+one_string v vs ws a b is e f g =
+    λ t.
+    let s = f e in
+    let x = g t in ((s.0, x.0), subst (λ us. (bstr then end).describes us (s.0, x.0)) (sym is) (s.1, x.1))
+
+-- ---- the form
+
+not_under : (n : ℕ) (v : Item) → is_under n v ≡ false → untagged n v ≡ v
+not_under n (tag t w) e = ap (λ b. cond b w (tag t w)) e
+not_under n (integer z) e = refl
+not_under n (bytes s) e = refl
+not_under n (float x) e = refl
+not_under n (text s) e = refl
+not_under n (boolean b) e = refl
+not_under n null e = refl
+not_under n (array vs) e = refl
+not_under n (dict ps) e = refl
+
+under : (n : ℕ) (v : Item) → is_under n v ≡ true → as_tag v ≡ Some (n, untagged n v)
+under n v e =
+    let u = under_some n v e in
+    let inside = ap (untagged n) u.1 ∙ ap (λ b. cond b u.0 (tag n u.0)) (same_number n) in
+    ap as_tag u.1 ∙ ap (λ x. Some (n, x)) (sym inside)
+
+pub in_plain : (n : ℕ) (v : Item) (t : Bool) → t ≡ is_under n v → not t ≡ true → untagged n v ≡ v
+in_plain n v false is e = not_under n v (sym is)
+in_plain n v true is e = absurd (true≢false (sym e))
+
+pub in_tagged : (n : ℕ) (v : Item) (t : Bool) → t ≡ is_under n v → t ≡ true → as_tag v ≡ Some (n, untagged n v)
+in_tagged n v t is e = under n v (sym is ∙ e)
+
+pub in_form_of :
+    {A : Type 0} (ps : Elements A) (f : forms.Form) (n : ℕ) (v w : Item) → IsInForm f n v (untagged n v) → w ≡ untagged n v
+    → (x : ProtectedView × (HeaderView × A)) × (with_headers ps).describes w x
+    → FitsForm f n ps v w
+in_form_of ps f n v w i e d = (subst (IsInForm f n v) (sym e) i, d)
 
 -- a message in a form
 pub in_its_form :
@@ -65,23 +101,19 @@ in_its_form s Either n v w e d = (d.0, subst (λ u. s.describes u d.0) e d.1)
 
 -- ---- the three kinds
 
-pub fits_sign1 :
-    (k : kinds.Kind) (f : forms.Form) (v w : Item) → k ≡ Sign1 f → IsInForm f 18 v w
-    → (x : ProtectedView × (HeaderView × (Option (List ℕ) × (List ℕ × Unit {0})))) × (with_headers (or_nil bstr then bstr then end)).describes w x
-    → FitsKind k v
-fits_sign1 k f v w e i d = subst (λ j. FitsKind j v) (sym e) (in_its_form sign1 f 18 v w i (sign1_of d.0, d.1))
+-- what follows of an item where something was found
+pub known_by : {P Q : Type 0} (r : Option Three) → (P → Q) → IfSome r (λ t. P) → IfSome r (λ t. Q)
+known_by (Some t) h p = h p
+known_by None h p = p
 
-pub fits_mac0 :
-    (k : kinds.Kind) (f : forms.Form) (v w : Item) → k ≡ Mac0 f → IsInForm f 17 v w
-    → (x : ProtectedView × (HeaderView × (Option (List ℕ) × (List ℕ × Unit {0})))) × (with_headers (or_nil bstr then bstr then end)).describes w x
-    → FitsKind k v
-fits_mac0 k f v w e i d = subst (λ j. FitsKind j v) (sym e) (in_its_form mac0 f 17 v w i (mac0_of d.0, d.1))
+pub fits_sign1 : (k : kinds.Kind) (f : forms.Form) (v w : Item) → k ≡ Sign1 f → FitsForm f 18 (or_nil bstr then bstr then end) v w → FitsKind k v
+fits_sign1 k f v w e d = subst (λ j. FitsKind j v) (sym e) (in_its_form sign1 f 18 v w d.0 (sign1_of d.1.0, d.1.1))
 
-pub fits_encrypt0 :
-    (k : kinds.Kind) (f : forms.Form) (v w : Item) → k ≡ Encrypt0 f → IsInForm f 16 v w
-    → (x : ProtectedView × (HeaderView × (Option (List ℕ) × Unit {0}))) × (with_headers (or_nil bstr then end)).describes w x
-    → FitsKind k v
-fits_encrypt0 k f v w e i d = subst (λ j. FitsKind j v) (sym e) (in_its_form encrypt0 f 16 v w i (encrypt0_of d.0, d.1))
+pub fits_mac0 : (k : kinds.Kind) (f : forms.Form) (v w : Item) → k ≡ Mac0 f → FitsForm f 17 (or_nil bstr then bstr then end) v w → FitsKind k v
+fits_mac0 k f v w e d = subst (λ j. FitsKind j v) (sym e) (in_its_form mac0 f 17 v w d.0 (mac0_of d.1.0, d.1.1))
+
+pub fits_encrypt0 : (k : kinds.Kind) (f : forms.Form) (v w : Item) → k ≡ Encrypt0 f → FitsForm f 16 (or_nil bstr then end) v w → FitsKind k v
+fits_encrypt0 k f v w e d = subst (λ j. FitsKind j v) (sym e) (in_its_form encrypt0 f 16 v w d.0 (encrypt0_of d.1.0, d.1.1))
 
 -- ---- what follows for each shape
 

@@ -5,6 +5,7 @@ pub mod Viewed
 pub mod Known
 pub mod Locating
 pub mod Fitting
+pub mod Finding
 pub mod Naming
 pub mod Lending
 pub mod Spanning

@@ -1,6 +1,9 @@
 -- Values by their places.
-use Rattle.std.proofs.Common.{◌≡◌, List, ℕ, Option, Some, None, Result, Ok, Err, true, refl, subst, sym}
+use Rattle.std.proofs.Common.{◌≡◌, ◌∙◌, ◌++◌, ◌≤◌, List, ℕ, Option, Some, None, Result, Ok, Err, true}
+use Rattle.std.proofs.Common.{ap, drop, length, refl, subst, sym, take}
+use Rattle.std.proofs.lemmas.List.{length-take-le, take-append-drop}
 use Rattle.std.specs.Prelude.{IfSome, MatchResult}
+use Rattle.coset.specs.Grammar.{IsItem}
 use Rattle.coset.specs.Item.{Item}
 use Rattle.coset.specs.Names.{Name}
 use Rattle.ffi_query.specs.declared.kind.Kind as kinds
@@ -10,11 +13,27 @@ use Rattle.ffi_query.specs.declared.located.Located.{Located}
 use Rattle.ffi_query.specs.declared.refusal.Refusal as refusals
 use Rattle.ffi_query.specs.declared.refusal.Refusal.TheVariants.{WrongType}
 use Rattle.ffi_query.specs.Answers.{Finds}
-use Rattle.ffi_query.specs.Elements.{HasNoValueAt, IsProtectedInChunks}
+use Rattle.ffi_query.specs.Elements.{HasNoValueAt, IsItemAt, IsProtectedInChunks}
 use Rattle.ffi_query.specs.Labels.{IsProtected, IsUnder}
 use Rattle.ffi_query.specs.Located.{IsLocated, located_item}
 use Rattle.ffi_query.specs.Parts.{has_headers}
 use Rattle.ffi_query.specs.Places.{bytes_in}
+
+-- the item that begins at that place
+pub item_there :
+    (b : List ℕ) (at : ℕ) (s rest : List ℕ) (w : Item) (n : ℕ) → at ≤ length b → drop at b ≡ s ++ rest → IsItem s w → n ≡ length s
+    → IsItemAt b (record { at = at; len = n }) w
+item_there b at s rest w n le parts is size = record {
+  bytes = s;
+  is_item = is;
+  place = record {
+    before = take at b;
+    behind = rest;
+    parts = sym (take-append-drop at b) ∙ ap (λ x. take at b ++ x) parts;
+    offset = sym (length-take-le at b le);
+  };
+  len = size;
+}
 
 module _ (b : List ℕ) (k : kinds.Kind) where
   in_protected :

@@ -12,11 +12,11 @@ use Rattle.ffi_query.specs.declared.spans.MessageSpans.{MessageSpans}
 use Rattle.ffi_query.specs.declared.spans.Start.{Start}
 use Rattle.ffi_query.specs.declared.view.MessageView.{MessageView}
 use Rattle.ffi_query.specs.Answers.{AnswersWith, PutsTexts}
-use Rattle.ffi_query.specs.Kinds.{tag_of}
+use Rattle.ffi_query.specs.Kinds.{TellsTagOf, tag_of}
 use Rattle.ffi_query.specs.Lent.{IsLent, IsLentOf, Says}
 use Rattle.ffi_query.specs.Located.{AreLocated}
 use Rattle.ffi_query.specs.Spans.{AreLentSpans, IsAt, IsMessageSpans, IsStart, copied, copied_spans}
-use Rattle.ffi_query.specs.View.{IsMessageView, TellsTagOf}
+use Rattle.ffi_query.specs.View.{IsMessageView}
 use Rattle.ffi_query.proofs.EachKind.{memory_refuses}
 
 -- where a text of the input begins

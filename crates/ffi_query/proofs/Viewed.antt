@@ -1,6 +1,6 @@
 -- What is said of a message.
 use Rattle.std.proofs.Common.{◌≡◌, ◌∙◌, ◌++◌, ◌==◌, ℕ, ℤ, List, Option, Some, None, Result}
-use Rattle.std.proofs.Common.{IfSome, Ok, Err, Bool, true, false, ap, ap₂, sym, subst, arith, true≢false}
+use Rattle.std.proofs.Common.{Ok, Err, Bool, true, false, ap, ap₂, sym, subst, arith, true≢false}
 use Rattle.std.proofs.lemmas.Bool.{eqb-true}
 use Rattle.coset.specs.Item.{Item, integer, bytes, float, text, boolean, null, tag, array, dict}
 use Rattle.coset.specs.Grammar.{IsItem}
@@ -14,18 +14,18 @@ use Rattle.ffi_query.specs.declared.view.MessageView.{MessageView}
 use Rattle.ffi_query.specs.declared.refusal.Refusal as refusals
 use Rattle.ffi_query.specs.declared.refusal.Refusal.TheVariants.{Short, Absent, WrongType, Empty, Misuse, Cose}
 use Rattle.ffi_query.specs.Answers.{AnswersWith, PutsTexts, PutsWith}
-use Rattle.ffi_query.specs.Kinds.{IsItemOf, is_under, tag_of}
+use Rattle.ffi_query.specs.Kinds.{IsItemOf, TellsTag, TellsTagOf, is_under, is_under_some}
 use Rattle.ffi_query.specs.Labels.{IsUnder}
-use Rattle.ffi_query.specs.Lent.{IsLent, IsLentOf, lent_text}
-use Rattle.ffi_query.specs.View.{HasAlgorithm, IsAlgorithm, IsMessageView, IsViewOf, TellsTag, TellsTagOf, alg_label, is_under_some, is_under_tag}
+use Rattle.ffi_query.specs.Lent.{IsLentOf, lent_text}
+use Rattle.ffi_query.specs.View.{HasAlgorithm, IsAlgorithm, IsMessageView, IsViewOf, alg_label}
 use Rattle.ffi_query.proofs.EachKind.{memory_refuses}
 
 -- ---- the tag
 
-same_number : (n : ℕ) → (n == n) ≡ true
+pub same_number : (n : ℕ) → (n == n) ≡ true
 same_number n = grind arith
 
-under_some : (n : ℕ) (w : Item) → is_under n w ≡ true → (u : Item) × (w ≡ tag n u)
+pub under_some : (n : ℕ) (w : Item) → is_under n w ≡ true → (u : Item) × (w ≡ tag n u)
 under_some n (tag t v) e = (v, ap (λ m. tag m v) (eqb-true t n e))
 under_some n (integer z) e = absurd (true≢false (sym e))
 under_some n (bytes s) e = absurd (true≢false (sym e))
@@ -68,19 +68,6 @@ viewed k b old new P Q v n t (Err WrongType) i p w = absurd w
 viewed k b old new P Q v n t (Err Empty) i p w = absurd w
 viewed k b old new P Q v n t (Err Misuse) i p w = absurd w
 viewed k b old new P Q v n t (Err (Cose e)) i p w = absurd w
-
--- what is lent of an item, which the bytes are
-pub lent_of :
-    (k : kinds.Kind) (i : ℕ) (aad : List ℕ) (d : Option (List ℕ)) (ns : List ℤ) (b : List ℕ) (w v : Item) (t : Bool) (o : Option declared.Lent)
-    → IsItemOf k b v → IsOnlyItem b w → IfSome o (IsLent k i aad d ns b v) → IfSome o (λ x. x.view.is_tagged ≡ t)
-    → t ≡ is_under_tag k w → IfSome o (IsLentOf k i aad d ns b)
-lent_of k i aad d ns b w v t None is only l g e = tt
-lent_of k i aad d ns b w v t (Some x) is only l g e = record {
-  item = v;
-  is_item = is;
-  lent = l;
-  is_tagged = tells_tag_of (tag_of k) b w x.view.is_tagged only (g ∙ e);
-}
 
 module _
     (k : kinds.Kind) (i : ℕ) (aad : List ℕ) (d : Option (List ℕ)) (ns : List ℤ) (b old new : List ℕ) (Q : Item → refusals.Refusal → Type 0)

@@ -1,14 +1,16 @@
 -- Where elements of arrays, pairs of maps and what strings hold are in the input b.
-use Rattle.std.specs.Prelude.{◌≡◌, ℕ, ℤ, List, length, Some, None, false, true}
+use Rattle.std.specs.Prelude.{◌≡◌, ◌<◌, ℕ, ℤ, List, drop, length, Some, None, false, true, Result, Ok, Err}
+use Rattle.coset.specs.Answers.{IsByteFault}
 use Rattle.coset.specs.Grammar.{IsItem}
 use Rattle.coset.specs.Item.{Item}
 use Rattle.coset.specs.Names.{Name}
+use Rattle.coset_cbor.specs.Fronts.{HasNoItem}
 use Rattle.ffi_query.specs.declared.elements.Span.{Span}
 use Rattle.ffi_query.specs.declared.kind.Kind as kinds
 use Rattle.ffi_query.specs.declared.label.Map as maps
 use Rattle.ffi_query.specs.declared.label.Map.TheVariants as of
 use Rattle.ffi_query.specs.declared.refusal.Refusal as refusals
-use Rattle.ffi_query.specs.declared.refusal.Refusal.TheVariants.{Absent, WrongType}
+use Rattle.ffi_query.specs.declared.refusal.Refusal.TheVariants.{Absent, Cose, WrongType}
 use Rattle.ffi_query.specs.Labels.{IsNumber, IsUnder}
 use Rattle.ffi_query.specs.Located.{IsNoContent, opens_chunks}
 use Rattle.ffi_query.specs.Pairs.{pair_in}
@@ -21,6 +23,14 @@ pub record IsItemAt (b : List ℕ) (p : Span) (w : Item) : Type 0 where
   pub is_item : IsItem bytes w
   pub place : IsAt b p.at bytes
   pub len : p.len ≡ length bytes
+
+-- What `item_span` returns of the bytes b: where the item is that begins at that place; or that they are fewer; or a fault, and
+-- no item begins there
+abbrev pub AnswersItem : List ℕ → ℕ → Result Span refusals.Refusal → Type 0
+AnswersItem b at (Ok p) = (w : Item) × (p.at ≡ at) × IsItemAt b p w
+AnswersItem b at (Err Absent) = length b < at
+AnswersItem b at (Err (Cose e)) = IsByteFault (drop at b) e × HasNoItem (drop at b)
+AnswersItem b at (Err r) = ⊥
 
 -- there is the element of that index of the item v of that kind, and it is there
 abbrev pub IsMemberAt : List ℕ → kinds.Kind → ℕ → Item → Span → Type 0

@@ -1,9 +1,9 @@
 -- Kinds of items, and which bytes are an item of one.
-use Rattle.std.specs.Prelude.{◌≡◌, ◌==◌, ℕ, List, Option, Some, None, Bool, false, Result, Ok, Err}
+use Rattle.std.specs.Prelude.{◌≡◌, ◌==◌, ℕ, List, Option, Some, None, Bool, false, true, Result, Ok, Err}
 use Rattle.coset.specs.Item.{Item, tag}
 use Rattle.coset.specs.Grammar.{IsItem}
 use Rattle.coset.specs.CoseError.{CoseError}
-use Rattle.coset.specs.Answers.{Describes, DescribesNothing, IsOnlyItem, SliceFaults}
+use Rattle.coset.specs.Answers.{Describes, DescribesNothing, SliceFaults}
 use Rattle.coset.specs.Errors.{UnlessMemory}
 use Rattle.coset.specs.Shape.{Shape, any, tagged}
 use Rattle.coset.specs.PerhapsTagged.{perhaps_tagged, untagged}
@@ -65,14 +65,29 @@ IsOf k b = HoldsOf k (λ A s. (x : A) × Describes s b x)
 abbrev pub IsRefused : kinds.Kind → List ℕ → CoseError → Type 0
 IsRefused k b e = HoldsOf k (λ A s. UnlessMemory e (λ f. SliceFaults s b f × DescribesNothing s b))
 
--- the bytes are an item of that kind: the item w, and no other
-abbrev pub IsWholeOf : kinds.Kind → List ℕ → Item → Type 0
-IsWholeOf k b w = IsOnlyItem b w × IsOf k b
-
 -- the item is a tag of that number
 abbrev pub is_under : ℕ → Item → Bool
 is_under n (tag t v) = t == n
 is_under n v = false
+
+-- the item is under the tag of that number, where there is a number
+abbrev pub is_under_some : Option ℕ → Item → Bool
+is_under_some None w = false
+is_under_some (Some n) w = is_under n w
+
+-- the bytes are an item under a tag of that number
+abbrev pub IsTagged : ℕ → List ℕ → Type 0
+IsTagged n b = (w : Item) × IsItem b (tag n w)
+
+-- whether they are
+abbrev pub TellsTag : ℕ → List ℕ → Bool → Type 0
+TellsTag n b true = IsTagged n b
+TellsTag n b false = IsTagged n b → ⊥
+
+-- whether they are under the tag that a message may be under
+abbrev pub TellsTagOf : Option ℕ → List ℕ → Bool → Type 0
+TellsTagOf None b x = x ≡ false
+TellsTagOf (Some n) b x = TellsTag n b x
 
 -- the number of the tag that a message may be under (RFC 8152, section 2, table 1)
 abbrev pub tag_of : kinds.Kind → Option ℕ

@@ -11,7 +11,6 @@ use Rattle.ffi_query.specs.declared.kind.Kind.TheVariants.{Sign1, Mac0, Mac, Enc
 use Rattle.ffi_query.specs.declared.lent.Headers.{Headers}
 use Rattle.ffi_query.specs.declared.lent.Lent as declared
 use Rattle.ffi_query.specs.declared.lent.Texts.{Texts}
-use Rattle.ffi_query.specs.declared.lent.Three.{Three}
 use Rattle.ffi_query.specs.declared.located.Located.{Located}
 use Rattle.ffi_query.specs.declared.located.Text.{Text}
 use Rattle.ffi_query.specs.declared.named.Named.{Named}
@@ -22,12 +21,12 @@ use Rattle.ffi_query.specs.declared.view.KeyIdPlace.TheVariants as found
 use Rattle.ffi_query.specs.declared.view.MessageView.{MessageView}
 use Rattle.ffi_query.specs.Answers.{Finds}
 use Rattle.ffi_query.specs.Critical.{crit_label}
-use Rattle.ffi_query.specs.Kinds.{IsItemOf, tag_of}
+use Rattle.ffi_query.specs.Kinds.{IsItemOf, TellsTagOf, tag_of}
 use Rattle.ffi_query.specs.Labels.{IsNumber, IsProtected, unprotected_value}
-use Rattle.ffi_query.specs.Located.{AreElementsIn, IsLocated, IsTextIn, elements_left, located_item}
+use Rattle.ffi_query.specs.Located.{IsLocated, IsTextIn, located_item}
 use Rattle.ffi_query.specs.Places.{bytes_in, element}
 use Rattle.ffi_query.specs.Structures.{content_at, structure_of_one, structure_of_two}
-use Rattle.ffi_query.specs.View.{IsViewOf, TellsTagOf, alg_label, kid_label, proof_in}
+use Rattle.ffi_query.specs.View.{IsViewOf, alg_label, kid_label, proof_in}
 
 -- the bytes are one item, which this is, or none
 abbrev pub IsMapOf : List ℕ → Option Located → Type 0
@@ -37,16 +36,6 @@ IsMapOf p (Some l) = IsOnlyItem p (located_item l)
 -- the elements are those behind the third of the array v
 abbrev pub IsBehindThree : Item → Items → Type 0
 IsBehindThree v es = (x : Item) × (y : Item) × (z : Item) × (as_array v ≡ Some (item x (item y (item z es))))
-
--- the array v begins with three elements, and the others are behind them; all are in b
-pub record AreThree (b : List ℕ) (v : Item) (t : Three) : Type 0 where
-  pub array :
-      as_array v
-      ≡ Some (item (located_item t.protected) (item (located_item t.unprotected) (item (located_item t.content) (elements_left t.behind))))
-  pub protected_in : IsLocated b t.protected
-  pub unprotected_in : IsLocated b t.unprotected
-  pub content_in : IsLocated b t.content
-  pub behind_in : AreElementsIn b t.behind
 
 -- the headers are those of the item v
 pub record AreHeaders (b : List ℕ) (v : Item) (h : Headers) : Type 0 where

@@ -12,7 +12,9 @@ pub mod Countersigns
 pub mod Critical
 pub mod View
 pub mod Located
+pub mod Three
 pub mod Fits
+pub mod Found
 pub mod Lent
 pub mod Spans
 pub mod Elements

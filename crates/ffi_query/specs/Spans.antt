@@ -7,9 +7,9 @@ use Rattle.ffi_query.specs.declared.refusal.Refusal as refusals
 use Rattle.ffi_query.specs.declared.spans.MessageSpans.{MessageSpans}
 use Rattle.ffi_query.specs.declared.spans.Start.{Start}
 use Rattle.ffi_query.specs.declared.view.MessageView.{MessageView}
-use Rattle.ffi_query.specs.Kinds.{tag_of}
+use Rattle.ffi_query.specs.Kinds.{TellsTagOf, tag_of}
 use Rattle.ffi_query.specs.Located.{IsTextIn}
-use Rattle.ffi_query.specs.View.{IsViewOf, TellsTagOf}
+use Rattle.ffi_query.specs.View.{IsViewOf}
 
 -- s is in b, from that offset on
 pub record IsAt (b : List ℕ) (at : ℕ) (s : List ℕ) : Type 0 where

@@ -1,7 +1,6 @@
 -- What one call says of a message (RFC 8152, sections 3.1 and 4 to 6).
-use Rattle.std.specs.Prelude.{◌≡◌, ◌⊎◌, ℕ, ℤ, pos, List, [], ◌++◌, length, Option, Some, None, Bool, true, false}
-use Rattle.coset.specs.Item.{Item, tag}
-use Rattle.coset.specs.Grammar.{IsItem}
+use Rattle.std.specs.Prelude.{◌≡◌, ◌⊎◌, ℕ, ℤ, pos, List, [], ◌++◌, length, Option, Some, None, true, false}
+use Rattle.coset.specs.Item.{Item}
 use Rattle.coset.specs.Names.{Name, number}
 use Rattle.ffi_query.specs.declared.kind.Kind as kinds
 use Rattle.ffi_query.specs.declared.kind.Kind.TheVariants.{Sign, Encrypt0, Encrypt, Signature}
@@ -17,7 +16,7 @@ use Rattle.ffi_query.specs.declared.view.KeyIdPlace as places
 use Rattle.ffi_query.specs.declared.view.KeyIdPlace.TheVariants as found
 use Rattle.ffi_query.specs.declared.view.MessageView.{MessageView}
 use Rattle.ffi_query.specs.Critical.{IsCriticalOf}
-use Rattle.ffi_query.specs.Kinds.{is_under, tag_of}
+use Rattle.ffi_query.specs.Kinds.{TellsTagOf, tag_of}
 use Rattle.ffi_query.specs.Labels.{IsNumber, IsNumberOf, IsStringOf, IsUnder}
 use Rattle.ffi_query.specs.Parts.{IsPart, place_of}
 use Rattle.ffi_query.specs.Places.{bytes_in, member_at}
@@ -80,28 +79,6 @@ content_part k = Payload
 -- t is the content that the item v carries; or it carries none, and t is empty
 abbrev pub IsContent : kinds.Kind → Item → List ℕ → Type 0
 IsContent k v t = IsPart k (content_part k) v t ⊎ (((s : List ℕ) → IsPart k (content_part k) v s → ⊥) × (t ≡ []))
-
--- the item is under the tag of that kind
-abbrev pub is_under_some : Option ℕ → Item → Bool
-is_under_some None w = false
-is_under_some (Some n) w = is_under n w
-
-abbrev pub is_under_tag : kinds.Kind → Item → Bool
-is_under_tag k w = is_under_some (tag_of k) w
-
--- the bytes are an item under a tag of that number
-abbrev pub IsTagged : ℕ → List ℕ → Type 0
-IsTagged n b = (w : Item) × IsItem b (tag n w)
-
--- whether they are
-abbrev pub TellsTag : ℕ → List ℕ → Bool → Type 0
-TellsTag n b true = IsTagged n b
-TellsTag n b false = IsTagged n b → ⊥
-
--- whether they are under the tag that a message may be under
-abbrev pub TellsTagOf : Option ℕ → List ℕ → Bool → Type 0
-TellsTagOf None b x = x ≡ false
-TellsTagOf (Some n) b x = TellsTag n b x
 
 -- what is said of the item v of that kind by n, and by the text t, which is four, one behind the other: what is signed of it (by
 -- the signer of that index), authenticated, or goes with its ciphertext, over external_aad and, where it is detached, the

@@ -6,21 +6,24 @@ ghost use Rattle.coset.specs.Names.{number};
 ghost use Rattle.ffi_query.specs.Answers.{AnswersNumber, Finds};
 ghost use Rattle.ffi_query.specs.declared.kind.Kind.TheVariants.{Any};
 ghost use Rattle.ffi_query.specs.declared.refusal.Refusal.TheVariants.{WrongType};
-ghost use Rattle.ffi_query.specs.Elements.{ArePairAt, HasNoContent, HasNoInteger, HasNoMember, HasNoPair, HasNoValueAt, IsItemAt, IsMemberAt, IsProtectedInChunks, IsStringAt, IsValueAt};
+ghost use Rattle.ffi_query.specs.Elements.{AnswersItem, ArePairAt, HasNoContent, HasNoInteger, HasNoMember, HasNoPair, HasNoValueAt, IsItemAt, IsMemberAt, IsProtectedInChunks, IsStringAt, IsValueAt};
 ghost use Rattle.ffi_query.specs.Labels.{IsNumber, IsProtected, IsUnder, unprotected_value};
 ghost use Rattle.ffi_query.specs.Located.{IsLocated, IsTextIn, located_item};
 ghost use Rattle.ffi_query.specs.Places.{bytes_in};
 ghost use Rattle.ffi_query.specs.Spans.{IsAt};
 
-use crate::item::{item_located, item_of, whole_of};
+use crate::found::whole_of;
+use crate::item::{item_located, item_of};
 use crate::kind::Kind;
 use crate::label::Map;
 use crate::lent::{map_located, number_of};
 use crate::located::{
-    Located, Text, bytes_located, element_located, member_located, opens_chunks, pair_located,
-    string_located, value_located,
+    Located, Text, after, bytes_located, element_located, member_located, opens_chunks,
+    pair_located, string_located, value_located,
 };
 use crate::refusal::Refusal;
+use coset::CoseError;
+use coset::cbor::de::Pull;
 use std::alloc::Global;
 
 /// A part of the input: `coset_span` of `include/coset.h`.
@@ -195,6 +198,26 @@ pub(crate) fn text_span(text: Text<'_>, input: &[u8]) -> Span
     Span {
         at: input.len().saturating_sub(text.rest.len()),
         len: text.bytes.len(),
+    }
+}
+
+/// Where the item is that begins so many bytes behind the first: as it was received. Its end is where the next element of an
+/// array begins, or the next key or value of a map; so all of them are found in one walk.
+///
+/// # Errors
+/// `Absent` where there are fewer bytes; `Cose` why no item begins there.
+pub fn item_span(bytes: &[u8], at: usize) -> Result<Span, Refusal>
+    ensures { AnswersItem bytes.now at result }
+{
+    if at > bytes.len() {
+        return Err(Refusal::Absent);
+    }
+    match Pull::new(after(bytes, at)) {
+        Ok((item, _)) => Ok(Span {
+            at,
+            len: item.slice().len(),
+        }),
+        Err(error) => Err(Refusal::Cose(CoseError::from(error))),
     }
 }
 

@@ -2,70 +2,41 @@
 
 ghost use Rattle.std.specs.Prelude.{◌≡◌, option_map, IfOk, IfErr, MatchResult};
 ghost use Rattle.coset.specs.CoseError.TheVariants.{OutOfMemory};
-ghost use Rattle.coset.specs.Pulls.{pull_bytes, pull_item};
+ghost use Rattle.coset.specs.Pulls.{pull_item};
 ghost use Rattle.coset.specs.Shortest.{IsShortest};
 ghost use Rattle.coset.specs.View.{value_item};
-ghost use Rattle.ffi_query.specs.Kinds.{IsItemOf, IsRefused, IsWholeOf, is_under};
+ghost use Rattle.ffi_query.specs.Kinds.{IsItemOf, IsRefused};
 ghost use Rattle.ffi_query.specs.Located.{IsLocated, located_item};
 ghost use Rattle.ffi_query.specs.Places.{bytes_in, element, member_at};
 
-use crate::fits::fits;
-use crate::kind::{Kind, check};
-use crate::located::{Located, alone, element_located, member_located, without_tag_located};
+use crate::found::find_item;
+use crate::kind::Kind;
+use crate::located::{Located, alone, element_located, member_located};
 use coset::Result;
 use coset::cbor::de::Pull;
 use coset::cbor::ser::write_value;
 use coset::cbor::value::Value;
-use coset_codec::traits::whole_item;
 use std::alloc::Global;
-
-/// Whether the item is a tag of that number.
-pub(crate) fn is_under(number: u64, item: Pull<'_>) -> bool
-    ensures { result ≡ is_under number (pull_item item.entry) }
-{
-    match item.tag() {
-        Some((found, _)) => found == number,
-        None => false,
-    }
-}
-
-/// The item of that kind that the bytes are, with the tag that a message may be under. Whether it is one is found without a
-/// copy of its content, where it can be; else, and for the fault of what is none, it is read whole.
-///
-/// # Errors
-/// The same as [`check`].
-pub(crate) fn whole_of(alloc: Global, kind: Kind, bytes: &[u8]) -> Result<Pull<'_>>
-    ensures whole { MatchResult result (λ item. IsWholeOf kind bytes.now (pull_item item)) (λ e.
-        IsRefused kind bytes.now e) }
-    ensures bytes { IfOk result (λ item. pull_bytes item ≡ bytes.now) }
-{
-    if let Ok(whole) = whole_item(bytes) {
-        if fits(alloc, kind, whole) {
-            return Ok(whole);
-        }
-    }
-    check(alloc, kind, bytes)?;
-    Ok(whole_item(bytes)?)
-}
 
 /// The item of that kind that the bytes are, without the tag that a message may be under, and where it is in them.
 ///
 /// # Errors
-/// The same as [`check`].
+/// The same as [`check`](crate::check).
 pub(crate) fn item_located(alloc: Global, kind: Kind, bytes: &[u8]) -> Result<Located<'_>>
     ensures { MatchResult result
         (λ l. IsItemOf kind bytes.now (located_item l) × IsLocated bytes.now l)
         (λ e. IsRefused kind bytes.now e) }
 {
-    let item = whole_of(alloc, kind, bytes)?;
-    let whole = Located { item, rest: bytes };
-    Ok(without_tag_located(kind.tag(), whole))
+    match find_item(alloc, kind, bytes) {
+        Ok(found) => Ok(found.item),
+        Err(error) => Err(error),
+    }
 }
 
 /// The item of that kind that the bytes are, without the tag that a message may be under.
 ///
 /// # Errors
-/// The same as [`check`].
+/// The same as [`check`](crate::check).
 pub(crate) fn item_of(alloc: Global, kind: Kind, bytes: &[u8]) -> Result<Pull<'_>>
     ensures { MatchResult result (λ item. IsItemOf kind bytes.now (pull_item item)) (λ e.
         IsRefused kind bytes.now e) }

@@ -11,14 +11,16 @@ ghost use Rattle.coset.specs.Structure.{structure};
 ghost use Rattle.coset_cbor.specs.Least.{least_head};
 ghost use Rattle.ffi_query.specs.Answers.{Finds, IsEncodingOf};
 ghost use Rattle.ffi_query.specs.Labels.{IsNumber, IsProtected, unprotected_value};
-ghost use Rattle.ffi_query.specs.Lent.{AreHeaders, AreNamed, AreTexts, AreThree, HasNoCritical, IsBehindThree, IsCarried, IsEmptyIn, IsLent, IsMapOf, KnowsAlgorithm, KnowsKeyId, structure_by};
+ghost use Rattle.ffi_query.specs.Found.{IsFound};
+ghost use Rattle.ffi_query.specs.Lent.{AreHeaders, AreNamed, AreTexts, HasNoCritical, IsBehindThree, IsCarried, IsEmptyIn, IsLentOf, IsMapOf, KnowsAlgorithm, KnowsKeyId, structure_by};
 ghost use Rattle.ffi_query.specs.Located.{AreElementsIn, IsLocated, IsTextIn, elements_left, located_item};
 ghost use Rattle.ffi_query.specs.Places.{bytes_in, element};
 ghost use Rattle.ffi_query.specs.Structures.{content_at, structure_of_one, structure_of_two};
 ghost use Rattle.ffi_query.specs.View.{IsAlgorithm, proof_in};
 
+use crate::found::Found;
 use crate::kind::Kind;
-use crate::located::{Elements, Located, Text, bytes_located, elements_located, next_located};
+use crate::located::{Elements, Located, Text, bytes_located, next_located};
 use crate::named::{Named, named_in, nothing_named};
 use crate::part::Part;
 use crate::view::{Algorithm, KeyIdPlace, MessageView};
@@ -35,15 +37,6 @@ struct Headers<'a> {
     protected: Text<'a>,
     map: Option<Located<'a>>,
     unprotected: Located<'a>,
-}
-
-/// What an item begins with: its headers, its content, and what is behind them.
-#[derive(Clone, Copy)]
-struct Three<'a> {
-    protected: Located<'a>,
-    unprotected: Located<'a>,
-    content: Located<'a>,
-    behind: Elements<'a>,
 }
 
 /// The identifier of a key, and where it is.
@@ -82,23 +75,6 @@ pub(crate) fn map_located(protected: Text<'_>) -> Option<Located<'_>>
         }),
         Err(_) => None,
     }
-}
-
-/// The first three elements of an array, and those behind them.
-fn three_of(item: Located<'_>) -> Option<Three<'_>>
-    ensures { (b : List ℕ) → IsLocated b item.entry
-        → IfSome result (AreThree b (located_item item.entry)) }
-{
-    let elements = elements_located(item)?;
-    let (protected, elements) = next_located(elements)?;
-    let (unprotected, elements) = next_located(elements)?;
-    let (content, behind) = next_located(elements)?;
-    Some(Three {
-        protected,
-        unprotected,
-        content,
-        behind,
-    })
 }
 
 /// The headers of an item that begins with these two elements.
@@ -228,10 +204,15 @@ fn carried<'a>(place: Located<'a>, nothing: Text<'a>) -> Option<Text<'a>>
     ensures { (b : List ℕ) → IsLocated b place.entry → IsEmptyIn b nothing.entry
         → IfSome result (λ t. IsCarried (located_item place.entry) t.bytes.now × IsTextIn b t) }
 {
-    if place.item.is_null() {
-        return Some(nothing);
+    match bytes_located(place) {
+        Some(text) => Some(text),
+        None => {
+            if place.item.is_null() {
+                return Some(nothing);
+            }
+            None
+        }
     }
-    bytes_located(place)
 }
 
 /// The content that is signed or authenticated: what the message carries, or else what is given where the place is `nil`.
@@ -417,12 +398,14 @@ struct Texts<'a> {
 }
 
 /// The texts of an item of that kind, where each is a part of the input, and no labels are critical.
-fn texts_of<'a>(kind: Kind, item: Located<'a>, detached: Option<&'a [u8]>) -> Option<Texts<'a>>
-    ensures { (b : List ℕ) → IsLocated b item.entry → IfSome result
-        (AreTexts kind (option_copied detached.entry) b (located_item item.entry)) }
+fn texts_of<'a>(kind: Kind, found: &Found<'a>, detached: Option<&'a [u8]>) -> Option<Texts<'a>>
+    ensures { (b : List ℕ) → IsFound kind b found.now → IfSome result
+        (AreTexts kind (option_copied detached.entry) b (located_item found.now.item)) }
 {
-    let nothing = nothing_at(item.rest);
-    let three = three_of(item)?;
+    let nothing = nothing_at(found.item.rest);
+    let Some(three) = found.three else {
+        return None;
+    };
     let headers = headers_of(three.protected, three.unprotected)?;
     let protected = protected_named(headers);
     let unprotected = unprotected_named(headers);
@@ -441,31 +424,28 @@ fn texts_of<'a>(kind: Kind, item: Located<'a>, detached: Option<&'a [u8]>) -> Op
     })
 }
 
-/// What is said of an item of that kind, with whether it is under its tag as it is given, where all of it is a part of the
-/// input.
+/// What is said of an item of that kind, where all of it is a part of the input.
 ///
 /// # Errors
 /// `OutOfMemory` alone.
 pub(crate) fn find_lent<'a>(
     alloc: Global,
     kind: Kind,
-    item: Located<'a>,
+    found: &Found<'a>,
     external_aad: &[u8],
     detached: Option<&'a [u8]>,
-    is_tagged: bool,
 ) -> Result<Option<Lent<'a>>>
-    ensures lent { (b : List ℕ) (i : ℕ) (ns : List ℤ) → IsLocated b item.entry
-        → IfOk result (λ o. IfSome o (IsLent kind i external_aad.now
-        (option_copied detached.entry) ns b (located_item item.entry))) }
-    ensures tag { IfOk result (λ o. IfSome o (λ x. x.view.is_tagged ≡ is_tagged)) }
+    ensures lent { (b : List ℕ) (i : ℕ) (ns : List ℤ) → IsFound kind b found.now
+        → IfOk result (λ o. IfSome o (IsLentOf kind i external_aad.now
+        (option_copied detached.entry) ns b)) }
     ensures memory { IfErr result (λ e. e ≡ OutOfMemory) }
 {
-    let Some(texts) = texts_of(kind, item, detached) else {
+    let Some(texts) = texts_of(kind, found, detached) else {
         return Ok(None);
     };
     let protected = texts.protected.bytes;
-    let found = structure_lent(alloc, kind, protected, external_aad, texts.signed)?;
-    let Some(structure) = found else {
+    let structure = structure_lent(alloc, kind, protected, external_aad, texts.signed)?;
+    let Some(structure) = structure else {
         return Ok(None);
     };
     let Some(structure_len) = length_of(&structure.front, structure.end) else {
@@ -481,7 +461,7 @@ pub(crate) fn find_lent<'a>(
         key_id_place: texts.key_id.place,
         has_critical: false,
         is_understood: true,
-        is_tagged,
+        is_tagged: found.is_tagged,
         structure_len,
         proof_len,
         content_len,

@@ -7,7 +7,7 @@ ghost use Rattle.coset.specs.Item.{item, no_items};
 ghost use Rattle.coset.specs.Names.{number};
 ghost use Rattle.coset.specs.Parts.{as_array, as_bytes, as_map};
 ghost use Rattle.coset.specs.Pulls.{pull_bytes, pull_item};
-ghost use Rattle.ffi_query.specs.Kinds.{without_tag};
+ghost use Rattle.ffi_query.specs.Kinds.{is_under, is_under_some, without_tag};
 ghost use Rattle.ffi_query.specs.Labels.{first_value, is_label, is_same, value_under};
 ghost use Rattle.ffi_query.specs.Located.{AreElementsIn, AreEntriesIn, AreLocated, IsContentOf, IsLocated, IsNoContent, IsNoString, IsTextIn, elements_left, entries_left, head_len, located_item, opens_chunks};
 ghost use Rattle.ffi_query.specs.Pairs.{nth_pair, pair_in};
@@ -68,31 +68,31 @@ fn head_len(bytes: &[u8]) -> usize
     }
 }
 
-/// What a tag of that number encloses, and any other item as it is.
-fn untagged_located(number: u64, whole: Located<'_>) -> Located<'_>
-    ensures item { located_item result ≡ without_tag (Some number) (located_item whole.entry) }
-    ensures place { (b : List ℕ) → IsLocated b whole.entry → IsLocated b result }
+/// What a tag of that number encloses, and any other item as it is; and whether it is under that tag.
+fn untagged_located(number: u64, whole: Located<'_>) -> (Located<'_>, bool)
+    ensures item { located_item result.0 ≡ without_tag (Some number) (located_item whole.entry) }
+    ensures tag { result.1 ≡ is_under number (located_item whole.entry) }
+    ensures place { (b : List ℕ) → IsLocated b whole.entry → IsLocated b result.0 }
 {
     match whole.item.tag() {
-        Some((found, inner)) if found == number => Located {
-            item: inner,
-            rest: after(
-                whole.rest,
-                whole.item.slice().len().saturating_sub(inner.slice().len()),
-            ),
-        },
-        _ => whole,
+        Some((found, inner)) if found == number => {
+            let head = whole.item.slice().len().saturating_sub(inner.slice().len());
+            let rest = after(whole.rest, head);
+            (Located { item: inner, rest }, true)
+        }
+        _ => (whole, false),
     }
 }
 
-/// The item without the tag of that number, where there is a number.
-pub(crate) fn without_tag_located(number: Option<u64>, whole: Located<'_>) -> Located<'_>
-    ensures item { located_item result ≡ without_tag number (located_item whole.entry) }
-    ensures place { (b : List ℕ) → IsLocated b whole.entry → IsLocated b result }
+/// The item without the tag of that number, where there is a number, and whether it is under that tag.
+pub(crate) fn without_tag_located(number: Option<u64>, whole: Located<'_>) -> (Located<'_>, bool)
+    ensures item { located_item result.0 ≡ without_tag number (located_item whole.entry) }
+    ensures tag { result.1 ≡ is_under_some number (located_item whole.entry) }
+    ensures place { (b : List ℕ) → IsLocated b whole.entry → IsLocated b result.0 }
 {
     match number {
         Some(number) => untagged_located(number, whole),
-        None => whole,
+        None => (whole, false),
     }
 }
 

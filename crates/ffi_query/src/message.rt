@@ -1,59 +1,18 @@
 //! All that verifying or decrypting a message takes (RFC 8152, sections 4 to 6), in one call.
 
-ghost use Rattle.std.specs.Prelude.{List, ℕ, ℤ, ◌++◌, length, IfErr, IfOk, IfSome};
+ghost use Rattle.std.specs.Prelude.{◌++◌, length};
 ghost use Rattle.std.specs.Option.{option_copied};
-ghost use Rattle.coset.specs.Pulls.{pull_item};
 ghost use Rattle.ffi_query.specs.Answers.{AnswersWith, PutsTexts};
-ghost use Rattle.ffi_query.specs.Kinds.{IsRefused, IsWholeOf};
-ghost use Rattle.ffi_query.specs.Lent.{IsLentOf, lent_text};
+ghost use Rattle.ffi_query.specs.Lent.{lent_text};
 ghost use Rattle.ffi_query.specs.View.{HasNoView, IsMessageView};
 
-use crate::item::whole_of;
+use crate::found::find_item;
 use crate::kind::Kind;
 use crate::lent::{Lent, find_lent};
-use crate::located::{Located, without_tag_located};
 use crate::refusal::Refusal;
-use crate::view::{MessageView, is_under_tag, view_of};
+use crate::view::{MessageView, view_of};
 use crate::written::put_texts;
-use coset::Result;
-use coset::cbor::de::Pull;
 use std::alloc::Global;
-
-/// The item that a message is, and what is said of it by parts of the input, where all that is said is such a part.
-#[derive(Drop)]
-pub(crate) struct Found<'a> {
-    pub(crate) whole: Pull<'a>,
-    pub(crate) lent: Option<Lent<'a>>,
-}
-
-/// Finds what is said of the bytes as a message of that kind.
-///
-/// # Errors
-/// `OutOfMemory`, or as [`check`](crate::check) says.
-pub(crate) fn find_message<'a>(
-    alloc: Global,
-    kind: Kind,
-    bytes: &'a [u8],
-    external_aad: &[u8],
-    detached: Option<&'a [u8]>,
-) -> Result<Found<'a>>
-    ensures whole { IfOk result (λ x. IsWholeOf kind bytes.now (pull_item x.whole)) }
-    ensures lent { (i : ℕ) (ns : List ℤ) → IfOk result (λ x. IfSome x.lent (IsLentOf kind i
-        external_aad.now (option_copied detached.entry) ns bytes.now)) }
-    ensures refused { IfErr result (IsRefused kind bytes.now) }
-{
-    let whole = whole_of(alloc, kind, bytes)?;
-    let located = Located {
-        item: whole,
-        rest: bytes,
-    };
-    let item = without_tag_located(kind.tag(), located);
-    let is_tagged = is_under_tag(kind, whole);
-    match find_lent(alloc, kind, item, external_aad, detached, is_tagged) {
-        Ok(lent) => Ok(Found { whole, lent }),
-        Err(error) => Err(error),
-    }
-}
 
 /// Writes the four texts, the first of which is in two parts, to the front of `out`, and returns how many bytes they have together.
 ///
@@ -121,21 +80,22 @@ pub fn message_view(
         (IsMessageView kind index external_aad.now d known.now bytes.now)
         (HasNoView kind index external_aad.now d known.now) out.old out.new result }
 {
-    let Found { whole, lent } = match find_message(alloc, kind, bytes, external_aad, detached) {
+    let found = match find_item(alloc, kind, bytes) {
         Ok(found) => found,
         Err(error) => return Err(Refusal::Cose(error)),
     };
-    match lent {
-        Some(lent) => put_view(&lent, out),
-        None => view_of(
+    match find_lent(alloc, kind, &found, external_aad, detached) {
+        Ok(Some(lent)) => put_view(&lent, out),
+        Ok(None) => view_of(
             alloc,
             kind,
-            whole,
+            &found,
             index,
             external_aad,
             detached,
             known,
             out,
         ),
+        Err(error) => Err(Refusal::Cose(error)),
     }
 }

@@ -10,10 +10,10 @@ ghost use Rattle.ffi_query.specs.declared.spans.MessageSpans.{MessageSpans};
 ghost use Rattle.ffi_query.specs.View.{HasNoView};
 
 use crate::elements::text_span;
+use crate::found::find_item;
 use crate::kind::Kind;
-use crate::lent::Lent;
+use crate::lent::{Lent, find_lent};
 use crate::located::Text;
-use crate::message::{Found, find_message};
 use crate::refusal::Refusal;
 use crate::view::{MessageView, view_of};
 use crate::written::put_texts;
@@ -149,21 +149,22 @@ pub fn message_spans(
         (IsMessageSpans kind index external_aad.now d known.now bytes.now)
         (HasNoView kind index external_aad.now d known.now) out.old out.new result }
 {
-    let Found { whole, lent } = match find_message(alloc, kind, bytes, external_aad, detached) {
+    let found = match find_item(alloc, kind, bytes) {
         Ok(found) => found,
         Err(error) => return Err(Refusal::Cose(error)),
     };
-    match lent {
-        Some(lent) => put_lent(&lent, bytes, out),
-        None => copied(view_of(
+    match find_lent(alloc, kind, &found, external_aad, detached) {
+        Ok(Some(lent)) => put_lent(&lent, bytes, out),
+        Ok(None) => copied(view_of(
             alloc,
             kind,
-            whole,
+            &found,
             index,
             external_aad,
             detached,
             known,
             out,
         )),
+        Err(error) => Err(Refusal::Cose(error)),
     }
 }

@@ -6,14 +6,14 @@ ghost use Rattle.coset.specs.CoseError.TheVariants.{OutOfMemory};
 ghost use Rattle.coset.specs.Pulls.{pull_item};
 ghost use Rattle.coset.specs.View.{value_item};
 ghost use Rattle.ffi_query.specs.Answers.{AnswersWith, FindsWith, PutsWith};
-ghost use Rattle.ffi_query.specs.Kinds.{IsWholeOf};
-ghost use Rattle.ffi_query.specs.View.{HasAlgorithm, HasNoView, IsAlgorithm, IsContent, IsKeyId, IsMessageView, IsViewOf, bearer, content_part, is_under_tag, kind_of_bearer, proof_in};
+ghost use Rattle.ffi_query.specs.Found.{IsFound};
+ghost use Rattle.ffi_query.specs.View.{HasAlgorithm, HasNoView, IsAlgorithm, IsContent, IsKeyId, IsMessageView, IsViewOf, bearer, content_part, kind_of_bearer, proof_in};
 
 use crate::critical::critical_of;
-use crate::item::{bytes_in, is_under, member_at};
+use crate::found::Found;
+use crate::item::{bytes_in, member_at};
 use crate::kind::Kind;
 use crate::label::{Label, Map, find_string, find_value, number_in};
-use crate::located::{alone, without_tag_located};
 use crate::part::{Part, find_part};
 use crate::refusal::Refusal;
 use crate::structure::{find_structure, is_given_twice};
@@ -195,16 +195,6 @@ fn find_content(alloc: Global, kind: Kind, item: Pull<'_>) -> Result<Vec<u8>>
     }
 }
 
-/// Whether the item is under the tag of that kind.
-pub(crate) fn is_under_tag(kind: Kind, whole: Pull<'_>) -> bool
-    ensures { result ≡ is_under_tag kind (pull_item whole.entry) }
-{
-    match kind.tag() {
-        Some(number) => is_under(number, whole),
-        None => false,
-    }
-}
-
 /// The four texts one behind the other.
 ///
 /// # Errors
@@ -294,31 +284,30 @@ fn put_copies(copies: Copies, out: &mut [u8]) -> Result<MessageView, Refusal>
     }
 }
 
-/// The same as [`message_view`](crate::message_view) of bytes that are known to be this item of that kind, by copies of its texts.
+/// The same as [`message_view`](crate::message_view) of bytes that were found to be this item of that kind, by copies of its texts.
 ///
 /// # Errors
 /// The same as [`message_view`](crate::message_view), but that the bytes are of the kind.
 pub(crate) fn view_of(
     alloc: Global,
     kind: Kind,
-    whole: Pull<'_>,
+    found: &Found<'_>,
     index: usize,
     external_aad: &[u8],
     detached: Option<&[u8]>,
     known: &[i64],
     out: &mut [u8],
 ) -> Result<MessageView, Refusal>
-    ensures { (b : List ℕ) → IsWholeOf kind b (pull_item whole.entry) →
+    ensures { (b : List ℕ) → IsFound kind b found.now →
         let d = option_copied detached.entry in
         AnswersWith kind b (IsMessageView kind index external_aad.now d known.now b)
         (HasNoView kind index external_aad.now d known.now) out.old out.new result }
 {
-    let item = without_tag_located(kind.tag(), alone(whole)).item;
+    let item = found.item.item;
     if is_given_twice(kind, detached, item) {
         return Err(Refusal::Misuse);
     }
-    let is_tagged = is_under_tag(kind, whole);
-    let found = find_copies(
+    let copies = find_copies(
         alloc,
         kind,
         item,
@@ -326,9 +315,9 @@ pub(crate) fn view_of(
         external_aad,
         detached,
         known,
-        is_tagged,
+        found.is_tagged,
     );
-    match found {
+    match copies {
         Ok(Some(copies)) => put_copies(copies, out),
         Ok(None) => Err(Refusal::Absent),
         Err(error) => Err(Refusal::Cose(error)),

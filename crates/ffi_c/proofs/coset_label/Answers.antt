@@ -1,6 +1,6 @@
 use mir.Syntax.{w32, w64}
 use mir.Val.{of_z, to_z}
-use Rattle.std.proofs.Common.{◌≡◌, rules, subst}
+use Rattle.std.proofs.Common.{◌≡◌, ◌∙◌, rules, subst}
 use Rattle.std.proofs.lemmas.Int.{to_z-of_z}
 use Rattle.coset.specs.Names.{number}
 use Rattle.ffi_query.specs.Answers.{Answers}
@@ -19,4 +19,4 @@ returns-in-Some c =
     replied
     (λ q. Replies (Answers q.0 c.args.input.now (IsValueOf q.0 q.1 (number c.args.label)) c.args.out.now c.value_of.new.out)
     (to_z w32 (of_z w32 c.reply.result)) c.reply.new.place)
-    _ _ (k, m) c.in-Some.ensures (c.value_of.result, answers, status, c.reply.ensures.number)
+    _ _ (k, m) (c.in-Some.ensures ∙ c.map_query.ensures) (c.value_of.result, answers, status, c.reply.ensures.number)

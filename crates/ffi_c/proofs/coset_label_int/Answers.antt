@@ -1,6 +1,6 @@
 use mir.Syntax.{w32, w64}
 use mir.Val.{of_z, to_z}
-use Rattle.std.proofs.Common.{◌≡◌, pos, rules, subst}
+use Rattle.std.proofs.Common.{◌≡◌, ◌∙◌, pos, rules, subst}
 use Rattle.std.proofs.lemmas.Int.{to_z-of_z}
 use Rattle.coset.specs.Names.{number}
 use Rattle.ffi_query.specs.Answers.{AnswersNumber}
@@ -19,4 +19,4 @@ returns-in-Some c =
     replied
     (λ q. RepliesValue (pos 0) (AnswersNumber q.0 c.args.input.now (IsNumberOf q.0 q.1 (number c.args.label)) (HasNoNumber q.0 q.1 (number c.args.label)))
     (to_z w32 (of_z w32 c.reply_value.result)) c.reply_value.new.place)
-    _ _ (k, m) c.in-Some.ensures (c.integer_of.result, answers, status, c.reply_value.ensures.value)
+    _ _ (k, m) (c.in-Some.ensures ∙ c.map_query.ensures) (c.integer_of.result, answers, status, c.reply_value.ensures.value)

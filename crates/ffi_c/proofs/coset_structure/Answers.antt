@@ -1,6 +1,6 @@
 use mir.Syntax.{w32}
 use mir.Val.{of_z, to_z}
-use Rattle.std.proofs.Common.{◌≡◌, rules, subst}
+use Rattle.std.proofs.Common.{◌≡◌, ◌∙◌, rules, subst}
 use Rattle.ffi_query.specs.Answers.{AnswersOr}
 use Rattle.ffi_query.specs.Structures.{HasNoStructure, IsStructure}
 use Rattle.ffi_c.specs.Numbers.{bytes_if}
@@ -22,4 +22,4 @@ returns-in-Some c =
     replied
     (λ j. Replies (AnswersOr j b (IsStructure j i aad d) (HasNoStructure j i aad d) c.args.out.now c.structure_of.new.out)
     (to_z w32 (of_z w32 c.reply.result)) c.reply.new.place)
-    _ _ k c.in-Some.ensures (c.structure_of.result, answers, status, c.reply.ensures.number)
+    _ _ k (c.in-Some.ensures ∙ (c.within-query.ensures ∙ c.content_query.ensures)) (c.structure_of.result, answers, status, c.reply.ensures.number)

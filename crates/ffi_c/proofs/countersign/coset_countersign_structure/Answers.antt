@@ -1,6 +1,6 @@
 use mir.Syntax.{w32, w64}
 use mir.Val.{of_z, to_z}
-use Rattle.std.proofs.Common.{◌≡◌, Some, rules, subst}
+use Rattle.std.proofs.Common.{◌≡◌, ◌∙◌, Some, rules, subst}
 use Rattle.std.proofs.lemmas.Int.{to_z-of_z}
 use Rattle.ffi_query.specs.Answers.{AnswersOr}
 use Rattle.ffi_query.specs.Countersigns.{HasNoCountersigned, IsCountersigned}
@@ -19,7 +19,7 @@ returns-in-Some c =
     let d = bytes_if c.args.has_detached c.args.detached.now in
     let asked =
     subst (λ l. Some (k, x) ≡ countersign_query c.args.kind l c.args.has_detached c.args.detached.now) (to_z-of_z w64 c.args.label c.ranges.label)
-    c.in-Some.ensures in
+    (c.in-Some.ensures ∙ (c.within.ensures ∙ (c.within-query.ensures ∙ c.countersign_query.ensures))) in
     let answers =
     subst
     (λ y. AnswersOr k b (IsCountersigned k x q aad y) (HasNoCountersigned k x q aad y) c.args.out.now c.countersign_structure_of.new.out

@@ -1,6 +1,6 @@
 use mir.Syntax.{w32, w64}
 use mir.Val.{of_z, to_z}
-use Rattle.std.proofs.Common.{◌≡◌, rules, subst}
+use Rattle.std.proofs.Common.{◌≡◌, ◌∙◌, rules, subst}
 use Rattle.std.proofs.lemmas.Int.{to_z-of_z}
 use Rattle.coset.specs.Names.{number}
 use Rattle.ffi_make.specs.Given.{a_text}
@@ -18,4 +18,4 @@ returns-in-Some c =
     replied
     (λ j. Replies (PutsPair j c.args.input.now (number c.args.label) (a_text c.args.value.now) c.args.out.now c.put.new.out)
     (to_z w32 (of_z w32 c.reply.result)) c.reply.new.place)
-    _ _ k c.in-Some.ensures (c.put.result, answers, status, c.reply.ensures.number)
+    _ _ k (c.in-Some.ensures ∙ (c.within.ensures ∙ c.kind_of.ensures)) (c.put.result, answers, status, c.reply.ensures.number)

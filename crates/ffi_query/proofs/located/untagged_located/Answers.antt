@@ -10,8 +10,8 @@ returns-in-Some-clause-place c =
     let s = pull_bytes c.in-Some.inner in
     let h = c.in-Some.ensures.bytes in
     let size =
-    c.saturating_sub.ensures
+    c.saturating_sub-head.ensures
     ∙ (ap (λ y. length y - length c.slice-in-Some.result.now) c.slice.ensures.bytes
     ∙ ap (λ y. length (pull_bytes c.args.whole.item) - length y) c.slice-in-Some.ensures.bytes) in
-    subst (AreLocated b s) (sym c.after.ensures)
-    (located_end b (pull_bytes c.args.whole.item) h.head s c.args.whole.rest.now c.saturating_sub.result h.parts size l)
+    subst (AreLocated b s) (sym c.after-rest.ensures)
+    (located_end b (pull_bytes c.args.whole.item) h.head s c.args.whole.rest.now c.saturating_sub-head.result h.parts size l)

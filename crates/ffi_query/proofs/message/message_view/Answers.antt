@@ -1,15 +1,23 @@
+use Rattle.std.proofs.Common.{refl}
 use Rattle.std.specs.Option.{option_copied}
 use Rattle.ffi_query.specs.View.{HasNoView}
+use Rattle.ffi_query.proofs.EachKind.{memory_refuses}
 use Rattle.ffi_query.proofs.Viewed.{lent_viewed}
 use Rattle.ffi_query.proofs.message.message_view.Goals as goal
 
-pub returns-in-Some : goal.returns-in-Some
-returns-in-Some c =
+pub returns-in-Ok-Some : goal.returns-in-Ok-Some
+returns-in-Ok-Some c =
     let k = c.args.kind in
     let i = c.args.index in
     let aad = c.args.external_aad.now in
     let d = option_copied c.args.detached in
     let ns = c.args.known.now in
-    let lent = rw c.in-Some.is at (c.in-Ok.ensures.lent i ns) in
-    lent_viewed k i aad d ns c.args.bytes.now c.args.out.now c.put_view.new.out (HasNoView k i aad d ns) c.in-Some.lent c.put_view.result lent
+    let lent = rw c.in-Ok-Some.field-0-is at (c.in-Ok-Some.ensures.lent c.args.bytes.now i ns c.in-Ok.ensures) in
+    lent_viewed k i aad d ns c.args.bytes.now c.args.out.now c.put_view.new.out (HasNoView k i aad d ns) c.in-Ok-Some.lent c.put_view.result lent
     c.put_view.ensures
+
+pub returns-in-Ok-None : goal.returns-in-Ok-None
+returns-in-Ok-None c = c.view_of.ensures c.args.bytes.now c.in-Ok.ensures
+
+pub returns-in-Err-find_lent : goal.returns-in-Err-find_lent
+returns-in-Err-find_lent c = (memory_refuses c.args.kind c.args.bytes.now c.in-Err-find_lent.error c.in-Err-find_lent.ensures.memory, refl)

@@ -1,0 +1,84 @@
+//! The item of a kind that bytes are, and what is known of it by then.
+
+ghost use Rattle.std.specs.Prelude.{◌≡◌, IfOk, MatchResult};
+ghost use Rattle.coset.specs.Answers.{IsOnlyItem};
+ghost use Rattle.coset.specs.Grammar.{IsItem};
+ghost use Rattle.coset.specs.Item.{Item};
+ghost use Rattle.coset.specs.Pulls.{pull_bytes, pull_item};
+ghost use Rattle.ffi_query.specs.Found.{IsFound};
+ghost use Rattle.ffi_query.specs.Kinds.{Checks, IsRefused};
+
+use crate::fits::fits;
+use crate::kind::{Kind, check};
+use crate::located::{Located, without_tag_located};
+use crate::three::{Three, three_of};
+use coset::Result;
+use coset::cbor::de::Pull;
+use coset_codec::traits::whole_item;
+use std::alloc::Global;
+
+/// The item of a kind that bytes are.
+#[derive(Clone, Copy)]
+pub(crate) struct Found<'a> {
+    /// The item, without the tag that a message may be under.
+    pub(crate) item: Located<'a>,
+    /// Whether it is under that tag.
+    pub(crate) is_tagged: bool,
+    /// What it begins with, where it is an array of three elements or more.
+    pub(crate) three: Option<Three<'a>>,
+}
+
+/// The one item that the bytes are.
+///
+/// # Errors
+/// The same as [`check`].
+pub(crate) fn whole_of(alloc: Global, kind: Kind, bytes: &[u8]) -> Result<Pull<'_>>
+    ensures whole { MatchResult result (λ item. IsOnlyItem bytes.now (pull_item item)) (λ e.
+        IsRefused kind bytes.now e) }
+    ensures bytes { IfOk result (λ item. pull_bytes item ≡ bytes.now) }
+{
+    if let Ok(whole) = whole_item(bytes) {
+        return Ok(whole);
+    }
+    check(alloc, kind, bytes)?;
+    Ok(whole_item(bytes)?)
+}
+
+/// Checks that bytes which are one item are of that kind.
+///
+/// # Errors
+/// The same as [`check`].
+fn check_item(alloc: Global, kind: Kind, bytes: &[u8]) -> Result<()>
+    ensures { (w : Item) → IsItem bytes.now w → Checks kind bytes.now result }
+{
+    match kind {
+        Kind::Any => Ok(()),
+        _ => check(alloc, kind, bytes),
+    }
+}
+
+/// Finds the item of that kind that the bytes are. Whether it is one is found without a copy of its content, where it can be;
+/// else, and for the fault of what is none, it is read whole.
+///
+/// # Errors
+/// The same as [`check`].
+pub(crate) fn find_item(alloc: Global, kind: Kind, bytes: &[u8]) -> Result<Found<'_>>
+    ensures { MatchResult result (IsFound kind bytes.now) (λ e. IsRefused kind bytes.now e) }
+{
+    let item = whole_of(alloc, kind, bytes)?;
+    let whole = Located { item, rest: bytes };
+    let (item, is_tagged) = without_tag_located(kind.tag(), whole);
+    if let Some(three) = fits(alloc, kind, item, is_tagged) {
+        return Ok(Found {
+            item,
+            is_tagged,
+            three: Some(three),
+        });
+    }
+    check_item(alloc, kind, bytes)?;
+    Ok(Found {
+        item,
+        is_tagged,
+        three: three_of(item),
+    })
+}
