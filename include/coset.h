@@ -1,19 +1,23 @@
-/* coset for C. Each call is a function of the bytes that it is given: nothing is kept between calls, nothing has to be freed,
- * and calls in several threads do not touch one another. What each call answers is proved of its code; the contracts are
- * beside the functions of the same names in crates/ffi_c/src, and docs/C.md has them in words. coset_verify.h verifies
- * and decrypts in one call.
+/* coset for C.
  *
- * in, in_len     the bytes of an item of the kind. Any pointer to bytes may be NULL where the length beside it is 0.
- * out, cap, len  where an answer goes, and how long it is. COSET_SHORT: it is longer than cap, and *len says how long.
- *                Where the status isn't COSET_OK, out is as it was; where it is neither that nor COSET_SHORT, *len is 0.
- * A length above PTRDIFF_MAX, as -1 becomes one, is COSET_MISUSE: no object is as long.
- * What is const may overlap; out, and each place for a number or a struct, overlaps nothing else that the call is given, and but
- * for out they are never NULL. A call may take 1 MB of stack (docs/C.md: what a call takes), and asks for memory: it is not for signal
- * handlers, nor for a child that a process with threads forked. The library asks the C library for malloc, free, memcpy, memmove
- * and memset; or your program for its memory, where it was built so (docs/C.md: a heap of your own).
+ * Each call is a function of its arguments. Nothing is kept between calls, nothing has to be freed, and calls in
+ * several threads don't affect each other. The results are proved: the contracts are at the functions of the same names
+ * in crates/ffi_c/src, and docs/C.md states them in words. coset_verify.h verifies and decrypts in one call.
  *
- * Any call may return COSET_OK, COSET_MEMORY, COSET_MISUSE, or one from COSET_ENDS to COSET_NOT_PRIVATE; what else it may
- * return is behind `Also:`. */
+ * in, in_len     The bytes of an item of the kind. A pointer to bytes may be NULL if its length is 0.
+ * out, cap, len  The memory for the result, its size, and the result's length. COSET_SHORT: the result is longer than
+ *                cap, and *len is its length. Unless the status is COSET_OK or COSET_LAYER, out is unchanged. Unless it
+ *                is one of these or COSET_SHORT, *len is 0.
+ *
+ * A length above PTRDIFF_MAX, such as -1 converted to size_t, is COSET_MISUSE. Arguments that are const may overlap.
+ * out, and each place for a number or a struct, must not overlap any other argument. Such a place must not be NULL.
+ *
+ * A call may take 1 MB of stack (docs/C.md: What a call takes), and it allocates memory. So don't make it in a signal
+ * handler, or in a child that a process with threads forked. The library calls malloc, free, memcpy, memmove and memset
+ * of the C library. It can be built to take its memory from your program instead (docs/C.md: A heap of your own).
+ *
+ * Any call may return COSET_OK, COSET_MEMORY, COSET_MISUSE, or a status from COSET_ENDS to COSET_NOT_PRIVATE. The other
+ * statuses that a call may return follow `Also:`. */
 #ifndef COSET_H
 #define COSET_H
 
@@ -24,10 +28,11 @@
 extern "C" {
 #endif
 
-/* What is declared here; coset_version says what is linked. */
+/* The version of this header. coset_version returns the version that is linked. */
 #define COSET_VERSION "0.4.2-rattle.7"
 
-/* A call whose status may not be ignored, and which arguments, counted from 1, are never NULL. */
+/* Marks a call whose status must not be ignored, and whose arguments at these positions, counted from 1, must not be
+ * NULL. */
 #if defined(__GNUC__) || defined(__clang__)
 #define COSET_CALL(...) __attribute__((warn_unused_result, nonnull(__VA_ARGS__)))
 #else
@@ -36,42 +41,45 @@ extern "C" {
 
 typedef int32_t coset_status;
 
-/* Statuses. Those from COSET_ENDS to COSET_NOT_PRIVATE are faults of the bytes, or of a byte string in them that holds a
- * header: the bytes are then no item of the kind. Of a call that makes they are faults of what is given, or of what would be
- * made of it. */
+/* Statuses. Those from COSET_ENDS to COSET_NOT_PRIVATE name a fault in the bytes, or in a header's byte string within
+ * them. The bytes are then not an item of the kind. If a call that makes an item returns one, the fault is in its
+ * arguments, or in the item that would be made. */
 enum {
   COSET_OK = 0,
-  COSET_SHORT = 1,         /* the answer is longer than the memory for it */
-  COSET_MEMORY = 2,        /* a request for memory was refused */
+  COSET_SHORT = 1,         /* the result is longer than the memory for it */
+  COSET_MEMORY = 2,        /* an allocation failed */
   COSET_ENDS = 3,          /* the bytes end before the item does */
-  COSET_MALFORMED = 4,     /* they aren't well-formed, a text isn't UTF-8, or a simple value has no meaning here */
+  COSET_MALFORMED = 4,     /* they aren't well-formed, a text string isn't UTF-8, or a simple value isn't supported */
   COSET_DEEP = 5,          /* arrays, maps and tags nest more than 256 levels deep */
   COSET_EXTRANEOUS = 6,    /* bytes follow the item */
-  COSET_UNEXPECTED = 7,    /* an item isn't as its place asks */
-  COSET_DUPLICATE = 8,     /* two keys of a map are one label */
-  COSET_OUT_OF_RANGE = 9,  /* an integer lies outside the range of its place */
-  COSET_UNREGISTERED = 10, /* an integer without a name, in a registry without a private range */
-  COSET_NOT_PRIVATE = 11,  /* an integer without a name, and outside the private range of its registry */
-  COSET_ABSENT = 12,       /* what is asked for isn't in the bytes, or what is given has no place in items of the kind */
-  COSET_MISUSE = 13,       /* a number that is of no kind, no part, no map, no order or no countersignature, or for a kind of
-                              another call; a payload that is given as detached, and the message carries one, or the flag says
-                              that none is; or a length above PTRDIFF_MAX */
-  COSET_TYPE = 14,         /* what is asked for is there, and is no string, or no integer of 64 bits */
-  COSET_EMPTY = 15,        /* the list is empty: who verifies each of its signatures has verified none */
-  /* Of coset_token_claims; the first two of coset_verify.h too. */
-  COSET_NOT_ALLOWED = 16,  /* a protected header names no algorithm by a number, or none that is allowed */
-  COSET_CRITICAL = 17,     /* a label that must be understood isn't, or isn't protected */
+  COSET_UNEXPECTED = 7,    /* an item isn't what its place requires */
+  COSET_DUPLICATE = 8,     /* two keys of a map are the same label */
+  COSET_OUT_OF_RANGE = 9,  /* an integer is outside the range of its place */
+  COSET_UNREGISTERED = 10, /* an integer isn't registered, and its registry has no private range */
+  COSET_NOT_PRIVATE = 11,  /* an integer isn't registered, and is outside its registry's private range */
+  COSET_ABSENT = 12,       /* the bytes don't have the requested part. Or items of the kind, or the bytes that something
+                              is added to, have no place for an argument */
+  COSET_MISUSE = 13,       /* a number has no meaning: it names no kind, part, map, form, order or countersignature,
+                              or a kind that the call doesn't take. Or a payload is given as detached although the
+                              message carries one, or although the flag is 0. Or a length is above PTRDIFF_MAX */
+  COSET_TYPE = 14,         /* the value is there, but isn't a string, or isn't an integer in the range of int64_t. From
+                              a call that sets a span also: a string is in chunks */
+  COSET_EMPTY = 15,        /* the counted list is empty: verifying each of its signatures would verify none */
+  /* Statuses of coset_token_claims, and of coset_token_judge in coset_verify.h. The other calls there return the first
+   * two. */
+  COSET_NOT_ALLOWED = 16,  /* the protected header doesn't name an allowed algorithm by its number */
+  COSET_CRITICAL = 17,     /* a critical label isn't understood, or isn't protected */
   COSET_LAYER = 19,        /* a layer of the token waits: verify or decrypt it, and call again */
-  COSET_TOO_DEEP = 20,     /* more than four layers are within one another */
-  COSET_UNAUTHENTICATED = 21, /* no layer authenticates who sent the token */
-  COSET_NOT_CLAIMS = 22,   /* what is in the innermost layer isn't a claims set */
-  COSET_NO_EXPIRATION = 23, /* the token doesn't say when it expires, exp */
-  COSET_EXPIRED = 24,      /* it has expired */
-  COSET_NOT_YET_VALID = 25, /* it isn't valid yet, nbf */
-  COSET_ISSUED_LATER = 26, /* it is issued later than now, iat */
-  COSET_TOO_OLD = 27,      /* it has reached the greatest age, or doesn't say when it was issued */
-  COSET_ISSUER = 28,       /* it is of another issuer, or of none */
-  COSET_AUDIENCE = 29      /* it is for another audience, or for none */
+  COSET_TOO_DEEP = 20,     /* the token has more than four nested layers */
+  COSET_UNAUTHENTICATED = 21, /* no layer authenticates the sender of the token */
+  COSET_NOT_CLAIMS = 22,   /* the content of the innermost layer isn't a claims set */
+  COSET_NO_EXPIRATION = 23, /* the token has no expiration time, exp */
+  COSET_EXPIRED = 24,      /* the token has expired */
+  COSET_NOT_YET_VALID = 25, /* the token isn't valid yet, nbf */
+  COSET_ISSUED_LATER = 26, /* the token is issued later than now, iat */
+  COSET_TOO_OLD = 27,      /* the token has reached the greatest age, or has no time of issue */
+  COSET_ISSUER = 28,       /* the token has another issuer, or none */
+  COSET_AUDIENCE = 29      /* the token has another audience, or none */
 };
 
 /* Kinds. */
@@ -88,15 +96,16 @@ enum {
   COSET_KEY = 10,      /* COSE_Key (section 7) */
   COSET_KEY_SET = 11,  /* COSE_KeySet (section 7) */
   COSET_CLAIMS = 12,   /* the claims of a web token (RFC 8392, section 3) */
-  COSET_ITEM = 13,     /* any item of CBOR, as the value of a label; its labels may repeat */
-  COSET_KDF_CONTEXT = 14, /* COSE_KDF_Context (RFC 8152, section 11.2), an array: it is taken apart and made as a COSET_ITEM */
-  COSET_TAGGED = 0x100, /* added to a message's kind, one of the first six: under its tag */
-  COSET_EITHER = 0x200  /* added to a message's kind: under its tag or plain */
+  COSET_ITEM = 13,     /* any data item of CBOR, such as the value of a label; labels in it may repeat */
+  COSET_KDF_CONTEXT = 14, /* COSE_KDF_Context (RFC 8152, section 11.2), an array: read its elements and make it as a
+                             COSET_ITEM */
+  COSET_TAGGED = 0x100, /* added to one of the first six kinds, a message: it is under its tag */
+  COSET_EITHER = 0x200  /* added to a message's kind: it is under its tag or plain */
 };
 
 /* Parts. */
 enum {
-  COSET_PROTECTED = 1,  /* what the byte string of the protected header holds, as it was received */
+  COSET_PROTECTED = 1,  /* the content of the protected header's byte string, as received */
   COSET_PAYLOAD = 2,    /* of COSET_SIGN1, COSET_SIGN, COSET_MAC0 and COSET_MAC */
   COSET_CIPHERTEXT = 3, /* of COSET_ENCRYPT0, COSET_ENCRYPT and COSET_RECIPIENT */
   COSET_PROOF = 4       /* the signature of COSET_SIGN1 and COSET_SIGNATURE, the tag of COSET_MAC0 and COSET_MAC */
@@ -105,66 +114,73 @@ enum {
 /* Maps. */
 enum {
   COSET_IN_PROTECTED = 1,   /* the protected header of a message, a signature or a recipient */
-  COSET_IN_UNPROTECTED = 2, /* its unprotected header */
-  COSET_IN_ITEM = 3         /* the item itself: of COSET_HEADER, COSET_KEY, COSET_CLAIMS and COSET_ITEM */
+  COSET_IN_UNPROTECTED = 2, /* the unprotected header of a message, a signature or a recipient */
+  COSET_IN_ITEM = 3         /* the item itself, for COSET_HEADER, COSET_KEY, COSET_CLAIMS and COSET_ITEM */
 };
 
-/* Forms in which a message names its algorithm, and those of a label and a value that are put into a map. */
+/* Forms in which a message names its algorithm, and forms of labels and values that are put into a map. */
 enum {
-  COSET_NONE = 0,   /* it names none */
+  COSET_NONE = 0,   /* no algorithm is named */
   COSET_INT = 1,    /* an integer */
-  COSET_TEXT = 2,   /* a text, by its UTF-8 bytes */
-  COSET_BYTES = 3,  /* of a value: a byte string */
-  COSET_ENCODED = 4 /* of a value: any item, by its encoding */
+  COSET_TEXT = 2,   /* a text string, as its UTF-8 bytes */
+  COSET_BYTES = 3,  /* for a value: a byte string */
+  COSET_ENCODED = 4 /* for a value: any item, as its encoding */
 };
 
-/* What there is of crit, label 2: labels that must be understood; COSET_NONE where there are none. */
+/* The state of crit, label 2: labels that must be understood. COSET_NONE if there are none. */
 enum {
-  COSET_UNDERSTOOD = 1,    /* each is an integer among those that the caller understands, and protected */
-  COSET_NOT_UNDERSTOOD = 2 /* one isn't */
+  COSET_UNDERSTOOD = 1,    /* only the protected header has crit, and the caller understands each label in it;
+                              whether the header has these labels isn't checked */
+  COSET_NOT_UNDERSTOOD = 2 /* the unprotected header has crit, or the caller doesn't understand a label */
 };
 
 /* Orders of labels, by their encodings. */
 enum {
   COSET_LEXICOGRAPHIC = 1, /* by their bytes (RFC 8949, section 4.2.1) */
-  COSET_LENGTH_FIRST = 2   /* by their lengths, and then by their bytes (RFC 7049, section 3.9) */
+  COSET_LENGTH_FIRST = 2   /* by their lengths, then by their bytes (RFC 8949, section 4.2.3; RFC 7049, section 3.9) */
 };
 
 /* ---- Reading */
 
-/* Whether the bytes are an item of the kind. *offset is where they stop being one item of CBOR: of the head at fault, of the
- * bytes that follow the item, or their end; SIZE_MAX where nothing is said of that. */
+/* Checks that the bytes are an item of the kind. *offset is where they stop being one item of CBOR. That is the head at
+ * fault, the first byte after the item, or the end of the bytes. It is SIZE_MAX if that isn't known, or if they are one
+ * item. */
 COSET_CALL(4)
 coset_status coset_check(uint32_t kind, const uint8_t *in, size_t in_len, size_t *offset);
 
-/* How many signatures a COSET_SIGN has, recipients a COSET_MAC, COSET_ENCRYPT or COSET_RECIPIENT, keys a COSET_KEY_SET, or
- * elements a COSET_ITEM that is an array: one at least. Also: COSET_ABSENT, COSET_EMPTY. */
+/* Counts the signatures of a COSET_SIGN, or the recipients of a COSET_MAC, COSET_ENCRYPT or COSET_RECIPIENT. Also
+ * counts the keys of a COSET_KEY_SET, or the elements of a COSET_ITEM that is an array. *count is at least 1. Also:
+ * COSET_ABSENT, COSET_EMPTY. */
 COSET_CALL(4)
 coset_status coset_count(uint32_t kind, const uint8_t *in, size_t in_len, size_t *count);
 
-/* A part. Also: COSET_SHORT, COSET_ABSENT. */
+/* Writes a part. Also: COSET_SHORT, COSET_ABSENT. */
 COSET_CALL(7)
 coset_status coset_part(uint32_t kind, const uint8_t *in, size_t in_len, uint32_t part, uint8_t *out, size_t cap, size_t *len);
 
-/* The signature, recipient or key of that index, counted from 0, in its shortest encoding: a COSET_SIGNATURE,
- * COSET_RECIPIENT or COSET_KEY; or the element of a COSET_ITEM that is an array. Also: COSET_SHORT, COSET_ABSENT. */
+/* Writes the signature, recipient or key at index, counted from 0, in its shortest encoding: a COSET_SIGNATURE,
+ * COSET_RECIPIENT or COSET_KEY. For a COSET_ITEM that is an array, writes the element. Also: COSET_SHORT,
+ * COSET_ABSENT. */
 COSET_CALL(7)
 coset_status coset_member(uint32_t kind, const uint8_t *in, size_t in_len, size_t index, uint8_t *out, size_t cap,
                           size_t *len);
 
-/* A part of `in`: so many bytes from that offset on. */
+/* A range of `in`: len bytes from the offset at. */
 typedef struct coset_span {
   size_t at;
   size_t len;
 } coset_span;
 
-/* Where that is in `in`, as it was received: nothing is copied. Zeros where the status isn't COSET_OK. Also: COSET_ABSENT. */
+/* Sets *span to the place of that element in `in`, as received. Copies nothing. Unless the status is COSET_OK, *span is
+ * zeros. Also: COSET_ABSENT. */
 COSET_CALL(5)
 coset_status coset_member_span(uint32_t kind, const uint8_t *in, size_t in_len, size_t index, coset_span *span);
 
-/* The value of an integer label: in its shortest encoding; what a byte string or a text string holds; an integer. Also:
- * COSET_ABSENT where there is no such label; COSET_TYPE, of the last two, where the value is no string, or no integer of 64 bits;
- * COSET_SHORT, of the first two. */
+/* Get the value of an integer label. coset_label writes it in its shortest encoding. coset_label_bytes writes the
+ * content of a byte string or a text string. coset_label_int sets *value to an integer. Also:
+ * - COSET_ABSENT if there is no such label.
+ * - COSET_SHORT from the first two.
+ * - COSET_TYPE from the last two, if the value isn't a string, or isn't an integer in the range of int64_t. */
 COSET_CALL(8)
 coset_status coset_label(uint32_t kind, const uint8_t *in, size_t in_len, uint32_t map, int64_t label, uint8_t *out,
                          size_t cap, size_t *len);
@@ -174,18 +190,20 @@ coset_status coset_label_bytes(uint32_t kind, const uint8_t *in, size_t in_len, 
 COSET_CALL(6)
 coset_status coset_label_int(uint32_t kind, const uint8_t *in, size_t in_len, uint32_t map, int64_t label, int64_t *value);
 
-/* Where the value of an integer label is in `in`, as it was received. Zeros where the status isn't COSET_OK. Also: COSET_ABSENT;
- * COSET_TYPE where what the protected header's byte string holds is in chunks. */
+/* Sets *span to the place of an integer label's value in `in`, as received. Unless the status is COSET_OK, *span is
+ * zeros. Also: COSET_ABSENT; COSET_TYPE if the byte string of the protected header is in chunks. */
 COSET_CALL(6)
 coset_status coset_label_span(uint32_t kind, const uint8_t *in, size_t in_len, uint32_t map, int64_t label, coset_span *span);
 
-/* The value of a text label, whose UTF-8 bytes these are, in its shortest encoding. Also: COSET_SHORT, COSET_ABSENT. */
+/* Writes the value of a text label in its shortest encoding. label are the label's UTF-8 bytes. Also: COSET_SHORT,
+ * COSET_ABSENT. */
 COSET_CALL(9)
 coset_status coset_text_label(uint32_t kind, const uint8_t *in, size_t in_len, uint32_t map, const uint8_t *label,
                               size_t label_len, uint8_t *out, size_t cap, size_t *len);
 
-/* The label, and the value, of the pair of that index, counted from 0, of a map: a COSET_HEADER, COSET_KEY, COSET_CLAIMS or
- * COSET_ITEM, each in its shortest encoding. Also: COSET_SHORT; COSET_ABSENT where there are no more pairs. */
+/* Write the label and the value of a map's pair, each in its shortest encoding. index counts the pairs from 0. The map
+ * is a COSET_HEADER, COSET_KEY, COSET_CLAIMS or COSET_ITEM. Also: COSET_SHORT; COSET_ABSENT if there is no pair at
+ * index. */
 COSET_CALL(7)
 coset_status coset_label_at(uint32_t kind, const uint8_t *in, size_t in_len, size_t index, uint8_t *out, size_t cap,
                             size_t *len);
@@ -193,110 +211,130 @@ COSET_CALL(7)
 coset_status coset_value_at(uint32_t kind, const uint8_t *in, size_t in_len, size_t index, uint8_t *out, size_t cap,
                             size_t *len);
 
-/* Where the label and the value are in `in`, as they were received. Zeros where the status isn't COSET_OK. Also: COSET_ABSENT. */
+/* Sets *label and *value to the places of that label and value in `in`, as received. Unless the status is COSET_OK,
+ * they are zeros. Also: COSET_ABSENT. */
 COSET_CALL(5, 6)
 coset_status coset_pair_spans(uint32_t kind, const uint8_t *in, size_t in_len, size_t index, coset_span *label,
                               coset_span *value);
 
-/* Where the item is that begins `at` bytes behind `in`, as it was received. Where it ends, the next element of an array begins, or
- * the next label or value of a map: so who has the first finds all of them in one walk. Zeros where the status isn't COSET_OK.
- * Also: COSET_ABSENT where at is above in_len. */
+/* Sets *span to the place of the item that begins at the offset `at` of `in`, as received. The next element of an
+ * array, or the next label or value of a map, begins where the item ends. So a caller that has the first one finds all
+ * others in one walk. Unless the status is COSET_OK, *span is zeros. Also: COSET_ABSENT if at is above in_len. */
 COSET_CALL(4)
 coset_status coset_item_span(const uint8_t *in, size_t in_len, size_t at, coset_span *span);
 
-/* Of a COSET_ITEM: where the content of a byte string or a text string is in `in`, whose length is announced; and the integer that
- * it is. Zeros where the status isn't COSET_OK. Also: COSET_TYPE where it is no string, or one in chunks; or no integer of 64 bits. */
+/* Read a COSET_ITEM. coset_string_span sets *span to the place in `in` of a string's content; the string has definite
+ * length. coset_integer sets *value to an integer. Unless the status is COSET_OK, these are zeros. Also: COSET_TYPE if
+ * the item isn't a string or is one in chunks, or isn't an integer in the range of int64_t. */
 COSET_CALL(3)
 coset_status coset_string_span(const uint8_t *in, size_t in_len, coset_span *span);
 COSET_CALL(3)
 coset_status coset_integer(const uint8_t *in, size_t in_len, int64_t *value);
 
-/* The first key of the COSET_KEY_SET whose identifier, label 2, is this, in its shortest encoding: others may have the same.
- * Also: COSET_SHORT, COSET_ABSENT. */
+/* Writes the first key of the COSET_KEY_SET with this identifier, label 2, in its shortest encoding. Other keys may
+ * have the same identifier. Also: COSET_SHORT, COSET_ABSENT. */
 COSET_CALL(7)
 coset_status coset_key_of(const uint8_t *in, size_t in_len, const uint8_t *key_id, size_t key_id_len, uint8_t *out, size_t cap,
                           size_t *len);
 
-/* What is signed (of a COSET_SIGN by the signer of that index), authenticated, or goes with the ciphertext: Sig_structure,
- * MAC_structure or Enc_structure. Where has_detached is 0, the payload is the one that the message carries, and detached_len
- * is 0; else it is detached, and the message carries none. COSET_MISUSE where two are given, by the message and as detached.
- * Enc_structure has no payload. Also: COSET_SHORT; COSET_ABSENT where there is no payload, or no such signer. */
+/* Writes the structure that is signed (for a COSET_SIGN by the signer at index), authenticated, or goes with the
+ * ciphertext: Sig_structure, MAC_structure or Enc_structure. If has_detached is 0, its payload is the one that the
+ * message carries, and detached_len must be 0. Else its payload is detached, and the message must carry none. The
+ * status is COSET_MISUSE if there are two. Enc_structure has no payload. Also: COSET_SHORT; COSET_ABSENT if there is no
+ * payload, no signer at index, or no structure for the kind. */
 COSET_CALL(12)
 coset_status coset_structure(uint32_t kind, const uint8_t *in, size_t in_len, size_t index, const uint8_t *external_aad,
                              size_t external_aad_len, uint32_t has_detached, const uint8_t *detached, size_t detached_len,
                              uint8_t *out, size_t cap, size_t *len);
 
-/* What goes with the ciphertext of the COSET_RECIPIENT, an Enc_structure (RFC 8152, section 5.3), by the kind that holds it:
- * COSET_ENCRYPT, COSET_MAC or COSET_RECIPIENT. Also: COSET_SHORT; COSET_ABSENT where items of that kind hold no recipients. */
+/* Writes the structure that goes with the ciphertext of a COSET_RECIPIENT, an Enc_structure (RFC 8152, section 5.3).
+ * holder is the kind that contains the recipient: COSET_ENCRYPT, COSET_MAC or COSET_RECIPIENT. Also: COSET_SHORT;
+ * COSET_ABSENT if items of the kind holder contain no recipients. */
 COSET_CALL(8)
 coset_status coset_recipient_structure(uint32_t holder, const uint8_t *in, size_t in_len, const uint8_t *external_aad,
                                        size_t external_aad_len, uint8_t *out, size_t cap, size_t *len);
 
-/* What a countersignature is over, of a message, a COSET_SIGNATURE or a COSET_RECIPIENT: Countersign_structure (RFC 9338, section
- * 3.3), or Sig_structure (RFC 8152, section 4.4). label says which: 7 (counter signature) and 9 (CounterSignature0) of RFC 8152;
- * 11, and 12 (abbreviated), of version 2, which are over the signature of a COSET_SIGN1 and the tag of a COSET_MAC0 or COSET_MAC
- * too. COSET_MISUSE where it is another. signer is what the byte string of the countersignature's protected header holds, as
- * COSET_PROTECTED of the COSET_SIGNATURE that it is; nothing looks whether that is a header, and an abbreviated one has none.
- * What is countersigned is the payload, the ciphertext or the COSET_SIGNATURE's signature; has_detached is as in
- * coset_structure, of each kind. Also: COSET_SHORT; COSET_ABSENT where the item carries nil and nothing is given, where there is a
- * signer and no place for it, and of other kinds. */
+/* Writes the structure that a countersignature of a message, a COSET_SIGNATURE or a COSET_RECIPIENT signs:
+ * Countersign_structure (RFC 9338, section 3.3), or Sig_structure (RFC 8152, section 4.4).
+ *
+ * label says which countersignature: 7 (counter signature, RFC 8152, section 4.5), 9 (CounterSignature0, RFC 8152,
+ * appendix A.2), or 11 and 12 (abbreviated) of version 2. Any other label is COSET_MISUSE. Version 2 also covers the
+ * signature of a COSET_SIGN1, and the tag of a COSET_MAC0 or COSET_MAC.
+ *
+ * signer is the content of the countersignature's own protected header: COSET_PROTECTED of the COSET_SIGNATURE that it
+ * is. Whether that is a header isn't checked. An abbreviated countersignature has none.
+ *
+ * The countersigned payload is the payload, the ciphertext, or the signature of a COSET_SIGNATURE. has_detached is as
+ * in coset_structure, for each kind. Also: COSET_SHORT; COSET_ABSENT if the item carries nil and nothing is given, if
+ * an abbreviated countersignature is given a signer, and for other kinds. */
 COSET_CALL(14)
 coset_status coset_countersign_structure(uint32_t kind, const uint8_t *in, size_t in_len, int64_t label, const uint8_t *signer,
                                          size_t signer_len, const uint8_t *external_aad, size_t external_aad_len,
                                          uint32_t has_detached, const uint8_t *detached, size_t detached_len, uint8_t *out,
                                          size_t cap, size_t *len);
 
-/* What coset_sign1 says in numbers, of a message with one signature: nothing but zeros where the status isn't COSET_OK. */
+/* The numbers that coset_sign1 returns for a message with one signature. Unless the status is COSET_OK, they are
+ * zeros. */
 typedef struct coset_sign1_view {
-  int64_t algorithm;       /* alg, label 1, of the protected header, where the form is COSET_INT, else 0 */
+  int64_t algorithm;       /* alg, label 1, in the protected header if the form is COSET_INT, else 0 */
   uint32_t algorithm_form; /* COSET_NONE, COSET_INT or COSET_TEXT */
-  uint32_t key_id_map;     /* where kid, label 4, is: COSET_IN_PROTECTED; else COSET_IN_UNPROTECTED, which isn't signed;
-                              else 0 */
-  uint32_t has_critical;   /* 1 where either header has crit, label 2: labels that must be understood; else 0 */
-  uint32_t is_tagged;      /* 1 where the message is under its tag, else 0 */
+  uint32_t key_id_map;     /* the header that has kid, label 4: COSET_IN_PROTECTED, else COSET_IN_UNPROTECTED, which
+                              isn't signed, else 0 */
+  uint32_t has_critical;   /* 1 if either header has crit, label 2: labels that must be understood; else 0 */
+  uint32_t is_tagged;      /* 1 if the message is under its tag, else 0 */
   size_t structure_len;    /* the lengths of the four texts */
   size_t signature_len;
-  size_t payload_len;      /* 0 where the payload is detached */
-  size_t key_id_len;       /* 0 where there is no kid */
+  size_t payload_len;      /* 0 if the payload is detached */
+  size_t key_id_len;       /* 0 if there is no kid */
 } coset_sign1_view;
 
-/* All that verifying a COSET_SIGN1 (with COSET_TAGGED or COSET_EITHER, or neither) takes: out then begins with four texts,
- * one behind the other, which are what is signed, as coset_structure says it; the signature; the payload that the message
- * carries; and the key's identifier. *len is the length of the four together. Verify the signature over what is signed, by a
- * key that you trust and an algorithm that you allow for it, before you use the payload; and refuse a message that has crit.
- * Also: COSET_SHORT; COSET_ABSENT where there is no payload. */
+/* Writes everything that verifying a COSET_SIGN1 takes, with COSET_TAGGED, COSET_EITHER or neither added. out then
+ * begins with four texts, one after another, and *len is their total length:
+ * - the structure, as coset_structure writes it,
+ * - the signature,
+ * - the payload that the message carries,
+ * - the key identifier.
+ *
+ * Before you use the payload, verify the signature over the structure, by a key that you trust and an algorithm that
+ * you allow for it. Refuse a message that has crit. Also: COSET_SHORT; COSET_ABSENT if there is no payload. */
 COSET_CALL(11, 12)
 coset_status coset_sign1(uint32_t kind, const uint8_t *in, size_t in_len, const uint8_t *external_aad, size_t external_aad_len,
                          uint32_t has_detached, const uint8_t *detached, size_t detached_len, uint8_t *out, size_t cap,
                          size_t *len, coset_sign1_view *view);
 
-/* What coset_message says in numbers, of any message: nothing but zeros where the status isn't COSET_OK. The headers are those
- * of the message, and of a COSET_SIGN those of the signer. */
+/* The numbers that coset_message returns for any message. Unless the status is COSET_OK, they are zeros. The headers
+ * are those of the message, or for a COSET_SIGN those of the signer. */
 typedef struct coset_message_view {
-  int64_t algorithm;       /* as in coset_sign1_view, and so are the next two */
+  int64_t algorithm;       /* as in coset_sign1_view, like the next two */
   uint32_t algorithm_form;
   uint32_t key_id_map;
-  uint32_t critical;       /* COSET_NONE, COSET_UNDERSTOOD or COSET_NOT_UNDERSTOOD; of a COSET_SIGN by the headers of both */
-  uint32_t is_tagged;      /* 1 where the message is under its tag, else 0 */
+  uint32_t critical;       /* COSET_NONE, COSET_UNDERSTOOD or COSET_NOT_UNDERSTOOD; for a COSET_SIGN the headers of
+                              message and signer count */
+  uint32_t is_tagged;      /* 1 if the message is under its tag, else 0 */
   size_t structure_len;    /* the lengths of the four texts */
-  size_t proof_len;        /* 0 of an encrypted message */
-  size_t content_len;      /* 0 where the content is detached */
-  size_t key_id_len;       /* 0 where there is no kid */
+  size_t proof_len;        /* 0 for an encrypted message */
+  size_t content_len;      /* 0 if the content is detached */
+  size_t key_id_len;       /* 0 if there is no kid */
 } coset_message_view;
 
-/* The same of any message: what is signed (of a COSET_SIGN by the signer of that index), authenticated, or goes with the
- * ciphertext; the signature or the tag; the payload or the ciphertext that the message carries; and the key's identifier. known
- * are the critical labels that you understand. Also: COSET_SHORT; COSET_ABSENT where there is no payload, or no such signer. */
+/* Writes the same for any message. The four texts are:
+ * - the structure that is signed (for a COSET_SIGN by the signer at index), authenticated, or goes with the ciphertext,
+ * - the signature or the tag,
+ * - the payload or ciphertext that the message carries,
+ * - the key identifier.
+ *
+ * known are the critical labels that you understand. Also: COSET_SHORT; COSET_ABSENT if there is no payload, or no
+ * signer at index. */
 COSET_CALL(14, 15)
 coset_status coset_message(uint32_t kind, const uint8_t *in, size_t in_len, size_t index, const uint8_t *external_aad,
                            size_t external_aad_len, uint32_t has_detached, const uint8_t *detached, size_t detached_len,
                            const int64_t *known, size_t known_len, uint8_t *out, size_t cap, size_t *len,
                            coset_message_view *view);
 
-/* What coset_message_spans says in numbers, of any message: nothing but zeros where the status isn't COSET_OK. The signature or
- * the tag, the content and the key's identifier begin so many bytes behind `in`, where is_.._in_input is 1, else behind `out`. */
+/* The numbers that coset_message_spans returns for any message. Unless the status is COSET_OK, they are zeros.
+ * proof_at, content_at and key_id_at are offsets in `in` if is_.._in_input is 1, else in `out`. */
 typedef struct coset_message_spans_view {
-  int64_t algorithm;       /* as in coset_message_view, and so are the next four */
+  int64_t algorithm;       /* as in coset_message_view, like the next four */
   uint32_t algorithm_form;
   uint32_t key_id_map;
   uint32_t critical;
@@ -306,81 +344,93 @@ typedef struct coset_message_spans_view {
   uint32_t is_key_id_in_input;
   size_t structure_len;    /* out begins with the structure */
   size_t proof_at;
-  size_t proof_len;        /* 0 of an encrypted message */
+  size_t proof_len;        /* 0 for an encrypted message */
   size_t content_at;
-  size_t content_len;      /* 0 where the content is detached */
+  size_t content_len;      /* 0 if the content is detached */
   size_t key_id_at;
-  size_t key_id_len;       /* 0 where there is no kid */
+  size_t key_id_len;       /* 0 if there is no kid */
 } coset_message_spans_view;
 
-/* The same as coset_message without a copy of what the message holds: out begins with the structure alone, and the other three
- * are named by their places. They are in `in` where the message has no list of signatures, names no critical labels, and the
- * lengths of its strings are announced; else behind the structure in `out`. *len is how many bytes of out are written. Also:
- * COSET_SHORT; COSET_ABSENT where there is no payload, or no such signer. */
+/* Does the same as coset_message, without a copy of the message's own texts. out begins with the structure alone, and
+ * the view has the places of the other three texts. They are in `in` if the message has no list of signatures and no
+ * critical labels, and its strings have definite lengths. Else they follow the structure in `out`. *len is the number
+ * of bytes written to out. Also: COSET_SHORT; COSET_ABSENT if there is no payload, or no signer at index. */
 COSET_CALL(14, 15)
 coset_status coset_message_spans(uint32_t kind, const uint8_t *in, size_t in_len, size_t index, const uint8_t *external_aad,
                                  size_t external_aad_len, uint32_t has_detached, const uint8_t *detached, size_t detached_len,
                                  const int64_t *known, size_t known_len, uint8_t *out, size_t cap, size_t *len,
                                  coset_message_spans_view *view);
 
-/* ---- Web tokens (RFC 8392), whose layers are COSE_Sign1, COSE_Mac0 and COSE_Encrypt0 in any order, at most four of them; each
- * plain or under its tag, and the outermost also under tag 61 on that. coset_token_judge of coset_verify.h calls this with
- * the caller's functions. */
+/* ---- Web tokens (RFC 8392). Their layers are COSE_Sign1, COSE_Mac0 and COSE_Encrypt0 in any order, at most four of
+ * them. Each is plain or under its tag, and the outermost may be under tag 61 on top of that. coset_token_judge of
+ * coset_verify.h calls coset_token_claims with the caller's function. */
 
-/* What a verifier asks of a token. Zeros, but for size, are the strictest: no leeway, no greatest age; layers without a tag are
- * COSE_Sign1; a signature or a MAC authenticates; unassigned claims are refused; a token must expire, and not be issued later
- * than now. */
+/* A verifier's requirements for a token. If all fields but size are zero, there is no leeway and no greatest age.
+ * Layers without a tag are COSE_Sign1, and a signature or a MAC authenticates. Unassigned claims are refused. A token
+ * must expire, and must not be issued later than now. Issuer and audience are not checked: a token for another audience
+ * is accepted. */
 typedef struct coset_rules {
   size_t size;                  /* sizeof(coset_rules) */
-  uint64_t leeway;              /* how many seconds the clocks of issuer and verifier may differ */
-  uint64_t max_age;             /* the age in seconds at which a token is refused, where has_max_age isn't 0 */
+  uint64_t leeway;              /* the number of seconds by which the clocks of issuer and verifier may differ */
+  uint64_t max_age;             /* the age in seconds at which a token is refused, if has_max_age isn't 0 */
   uint32_t has_max_age;
   uint32_t plain;               /* the form of a layer without a tag: 0 or COSET_SIGN1, COSET_MAC0, COSET_ENCRYPT0 */
-  uint32_t authenticated_by;    /* 0, or COSET_BY_SIGNATURE, COSET_BY_ANY */
-  uint32_t leaves_out;          /* where it isn't 0, claims with unassigned numbers are left out */
-  uint32_t may_not_expire;      /* where it isn't 0, a token need not have exp */
-  uint32_t may_be_issued_later; /* where it isn't 0, iat may be later than now */
-  uint32_t has_issuer;          /* where it isn't 0, iss must be the issuer that is given */
-  uint32_t has_audience;        /* where it isn't 0, aud must be the audience that is given */
+  uint32_t authenticated_by;    /* 0 for a signature or a MAC, or COSET_BY_SIGNATURE, COSET_BY_ANY */
+  uint32_t leaves_out;          /* if it isn't 0, claims with unassigned numbers are left out */
+  uint32_t may_not_expire;      /* if it isn't 0, a token may lack exp */
+  uint32_t may_be_issued_later; /* if it isn't 0, iat may be later than now */
+  uint32_t has_issuer;          /* if it isn't 0, iss must be the issuer that is given */
+  uint32_t has_audience;        /* if it isn't 0, aud must be the audience that is given */
 } coset_rules;
 
-/* Which layers authenticate who sent a token. */
+/* The layers that authenticate the sender of a token. */
 enum {
-  COSET_BY_SIGNATURE = 1, /* one with a signature, and no MAC */
-  COSET_BY_ANY = 2        /* any: also an encrypted one, by whoever shares its key */
+  COSET_BY_SIGNATURE = 1, /* a layer with a signature, and no MAC */
+  COSET_BY_ANY = 2        /* any layer; an encrypted one authenticates those who share its key */
 };
 
-/* A layer that the caller opened, by where it is in the bytes that are given beside it. */
+/* A layer that the caller opened. Its offsets are in the bytes that are given with it. */
 typedef struct coset_opened {
   uint32_t form;        /* COSET_SIGN1, COSET_MAC0 or COSET_ENCRYPT0 */
-  size_t offset;        /* where the structure is, and behind it the signature, the MAC or the ciphertext, as they were written */
+  size_t offset;        /* the offset of the structure, which the signature, the MAC or the ciphertext follows, as
+                           they were written */
   size_t structure_len;
   size_t proof_len;
-  size_t plaintext;     /* of COSET_ENCRYPT0: where the plaintext is, and its length; else 0 */
+  size_t plaintext;     /* for COSET_ENCRYPT0 the offset of the plaintext, and its length; else 0 */
   size_t plaintext_len;
 } coset_opened;
 
-/* What is said of a layer that waits, in numbers: nothing but zeros where the status isn't COSET_LAYER. */
+/* The numbers that coset_token_claims returns for a layer that waits. Unless the status is COSET_LAYER, they are
+ * zeros. */
 typedef struct coset_layer {
   uint32_t form;        /* COSET_SIGN1: verify the signature; COSET_MAC0: verify the MAC; COSET_ENCRYPT0: decrypt */
   uint32_t key_id_map;  /* as in coset_sign1_view */
-  int64_t algorithm;    /* one of those that are allowed */
+  int64_t algorithm;    /* one of those that you allow */
   size_t structure_len; /* the lengths of the five texts */
   size_t proof_len;
-  size_t key_id_len;    /* the last three are 0 where there is none */
+  size_t key_id_len;    /* the last three are 0 if there is none */
   size_t iv_len;
   size_t partial_iv_len;
 } coset_layer;
 
-/* The claims of a token at `now`, in seconds since 1970 began in UTC: a COSET_CLAIMS in its shortest encoding, without those that
- * are left out. Call it first with no layer opened. COSET_LAYER: out begins with five texts of the layer that waits, one behind
- * the other: what is signed, authenticated, or goes with the ciphertext, for an empty external_aad; the signature, the MAC or the
- * ciphertext; the key's identifier, the initialization vector and the partial one; and *len is their length. Verify or decrypt
- * by a key that you trust, append the layer to `opened`, and call again. COSET_OK: each layer is among those that you opened,
- * with these very bytes, and the token is as the rules ask. The algorithms are those that you allow in signatures, in MACs and
- * in encryption, critical the labels that you understand; issuer and audience are UTF-8, and empty where the flag is 0. Also:
- * COSET_SHORT, COSET_ABSENT where a layer carries no payload, and those from COSET_NOT_ALLOWED on. COSET_MISUSE where a number of
- * the rules has no meaning, or a name isn't UTF-8 or has no flag. */
+/* Writes the claims of a token at `now`, in seconds since 1970 began in UTC. They are a COSET_CLAIMS in its shortest
+ * encoding, without the claims that are left out. Call it first with no layer opened.
+ *
+ * COSET_LAYER: a layer waits. out begins with five texts of it, one after another, and *len is their total length:
+ * - the structure that is signed, authenticated, or goes with the ciphertext, for an empty external_aad,
+ * - the signature, the MAC or the ciphertext,
+ * - the key identifier,
+ * - the initialization vector,
+ * - the partial initialization vector.
+ *
+ * Verify or decrypt the layer by a key that you trust, append it to `opened`, and call again.
+ *
+ * COSET_OK: you opened each layer, with these very bytes, and the token meets the rules.
+ *
+ * signatures, macs and ciphers are the algorithms that you allow in signatures, in MACs and in encryption. critical are
+ * the labels that you understand. issuer and audience are UTF-8, and empty if their flag is 0. Also: COSET_SHORT,
+ * COSET_ABSENT if a layer carries no payload, and the statuses from COSET_NOT_ALLOWED on. The status is COSET_MISUSE if
+ * a number of the rules has no meaning, or if a name isn't UTF-8 or has no flag. */
 COSET_CALL(1, 23, 24)
 coset_status coset_token_claims(const coset_rules *rules, const int64_t *signatures, size_t signatures_len, const int64_t *macs,
                                 size_t macs_len, const int64_t *ciphers, size_t ciphers_len, const int64_t *critical,
@@ -389,13 +439,14 @@ coset_status coset_token_claims(const coset_rules *rules, const int64_t *signatu
                                 const coset_opened *opened, size_t opened_len, const uint8_t *bytes, size_t bytes_len,
                                 uint8_t *out, size_t cap, size_t *len, coset_layer *layer);
 
-/* ---- Making: the structure first, then your signature, tag or ciphertext, then the message. Each answer is the shortest
- * encoding of an item of the kind. Also, of each: COSET_SHORT; and where nothing else is said, COSET_ABSENT where what is given
- * has no place in items of the kind. */
+/* ---- Making: first the structure, then your signature, tag or ciphertext, then the message. Each call writes the
+ * shortest encoding of an item of the kind. Also, for each call: COSET_SHORT; and, unless stated otherwise,
+ * COSET_ABSENT if items of the kind have no place for an argument. */
 
-/* The header, key or claims set `in`, which may be empty, with one pair more, behind the others: an integer label with a value
- * by its encoding, with a byte string, with a text (by its UTF-8 bytes), with an integer; and a text label with a value by its
- * encoding. COSET_DUPLICATE where the label is there already. A key begins with its type, label 1. */
+/* Write the header, key or claims set `in`, which may be empty, with one more pair at its end. The label is an integer,
+ * or a text in the last call. The value is an encoded item, the content of a byte string, the UTF-8 bytes of a text, or
+ * an integer. The status is COSET_DUPLICATE if the label has a value already, and COSET_ABSENT if `in` is an item that
+ * isn't a map. Give a new key its type, label 1, first. */
 COSET_CALL(9)
 coset_status coset_put(uint32_t kind, const uint8_t *in, size_t in_len, int64_t label, const uint8_t *value, size_t value_len,
                        uint8_t *out, size_t cap, size_t *len);
@@ -412,68 +463,73 @@ COSET_CALL(10)
 coset_status coset_put_text_label(uint32_t kind, const uint8_t *in, size_t in_len, const uint8_t *label, size_t label_len,
                                   const uint8_t *value, size_t value_len, uint8_t *out, size_t cap, size_t *len);
 
-/* A label and a value for coset_put_all. What isn't an integer is a part of the bytes that are given beside the pairs: so many
- * from that offset on. coset_pairs.h puts such pairs together. */
+/* A label and a value for coset_put_all. Texts, byte strings and encodings are ranges of the bytes that are given with
+ * the pairs: a length from an offset. coset_pairs.h builds such pairs. */
 typedef struct coset_pair {
   uint32_t label_form; /* COSET_INT or COSET_TEXT */
   uint32_t value_form; /* COSET_INT, COSET_TEXT, COSET_BYTES or COSET_ENCODED */
-  int64_t label;       /* where the form is COSET_INT; else by the next two */
+  int64_t label;       /* if the form is COSET_INT; else the next two are used */
   size_t label_at;
   size_t label_len;
-  int64_t value;       /* where the form is COSET_INT; else by the next two */
+  int64_t value;       /* if the form is COSET_INT; else the next two are used */
   size_t value_at;
   size_t value_len;
 } coset_pair;
 
-/* The same with many pairs more, in this order: what coset_put and the others make pair by pair, but that what is made is checked
- * once, with all of them, and the time is that of one call. COSET_MISUSE where a pair has another form, or a part that the
- * bytes don't have. */
+/* Does the same with many pairs, in this order, as coset_put and the others do pair by pair. But the new map is checked
+ * once, with all pairs, and the time is that of one call. The status is COSET_MISUSE if a pair has another form, or a
+ * range that isn't in the bytes. */
 COSET_CALL(10)
 coset_status coset_put_all(uint32_t kind, const uint8_t *in, size_t in_len, const coset_pair *pairs, size_t pairs_len,
                            const uint8_t *bytes, size_t bytes_len, uint8_t *out, size_t cap, size_t *len);
 
-/* As coset_structure, of a message that isn't made yet. prot is its protected header, a map or nothing; signer is that of the
- * signer, of a COSET_SIGN alone; content is the payload, carried or detached. Enc_structure has none. */
+/* Does the same as coset_structure for a message that isn't made yet. prot is the content of its protected header, a
+ * map or nothing. signer is the same for the signer, for a COSET_SIGN alone. content is the payload, carried or
+ * detached. Enc_structure has none. */
 COSET_CALL(12)
 coset_status coset_structure_of(uint32_t kind, const uint8_t *prot, size_t prot_len, const uint8_t *signer, size_t signer_len,
                                 const uint8_t *external_aad, size_t external_aad_len, const uint8_t *content,
                                 size_t content_len, uint8_t *out, size_t cap, size_t *len);
 
-/* As coset_recipient_structure, of the protected header of a recipient that isn't made yet, a map or nothing. */
+/* Does the same as coset_recipient_structure for a recipient that isn't made yet. prot is the content of its protected
+ * header, a map or nothing. */
 COSET_CALL(8)
 coset_status coset_recipient_structure_of(uint32_t holder, const uint8_t *prot, size_t prot_len, const uint8_t *external_aad,
                                           size_t external_aad_len, uint8_t *out, size_t cap, size_t *len);
 
-/* A message (under its tag, with COSET_TAGGED), a COSET_SIGNATURE or a COSET_RECIPIENT, of its protected header, its
- * unprotected one, each a map or nothing, its payload or ciphertext, and its signature or tag. Where has_content is 0, the
- * content is detached, and content_len is 0, else it is COSET_MISUSE. A message with signers or recipients is made without
- * them, for coset_add. */
+/* Makes a message (under its tag, with COSET_TAGGED), a COSET_SIGNATURE or a COSET_RECIPIENT. Its parts are its
+ * protected and its unprotected header, each a map or nothing, its payload or ciphertext, and its signature or tag. If
+ * has_content is 0, the content is detached, and content_len must be 0, or the status is COSET_MISUSE. A message with
+ * signers or recipients is made without them, and coset_add adds them. */
 COSET_CALL(13)
 coset_status coset_make(uint32_t kind, const uint8_t *prot, size_t prot_len, const uint8_t *unprot, size_t unprot_len,
                         uint32_t has_content, const uint8_t *content, size_t content_len, const uint8_t *proof,
                         size_t proof_len, uint8_t *out, size_t cap, size_t *len);
 
-/* The item with one signature, recipient, key or element more, behind the others. A COSET_KEY_SET, or a COSET_ITEM that is an
- * array, may begin with nothing. All else of the item stays. */
+/* Writes the item with one more signature, recipient, key or element at the end. A COSET_KEY_SET, or a COSET_ITEM that
+ * is an array, may begin with no bytes. The rest of the item is unchanged. COSET_ABSENT also if `in` is an item that
+ * doesn't have the list. */
 COSET_CALL(8)
 coset_status coset_add(uint32_t kind, const uint8_t *in, size_t in_len, const uint8_t *member, size_t member_len, uint8_t *out,
                        size_t cap, size_t *len);
 
-/* The item in its shortest encoding. Pairs keep their order, and protected headers their bytes. Never COSET_ABSENT. */
+/* Writes the item in its shortest encoding. Pairs keep their order, and protected headers their bytes. Never
+ * COSET_ABSENT. */
 COSET_CALL(6)
 coset_status coset_write(uint32_t kind, const uint8_t *in, size_t in_len, uint8_t *out, size_t cap, size_t *len);
 
-/* The COSET_KEY in its shortest encoding, with its labels in that order: the same bytes for keys that agree but for the order
- * of their pairs. Never COSET_ABSENT. */
+/* Writes the COSET_KEY in its shortest encoding, with its labels in this order. Keys that differ only in the order of
+ * their pairs give the same bytes. Never COSET_ABSENT. */
 COSET_CALL(6)
 coset_status coset_canonical_key(uint32_t order, const uint8_t *in, size_t in_len, uint8_t *out, size_t cap, size_t *len);
 
-/* ---- About the library. */
+/* ---- About the library */
 
-/* The version that is linked: COSET_VERSION, and behind it ` (unproved)` where the library was built without a proof. */
+/* Returns the version that is linked: COSET_VERSION, followed by ` (unproved)` if the library was built without a
+ * proof. */
 const char *coset_version(void);
 
-/* What the status is, in a few words: never NULL. */
+/* Returns a few words for the status. Never NULL. */
 const char *coset_status_text(coset_status status);
 
 #ifdef __cplusplus

@@ -1,4 +1,5 @@
-/* Pairs for coset_put_all, put together in memory of yours. Nothing is proved of this header; it looks at nothing but the room.
+/* Builds pairs for coset_put_all in the caller's memory. Nothing is proved of this header. It checks only that the
+ * pairs fit.
  *
  *   coset_pair room[8];
  *   uint8_t bytes[512];
@@ -7,7 +8,7 @@
  *   coset_pairs_int(&claims, 4, exp);
  *   status = coset_put_pairs(COSET_CLAIMS, NULL, 0, &claims, out, cap, &len);
  *
- * Texts, byte strings and encodings are copied into the bytes. Where there is no room for a pair, coset_put_pairs returns
+ * Texts, byte strings and encodings are copied into the bytes. If a pair doesn't fit, coset_put_pairs returns
  * COSET_MISUSE, and *len is 0. */
 #ifndef COSET_PAIRS_H
 #define COSET_PAIRS_H
@@ -20,10 +21,11 @@ typedef struct coset_pairs {
   size_t count, room;
   uint8_t *bytes;
   size_t len, cap;
-  int is_full; /* there was no room for a pair */
+  int is_full; /* a pair didn't fit */
 } coset_pairs;
 
-/* No pairs, with room for so many, and for so many bytes of texts, byte strings and encodings. */
+/* Returns an empty list, with room for this many pairs, and for this many bytes of texts, byte strings and
+ * encodings. */
 static inline coset_pairs coset_pairs_in(coset_pair *at, size_t room, uint8_t *bytes, size_t cap) {
   coset_pairs pairs;
   memset(&pairs, 0, sizeof pairs);
@@ -31,7 +33,7 @@ static inline coset_pairs coset_pairs_in(coset_pair *at, size_t room, uint8_t *b
   return pairs;
 }
 
-/* Copies bytes behind those that are there; returns where they begin. */
+/* Copies bytes after those that are there, and returns the offset of the copy. */
 static inline size_t coset_pairs_copy(coset_pairs *pairs, const void *at, size_t len) {
   const size_t begins = pairs->len;
   if (len > pairs->cap - begins) {
@@ -50,7 +52,7 @@ static inline void coset_pairs_add(coset_pairs *pairs, coset_pair pair) {
     pairs->at[pairs->count++] = pair;
 }
 
-/* One pair more, behind the others: an integer label, and a value of that form, by its bytes. */
+/* Adds a pair at the end: an integer label, and a value of this form, as its bytes. */
 static inline void coset_pairs_value(coset_pairs *pairs, int64_t label, uint32_t form, const void *at, size_t len) {
   coset_pair pair;
   memset(&pair, 0, sizeof pair);
@@ -79,7 +81,7 @@ static inline void coset_pairs_int(coset_pairs *pairs, int64_t label, int64_t va
   coset_pairs_add(pairs, pair);
 }
 
-/* One with a text label, and a value of that form, by its bytes. */
+/* Adds a pair with a text label, and a value of this form, as its bytes. */
 static inline void coset_pairs_named(coset_pairs *pairs, const void *label, size_t label_len, uint32_t form, const void *at,
                                      size_t len) {
   coset_pair pair;
@@ -89,7 +91,7 @@ static inline void coset_pairs_named(coset_pairs *pairs, const void *label, size
   coset_pairs_add(pairs, pair);
 }
 
-/* The map with these pairs more, by coset_put_all. */
+/* Writes the map with these pairs added, by coset_put_all. */
 static inline coset_status coset_put_pairs(uint32_t kind, const uint8_t *in, size_t in_len, const coset_pairs *pairs,
                                            uint8_t *out, size_t cap, size_t *len) {
   *len = 0;

@@ -1,8 +1,8 @@
-/* Verifying and decrypting in one call, over the calls of coset.h and the cryptography that the caller has. What the message
- * says is handed out only after the caller's function said yes.
+/* Verifies and decrypts in one call, by the calls of coset.h and the caller's cryptography. A message's contents are
+ * handed out only after the caller's function said yes.
  *
- * These are static inline, and nothing is proved of them; beside lengths they look at nothing but what the calls of coset.h
- * answer, which is. */
+ * These functions are static inline, and nothing is proved of them. Except for lengths, they look only at the results
+ * of the calls of coset.h, which are proved. */
 #ifndef COSET_VERIFY_H
 #define COSET_VERIFY_H
 
@@ -12,12 +12,12 @@
 extern "C" {
 #endif
 
-/* One more status, of these calls. */
+/* One more status, which these calls return. */
 enum {
   COSET_REFUSED = 18 /* the caller's function said no */
 };
 
-/* What the caller allows. All zeros are a policy that allows nothing. */
+/* The caller's requirements for a message. A policy of all zeros accepts nothing. */
 typedef struct coset_policy {
   const int64_t *algorithms; /* the algorithms that are allowed */
   size_t algorithms_len;
@@ -25,38 +25,38 @@ typedef struct coset_policy {
   size_t critical_len;
   const uint8_t *external_aad;
   size_t external_aad_len;
-  uint32_t has_detached; /* where it isn't 0, the message carries no payload or ciphertext, and this is it */
+  uint32_t has_detached; /* if it isn't 0, the message carries no payload or ciphertext, and `detached` is it */
   const uint8_t *detached;
   size_t detached_len;
 } coset_policy;
 
-/* What the caller's function is asked of. */
+/* The question that the caller's function answers. */
 typedef struct coset_question {
   int64_t algorithm;       /* one of those that are allowed */
-  const uint8_t *key_id;   /* NULL where the message names no key */
+  const uint8_t *key_id;   /* NULL if the message names no key */
   size_t key_id_len;
-  uint32_t key_id_map;     /* COSET_IN_PROTECTED; or COSET_IN_UNPROTECTED, which isn't signed; or COSET_NONE */
-  const uint8_t *input;    /* what is signed or authenticated, or what goes with the ciphertext */
+  uint32_t key_id_map;     /* COSET_IN_PROTECTED; COSET_IN_UNPROTECTED, which isn't signed; or COSET_NONE */
+  const uint8_t *input;    /* the structure that is signed, authenticated, or goes with the ciphertext */
   size_t input_len;
-  const uint8_t *proof;    /* the signature or the tag; of coset_encrypt0_decrypt the ciphertext */
+  const uint8_t *proof;    /* the signature or the tag; for coset_encrypt0_decrypt the ciphertext */
   size_t proof_len;
 } coset_question;
 
-/* Whether the proof is one of the input, by a key that the caller trusts for that algorithm: 1 for yes. */
+/* Returns 1 if the proof is a signature or a tag of the input, by a key that the caller trusts for that algorithm. */
 typedef int (*coset_verifier)(void *context, const coset_question *question);
 
-/* Whether the ciphertext is one, by such a key: 1 for yes, and the plaintext is then in `plain`, of `cap` bytes, and `*len` is
- * its length. `iv` is label 5 of the headers, NULL where neither has it. */
+/* Decrypts the ciphertext by such a key, and returns 1 if it is authentic. The plaintext is then in `plain`, which has
+ * `cap` bytes, and `*len` is its length. `iv` is label 5 of the headers, or NULL if neither has it. */
 typedef int (*coset_decrypter)(void *context, const coset_question *question, const uint8_t *iv, size_t iv_len, uint8_t *plain,
                                size_t cap, size_t *len);
 
-/* Zeros in memory that nothing was handed out of. */
+/* Writes zeros over memory whose contents weren't handed out. */
 static inline void coset_cleared(uint8_t *at, size_t len) {
   for (volatile uint8_t *byte = at; len > 0; len--) *byte++ = 0;
 }
 
-/* What the view says against the policy: COSET_OK, COSET_NOT_ALLOWED or COSET_CRITICAL; or COSET_MISUSE, where the list is longer
- * than any is. */
+/* Checks the view against the policy. Returns COSET_OK, COSET_NOT_ALLOWED or COSET_CRITICAL, or COSET_MISUSE if the
+ * list of algorithms is longer than any object. */
 static inline coset_status coset_permitted(const coset_message_spans_view *view, const coset_policy *policy) {
   size_t i = 0;
   if (policy->algorithms_len > (size_t)PTRDIFF_MAX / sizeof *policy->algorithms) return COSET_MISUSE;
@@ -67,12 +67,13 @@ static inline coset_status coset_permitted(const coset_message_spans_view *view,
   return COSET_OK;
 }
 
-/* The number of a message's kind in that form; 0, which is of none, where it isn't 0, COSET_TAGGED or COSET_EITHER. */
+/* Returns the kind of a message in this form. Returns 0, which is no kind, if form isn't 0, COSET_TAGGED or
+ * COSET_EITHER. */
 static inline uint32_t coset_kind_in(uint32_t message, uint32_t form) {
   return form == 0 || form == COSET_TAGGED || form == COSET_EITHER ? message + form : 0;
 }
 
-/* The question of a view, and of the texts that it names in the message and in `out`. */
+/* Returns the question for a view. Its texts are in the message or in `out`, as the view says. */
 static inline coset_question coset_asked(const coset_message_spans_view *view, const uint8_t *in, const uint8_t *out) {
   coset_question question;
   question.algorithm = view->algorithm;
@@ -86,11 +87,15 @@ static inline coset_question coset_asked(const coset_message_spans_view *view, c
   return question;
 }
 
-/* The status of a message of that kind, one of the first four, and of the signer of that index. Where it is COSET_OK, `verify`
- * said yes, and `*payload` is the payload, of `*payload_len` bytes: in `out`, where what is signed or authenticated ends with it,
- * or the detached one. Else `*payload` is NULL, and `out` holds nothing of the message. `out` has room for what is signed, and
- * for the rest of a message that is read by copies (coset_message_spans): where that isn't enough, the status is COSET_SHORT, and
- * `*payload_len` says how much is. */
+/* Verifies a message of one of the first four kinds, and returns the status. A COSET_SIGN is verified for the signer at
+ * index.
+ *
+ * If the status is COSET_OK, `verify` said yes, and `*payload` is the payload, of `*payload_len` bytes. It is in `out`,
+ * where the signed or authenticated structure ends with it, or it is the detached payload. After any other status
+ * `*payload` is NULL, and `out` has nothing of the message.
+ *
+ * `out` needs room for the structure, and for the other texts if the message is read by copies (coset_message_spans).
+ * If `out` is too small, the status is COSET_SHORT, and `*payload_len` is the size that is needed. */
 static inline coset_status coset_verify(uint32_t kind, const uint8_t *in, size_t in_len, size_t index, const coset_policy *policy,
                                         coset_verifier verify, void *context, uint8_t *out, size_t cap,
                                         const uint8_t **payload, size_t *payload_len) {
@@ -116,28 +121,29 @@ static inline coset_status coset_verify(uint32_t kind, const uint8_t *in, size_t
   return COSET_OK;
 }
 
-/* coset_verify for one signature, a COSET_SIGN1; form is 0, COSET_TAGGED or COSET_EITHER. */
+/* coset_verify for a message with one signature, a COSET_SIGN1. form is 0, COSET_TAGGED or COSET_EITHER. */
 static inline coset_status coset_sign1_verify(uint32_t form, const uint8_t *in, size_t in_len, const coset_policy *policy,
                                               coset_verifier verify, void *context, uint8_t *out, size_t cap,
                                               const uint8_t **payload, size_t *payload_len) {
   return coset_verify(coset_kind_in(COSET_SIGN1, form), in, in_len, 0, policy, verify, context, out, cap, payload, payload_len);
 }
 
-/* coset_verify for a MAC, a COSET_MAC0. */
+/* coset_verify for a message with a MAC, a COSET_MAC0. */
 static inline coset_status coset_mac0_verify(uint32_t form, const uint8_t *in, size_t in_len, const coset_policy *policy,
                                              coset_verifier verify, void *context, uint8_t *out, size_t cap,
                                              const uint8_t **payload, size_t *payload_len) {
   return coset_verify(coset_kind_in(COSET_MAC0, form), in, in_len, 0, policy, verify, context, out, cap, payload, payload_len);
 }
 
-/* coset_verify for the signer of that index of a COSET_SIGN. Which signers are enough is the caller's to say. */
+/* coset_verify for the signer at index of a COSET_SIGN. The caller decides which signers are enough. */
 static inline coset_status coset_sign_verify(uint32_t form, const uint8_t *in, size_t in_len, size_t index,
                                              const coset_policy *policy, coset_verifier verify, void *context, uint8_t *out,
                                              size_t cap, const uint8_t **payload, size_t *payload_len) {
   return coset_verify(coset_kind_in(COSET_SIGN, form), in, in_len, index, policy, verify, context, out, cap, payload, payload_len);
 }
 
-/* The IV of a message, label 5 of the protected header or else of the other: `*len` is 0 where neither has it. */
+/* Writes the IV of a message: label 5 of the protected header, else of the unprotected one. `*len` is 0 if neither has
+ * it. */
 static inline coset_status coset_iv(uint32_t kind, const uint8_t *in, size_t in_len, uint8_t *out, size_t cap, size_t *len) {
   coset_status status = coset_label_bytes(kind, in, in_len, COSET_IN_PROTECTED, 5, out, cap, len);
   if (status == COSET_ABSENT) status = coset_label_bytes(kind, in, in_len, COSET_IN_UNPROTECTED, 5, out, cap, len);
@@ -145,8 +151,8 @@ static inline coset_status coset_iv(uint32_t kind, const uint8_t *in, size_t in_
   return status;
 }
 
-/* Whether a COSET_ENCRYPT0 carries a ciphertext where the policy has none that is detached, and none where it has: COSET_OK,
- * COSET_ABSENT or COSET_MISUSE. */
+/* Checks that there is exactly one ciphertext, carried by the COSET_ENCRYPT0 or detached in the policy. Returns
+ * COSET_OK, COSET_ABSENT if there is none, or COSET_MISUSE if there are two. */
 static inline coset_status coset_is_carried(uint32_t kind, const uint8_t *in, size_t in_len, const coset_policy *policy) {
   size_t len;
   coset_status status = coset_part(kind, in, in_len, COSET_CIPHERTEXT, NULL, 0, &len);
@@ -155,10 +161,15 @@ static inline coset_status coset_is_carried(uint32_t kind, const uint8_t *in, si
   return status == COSET_ABSENT ? COSET_OK : COSET_MISUSE;
 }
 
-/* The status of a COSET_ENCRYPT0, by its form. Where it is COSET_OK, `decrypt` said yes, and `plain` holds the plaintext, of
- * `*plain_len` bytes; else `*plain_len` is 0, and `plain` holds zeros where `decrypt` was asked. `out` is memory to work in,
- * with room for Enc_structure, for the IV, and for the rest of a message that is read by copies: where that isn't enough, the
- * status is COSET_SHORT, and `*plain_len` says how much is. */
+/* Decrypts a COSET_ENCRYPT0 in this form, and returns the status.
+ *
+ * If the status is COSET_OK, `decrypt` said yes, and `plain` has the plaintext, of `*plain_len` bytes. After any other
+ * status but COSET_SHORT, `*plain_len` is 0. If `decrypt` was called and the status isn't COSET_OK, `plain`
+ * has zeros.
+ *
+ * `out` is memory to work in. It needs room for Enc_structure, for the IV, and for the other texts if the message is
+ * read by copies. If `out` is too small, the status is COSET_SHORT, and `*plain_len` is the size that is needed so far.
+ * With that size the call may still need more, for the IV. */
 static inline coset_status coset_encrypt0_decrypt(uint32_t form, const uint8_t *in, size_t in_len, const coset_policy *policy,
                                                   coset_decrypter decrypt, void *context, uint8_t *out, size_t cap,
                                                   uint8_t *plain, size_t plain_cap, size_t *plain_len) {
@@ -191,26 +202,27 @@ static inline coset_status coset_encrypt0_decrypt(uint32_t form, const uint8_t *
   return COSET_REFUSED;
 }
 
-/* ---- A bound of depth, for threads with little stack */
+/* ---- A bound on nesting, for threads with little stack */
 
 enum { COSET_MOST_LEVELS = 64 };
 
-/* A container, of which `left` items are still to come: UINT64_MAX where it has no length of its own. A byte string that may be a
- * protected header holds one. `outer` is where what is around it ends. */
+/* A container with `left` items still to come, or UINT64_MAX if its length is indefinite. A byte string that may be a
+ * protected header contains one item. `outer` is the end of the bytes around it. */
 struct coset_level {
   uint64_t left;
   size_t outer;
   int is_string, is_array, is_first;
 };
 
-/* Where a walk through items is, and what is around that. */
+/* The position of a walk through items, and the containers around it. */
 struct coset_walk {
   const uint8_t *in;
   size_t at, end, depth, most;
   struct coset_level levels[COSET_MOST_LEVELS + 1];
 };
 
-/* The head at the place of the walk (RFC 8949, section 3): 1, or 0 where there is none. Additional information 31 is 31 in info. */
+/* Reads the head at the walk's position (RFC 8949, section 3). Returns 1, or 0 if there is none. Additional information
+ * 31 is 31 in `*info`. */
 static inline int coset_head(struct coset_walk *walk, unsigned *major, unsigned *info, uint64_t *number) {
   size_t more;
   if (walk->at == walk->end) return 0;
@@ -223,7 +235,7 @@ static inline int coset_head(struct coset_walk *walk, unsigned *major, unsigned 
   return 1;
 }
 
-/* Goes into a container, or into the next `held` bytes: 1 where that is one level too many. */
+/* Enters a container, or the next `held` bytes. Returns 1 if that is one level too many, else 0. */
 static inline int coset_enter(struct coset_walk *walk, uint64_t left, int is_array, size_t held) {
   struct coset_level *level;
   if (walk->depth == walk->most) return 1;
@@ -234,12 +246,13 @@ static inline int coset_enter(struct coset_walk *walk, uint64_t left, int is_arr
   return 0;
 }
 
-/* One item more was read. */
+/* Counts one more item that was read. */
 static inline void coset_count_item(struct coset_walk *walk) {
   if (walk->levels[walk->depth].left != UINT64_MAX) walk->levels[walk->depth].left--;
 }
 
-/* Reads a head, and goes into what it begins, or past it: 1 where that is too deep, -1 where the bytes can't be read. */
+/* Reads a head, and enters the container that it begins, or passes the item. Returns 1 if that is too deep, -1 if the
+ * bytes can't be read, else 0. */
 static inline int coset_step(struct coset_walk *walk) {
   struct coset_level *level = &walk->levels[walk->depth];
   const int begins_array = level->is_array && level->is_first;
@@ -247,7 +260,7 @@ static inline int coset_step(struct coset_walk *walk) {
   uint64_t number;
   if (!coset_head(walk, &major, &info, &number)) return -1;
   level->is_first = 0;
-  if (major == 7 && info == 31) { /* the break of a container without a length */
+  if (major == 7 && info == 31) { /* the break of a container of indefinite length */
     if (level->left != UINT64_MAX) return -1;
     level->left = 0;
     return 0;
@@ -266,10 +279,13 @@ static inline int coset_step(struct coset_walk *walk) {
   return 0;
 }
 
-/* Whether arrays, maps, tags and protected headers are more than `most` within one another, as far as the bytes can be read:
- * 1 or 0. `most` is at most COSET_MOST_LEVELS. A call takes stack by levels (docs/C.md): so a thread that has little asks this
- * first, and refuses what is deeper. Any byte string that begins an array counts as a protected header here, and one of these
- * without a length as deeper than any bound, and so does a length above PTRDIFF_MAX. It takes 3 kB of stack, and no heap. */
+/* Returns 1 if arrays, maps, tags and protected headers nest deeper than `most`, as far as the bytes can be read, else
+ * 0. A `most` above COSET_MOST_LEVELS counts as COSET_MOST_LEVELS.
+ *
+ * The stack that a call takes grows with the nesting (docs/C.md). So a thread with little stack calls this first, and
+ * refuses input that nests deeper. Any byte string that begins an array counts as a protected header here. If its
+ * length is indefinite, it counts as deeper than any bound. So does an input longer than PTRDIFF_MAX. The check takes 3
+ * kB of stack, and no heap. */
 static inline int coset_is_deeper(const uint8_t *in, size_t len, size_t most) {
   struct coset_walk walk;
   if (len > (size_t)PTRDIFF_MAX) return 1;
@@ -279,7 +295,7 @@ static inline int coset_is_deeper(const uint8_t *in, size_t len, size_t most) {
   for (;;) {
     const int found = coset_step(&walk);
     if (found == 1) return 1;
-    if (found == -1) { /* what is behind the byte string around that is still to be read */
+    if (found == -1) { /* the bytes after the surrounding byte string are still to be read */
       while (walk.depth && !walk.levels[walk.depth].is_string) walk.depth--;
       if (!walk.depth) return 0;
       walk.levels[walk.depth].left = 0;
@@ -295,46 +311,46 @@ static inline int coset_is_deeper(const uint8_t *in, size_t len, size_t most) {
 
 /* ---- Web tokens */
 
-/* What a verifier asks of a token: the rules, and the lists and names that go with them. All zeros, but for the size of the
- * rules, are a policy that allows nothing. */
+/* A verifier's requirements for a token: the rules, and the lists and names that go with them. A policy of all zeros,
+ * except for the size of the rules, accepts nothing. */
 typedef struct coset_token_policy {
   coset_rules rules;
   const int64_t *signatures; /* the algorithms that are allowed in signatures */
   size_t signatures_len;
-  const int64_t *macs; /* in MACs */
+  const int64_t *macs; /* the algorithms that are allowed in MACs */
   size_t macs_len;
-  const int64_t *ciphers; /* and in encryption */
+  const int64_t *ciphers; /* the algorithms that are allowed in encryption */
   size_t ciphers_len;
   const int64_t *critical; /* the critical labels that the caller understands, and acts on */
   size_t critical_len;
-  const char *issuer; /* UTF-8; where rules.has_issuer isn't 0 */
+  const char *issuer; /* UTF-8, if rules.has_issuer isn't 0 */
   size_t issuer_len;
-  const char *audience; /* UTF-8; where rules.has_audience isn't 0 */
+  const char *audience; /* UTF-8, if rules.has_audience isn't 0 */
   size_t audience_len;
 } coset_token_policy;
 
-/* What the caller's function is asked of a layer. */
+/* The question that the caller's function answers for a layer. */
 typedef struct coset_layer_question {
-  uint32_t form; /* COSET_SIGN1: is `proof` a signature of `input`? COSET_MAC0: a MAC? COSET_ENCRYPT0: decrypt `proof` */
+  uint32_t form; /* COSET_SIGN1: is `proof` a signature of `input`? COSET_MAC0: a MAC? COSET_ENCRYPT0: decrypt it */
   int64_t algorithm;
-  const uint8_t *key_id; /* NULL where the layer names no key */
+  const uint8_t *key_id; /* NULL if the layer names no key */
   size_t key_id_len;
   uint32_t key_id_map;
   const uint8_t *input;
   size_t input_len;
   const uint8_t *proof;
   size_t proof_len;
-  const uint8_t *iv; /* NULL where there is none */
+  const uint8_t *iv; /* NULL if there is none */
   size_t iv_len;
-  const uint8_t *partial_iv; /* NULL where there is none */
+  const uint8_t *partial_iv; /* NULL if there is none */
   size_t partial_iv_len;
 } coset_layer_question;
 
-/* Whether the layer is what it says, by a key that the caller trusts for that algorithm: 1 for yes. Of COSET_ENCRYPT0 the plaintext
- * is then in `plain`, of `cap` bytes, and `*len` is its length. */
+/* Verifies or decrypts the layer by a key that the caller trusts for that algorithm, and returns 1 if it is authentic.
+ * For COSET_ENCRYPT0 the plaintext is then in `plain`, which has `cap` bytes, and `*len` is its length. */
 typedef int (*coset_opener)(void *context, const coset_layer_question *question, uint8_t *plain, size_t cap, size_t *len);
 
-/* The question of a layer that waits, and of its texts. */
+/* Returns the question for a layer that waits. Its texts are at `text`. */
 static inline coset_layer_question coset_layer_asked(const coset_layer *layer, const uint8_t *text) {
   coset_layer_question question;
   question.form = layer->form;
@@ -353,10 +369,14 @@ static inline coset_layer_question coset_layer_asked(const coset_layer *layer, c
   return question;
 }
 
-/* The status of a token at `now`, in seconds since 1970 began in UTC. Where it is COSET_OK, `opener` said yes to each layer, the
- * token is as the policy asks, and `*claims` are its claims, a COSET_CLAIMS of `*claims_len` bytes in `work`. Else `*claims` is
- * NULL, and `work` holds zeros. `work` has room for what is said of each layer, for plaintexts, and for the claims; four times
- * the token's length and 64 bytes for each of its layers are enough. Where it has no room, the status is COSET_SHORT. */
+/* Judges a token at `now`, in seconds since 1970 began in UTC, and returns the status.
+ *
+ * If the status is COSET_OK, `opener` said yes to each layer, and the token meets the policy. `*claims` are then its
+ * claims, a COSET_CLAIMS of `*claims_len` bytes in `work`. After any other status `*claims` is NULL, and `work` has
+ * zeros, unless `cap` is above PTRDIFF_MAX.
+ *
+ * `work` needs room for the texts of each layer, for plaintexts, and for the claims. Four times the token's length and
+ * 64 bytes for each of its layers are enough. If `work` is too small, the status is COSET_SHORT. */
 static inline coset_status coset_token_judge(const uint8_t *in, size_t in_len, int64_t now, const coset_token_policy *policy,
                                              coset_opener opener, void *context, uint8_t *work, size_t cap,
                                              const uint8_t **claims, size_t *claims_len) {

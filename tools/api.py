@@ -1,4 +1,4 @@
-"""The page docs/API.md: each public item of the facade and of the gate, as the sources declare it, without contracts."""
+"""Makes the page docs/API.md: each public item of the facade and of the gate, as the sources declare it, without contracts."""
 import functools
 import os
 import re
@@ -19,18 +19,18 @@ ITEM = re.compile(r"((?:^ *///[^\n]*\n|^ *#\[[^\n]*\n)*)^( *)pub (struct|enum|tr
 IMPL = re.compile(r"^impl\b(.*?)\s*\{(\}?)\n", re.M | re.S)
 METHOD = re.compile(r"((?:^    ///[^\n]*\n|^    #\[[^\n]*\n)*)^    (pub )?(?:(?:const )?fn (\w+)|((?:const|type) \w+: [^\n;=]*);$)", re.M)
 FIELD = re.compile(r"((?:^    ///[^\n]*\n|^    #\[[^\n]*\n)*)^    (pub )?(\w+)(?:(?:: (.*)|\((.*)\)|( = -?\w+)|)),$", re.M)
-# What each type has, or what no caller writes.
+# Traits that every type has, or that no caller writes.
 PASSED_OVER = {"Model", "Drop", "Eq", "PartialOrd", "Registry", "InPlace", "MapVisitor", "ValueTryAs"}
 
 
 @functools.lru_cache(maxsize=None)
 def crate_files(crate):
-    """The files of a crate, by their paths, without contracts."""
+    """Returns the files of a crate without contracts, by their paths."""
     return {path: sources.plain(sources.read(path)) for path in sources.files("crates", crate, "src")}
 
 
 def sentence(comment):
-    """The first sentence of a doc comment, in one line: with the code that it ends in, where that is a block below it."""
+    """Returns the first sentence of a doc comment in one line. If a block of code ends the sentence, it is included."""
     lines = [line.strip()[3:].strip() for line in comment.split("\n") if line.strip().startswith("///")]
     end = lines.index("") if "" in lines else len(lines)
     text = " ".join(lines[:end])
@@ -41,7 +41,7 @@ def sentence(comment):
 
 
 def module_file(crate, module):
-    """The file of a module of a crate, a path with `::`."""
+    """Returns the file of a module of a crate. The module is a path with `::`."""
     base = f"crates/{crate}/src/"
     for path in (f"{module.replace('::', '/')}.rt", f"{module.replace('::', '/')}/mod.rt") if module else ("lib.rt", "main.rt"):
         if os.path.exists(f"{common.HERE}/{base}{path}"):
@@ -51,7 +51,7 @@ def module_file(crate, module):
 
 @functools.lru_cache(maxsize=None)
 def exports(crate, module=""):
-    """What a module shows by `pub use`: names, each with the path that it is another name of."""
+    """Returns the names that a module exports by `pub use`, each with the path that it stands for."""
     found, text = {}, sources.read(module_file(crate, module))
     for path, names in re.findall(r"^pub use ([\w:]+?)(?:::\{([^}]*)\})?;", text, re.M):
         for it in [it.strip() for it in names.split(",") if it.strip()] or [path.rpartition("::")[2]]:
@@ -61,7 +61,7 @@ def exports(crate, module=""):
 
 
 def resolved(crate, module, name):
-    """Where what a module shows under a name is declared: crate, module, name; a module's own name is of no item."""
+    """Returns the crate, module and name where an exported name of a module is declared. For a module the name is None."""
     text = sources.read(module_file(crate, module))
     if re.search(rf"^pub (?:struct|enum|trait|type|const fn|fn|const) {name}\b", text, re.M):
         return crate, module, name
@@ -78,7 +78,7 @@ def resolved(crate, module, name):
 
 
 def through(crate, path):
-    """Where the item of this path of a crate is declared."""
+    """Returns where the item of this path of a crate is declared."""
     at = (crate, "")
     for name in path:
         found = resolved(*at, name)
@@ -89,7 +89,7 @@ def through(crate, path):
 
 
 def names_of(crate, module):
-    """The public names of a module, in alphabetical order, its modules aside."""
+    """Returns the public names of a module in alphabetical order, without its modules."""
     text = sources.read(module_file(crate, module))
     own = re.findall(r"^pub (?:struct|enum|trait|type|const fn|fn|const) (\w+)", text, re.M)
     return sorted({*own, *exports(crate, module)})
@@ -99,7 +99,7 @@ def names_of(crate, module):
 
 
 def signature(code, start):
-    """The signature of the function whose name begins there, in one line, with the types of closures in place."""
+    """Returns the signature of the function whose name begins at `start`, in one line. Types of closures are in place."""
     end = re.compile(r"\s*(?:\{\}?\n|;\n|\n *\{\}?\n)").search(code, start)
     text = re.sub(r"\s+", " ", code[start : end.start()]).replace("( ", "(").replace(", )", ")")
     text, _, where = text.replace("(mut self", "(self").partition(" where ")
@@ -124,31 +124,31 @@ def signature(code, start):
 
 
 def line(text, comment):
-    """A line of a list: code, and what it is."""
+    """Returns a line of a list: code, and the first sentence of its comment."""
     said = sentence(comment)
     return f"- `{text}`" + (f": {said}" if said else "")
 
 
 def methods(code, public):
-    """The lines of the functions in the body of an impl or a trait."""
+    """Yields the lines of the functions in the body of an impl or a trait."""
     for found in METHOD.finditer(code):
         if not public or found[2]:
             yield line(found[4] or f"fn {signature(code, found.start(3))}", found[1])
 
 
 def body(code, start):
-    """The body that begins behind the brace before `start`."""
+    """Returns the body that begins at `start`, up to its closing brace."""
     return code[start : sources.closing(code, start) - 1].lstrip("\n")
 
 
 def without_generics(text):
-    """The text of a header of an impl, behind its own parameters."""
+    """Returns the text of an impl's head after its own parameters."""
     return text[sources.to_close(text, 1) :].strip() if text.startswith("<") else text.strip()
 
 
 @functools.lru_cache(maxsize=None)
 def impls():
-    """Each impl of the library and the gate: its type's name, its trait or none, the file and its body."""
+    """Returns each impl of the library and the gate: its type's name, its trait or none, its file, and its body."""
     found = []
     for crate in common.below("coset", "cwt_gate"):
         for path, code in crate_files(crate).items():
@@ -163,13 +163,13 @@ def impls():
 
 @functools.lru_cache(maxsize=None)
 def of_one_name():
-    """The names that more than one item of the library and the gate has."""
+    """Returns the names that several items of the library and the gate share."""
     names = [it[4] for crate in common.below("coset", "cwt_gate") for code in crate_files(crate).values() for it in ITEM.finditer(code) if not it[2]]
     return {it for it in names if names.count(it) > 1}
 
 
 def impls_of(name, path):
-    """The impls of a type that this file declares. Where there are more of its name, they are in its file."""
+    """Yields the impls of a type that this file declares. If several types share the name, the impls are in the same file."""
     folder = path.partition("/src/")[0]
     for it, trait, where, inner in impls():
         if it == name and (where == path or name not in of_one_name()) and (trait or where.startswith(folder + "/")):
@@ -177,7 +177,7 @@ def impls_of(name, path):
 
 
 def members(kind, code, start):
-    """What a struct's or an enum's declaration has that is public, in one line."""
+    """Returns the lines of the public fields of a struct, or of the variants of an enum."""
     rest = code[start:]
     if kind == "struct" and (place := re.match(r"[^\n{;]*\((.*)\);\n", rest)):
         return [line(f"{n}: {it.removeprefix('pub ')}", "") for n, it in enumerate(sources.split(place[1])) if it.startswith("pub ")]
@@ -192,7 +192,7 @@ def members(kind, code, start):
 
 
 def traits_of(name, path, attributes):
-    """The traits that a type has, which callers use, in alphabetical order; and the types that are made of it."""
+    """Returns the type's traits that callers use, in alphabetical order, and then the types that convert from it."""
     derived = [it for found in re.findall(r"derive\(([^)]*)\)", attributes) for it in sources.split(found)]
     own = {re.sub(r"\b(?:\w+::)+", "", it) for it in (*derived, *(trait for trait, _ in impls_of(name, path) if trait))}
     made = {f"{trait} for {it}" for it, trait, _, _ in impls() if it != name and re.fullmatch(rf"(?:Try)?From<{name}>", trait)}
@@ -200,7 +200,7 @@ def traits_of(name, path, attributes):
 
 
 def registry(path, code, inner):
-    """The table of a registry: numbers, values, names in the registry, and what each is."""
+    """Returns the table of a registry: numbers, values, names in the registry, and their comments."""
     name = path.rpartition("::")[2]
     names = dict(re.findall(rf'^ *{name}::(\w+) => "([^"]*)",$', code, re.M))
     rows = [(it[6].removeprefix(" = "), it[3], names.get(it[3], ""), sentence(it[1])) for it in FIELD.finditer(inner)]
@@ -208,7 +208,7 @@ def registry(path, code, inner):
 
 
 def item(path, crate, module, name):
-    """The lines of an item that is declared there and called by this path, and whether it is a type with a heading."""
+    """Returns the lines of an item that is declared there and has this path, and whether it is a type with a heading."""
     file = module_file(crate, module)
     code = crate_files(crate)[file]
     found = next(it for it in ITEM.finditer(code) if it[4] == name and not it[2])
@@ -235,7 +235,7 @@ def item(path, crate, module, name):
 
 
 def section(crate, module, path, known):
-    """The section of a module: its functions, and then its types, but for those that are known by another path."""
+    """Returns the section of a module: its functions, then its types. An item with another path already is left out."""
     functions, types = [], []
     for name in names_of(crate, module):
         own, found = f"{path}::{name}", resolved(crate, module, name)
@@ -251,7 +251,7 @@ def section(crate, module, path, known):
 
 
 def laws():
-    """The section of the laws."""
+    """Returns the section of the laws."""
     lines = ["## `coset::laws`", "", "Each is an empty function, whose contract is a theorem: a proof calls it.", ""]
     for name, path in sorted(exports("coset", "laws").items()):
         crate, *rest = path.split("::")
@@ -262,7 +262,7 @@ def laws():
 
 
 def page():
-    """The page."""
+    """Returns the page."""
     lines, known = [HEADING], {}
     for module in FACADE:
         crate, inner = ("coset", module) if module_file("coset", module) else through("coset", module.split("::"))[:2]

@@ -1,12 +1,14 @@
 /* Attacks the C interface (tools/attack.py writes calls.h): `attack ROWS SEED CALLS`.
  *
- * Eight threads make calls of bytes that are rows of test vectors, most of them damaged. Each place that a call is given ends
- * at a page that nobody may touch, or begins behind one, and 64 bytes on its other side are looked at afterwards, as are the
- * input and what of `out` shouldn't be written. Blocks of the heap have such bytes around them, and are overwritten when they
- * are freed. Each answer is asked for again: with just enough memory, with one byte less, with each request for memory refused
- * in turn, and with each length in turn above PTRDIFF_MAX. The same seed makes the same calls. What is wrong is told with the call's arguments, and the status is 1.
+ * Eight threads make calls with the bytes of test vectors, most of them damaged. Each buffer of a call ends at an inaccessible
+ * page, or begins after one. Afterwards the 64 bytes on its other side are checked, and so are the input and the part of `out`
+ * that must stay unchanged. Blocks of the heap are surrounded by such bytes, and are overwritten when they are freed.
  *
- * With FUZZ defined it is what libFuzzer calls (tools/fuzz): the first 24 bytes choose the call and its numbers. */
+ * Each call is repeated: with just enough room, with one byte less, with each allocation refused in turn, and with each length
+ * above PTRDIFF_MAX in turn. The same seed makes the same calls. A fault is printed with the call's arguments, and the status
+ * is 1.
+ *
+ * With FUZZ defined, libFuzzer calls this program (tools/fuzz): the first 24 bytes choose the call and its numbers. */
 #define _GNU_SOURCE
 #include "coset.h"
 #include <inttypes.h>
@@ -27,14 +29,14 @@ union word {
 struct function {
   const char *name;
   int32_t (*call)(const union word *);
-  const char *classes; /* k kind, f flag, u number, i index, s label, b bytes and z their length, w labels
-                          and y how many they are, p pairs and q how many they are, x other structs and n how many they are, r a struct
-                          that begins with its size, o a buffer and c its length, l the answer's length, a and v other answers */
-  size_t sizes[WORDS]; /* of answers and structs */
+  const char *classes; /* k kind, f flag, u number, i index, s label, b bytes and z their length, w labels and y their number,
+                          p pairs and q their number, x other structs and n their number, r a struct that begins with its size,
+                          o a buffer and c its length, l the length of the result, a and v other results */
+  size_t sizes[WORDS]; /* of results and structs */
 };
 #include "calls.h"
 
-/* Memory between two pages that nobody may touch; n bytes at `at` are lent to a call, and `was` is what an input holds. */
+/* Memory between two inaccessible pages. A call gets n bytes at `at`, and `was` is a copy of an input's content. */
 struct place {
   uint8_t *start, *at, *was;
   size_t n;
@@ -49,7 +51,7 @@ static struct row *rows;
 static size_t row_count;
 static uint64_t seed;
 
-/* Of each thread. */
+/* The state of each thread. */
 static _Thread_local struct place places[WORDS];
 static _Thread_local union word words[WORDS];
 static _Thread_local const struct function *now;
@@ -57,14 +59,14 @@ static _Thread_local uint64_t state, calls, refused, accepted, lengths;
 static _Thread_local struct {
   uint64_t count;
   const struct row *rows[64];
-} liked[sizeof functions / sizeof *functions]; /* rows that a function had an answer for */
+} liked[sizeof functions / sizeof *functions]; /* rows for which a function returned a result */
 static _Thread_local const struct row *row_now;
 static _Thread_local const uint8_t *choices;
 static _Thread_local size_t choices_left;
 static _Thread_local long requests, refused_at = -1, live;
 static _Thread_local int long_at = -1; /* the length that is too long */
 
-/* ---- What is wrong */
+/* ---- Reporting faults */
 
 static void tell_words(void) {
   for (size_t i = 0; now->classes[i]; i++) {
@@ -90,7 +92,7 @@ static _Noreturn void fail(const char *what) {
   _exit(1);
 }
 
-/* ---- The heap (libFuzzer has AddressSanitizer's) */
+/* ---- The heap (with libFuzzer it is AddressSanitizer's) */
 
 #ifndef FUZZ
 
@@ -142,7 +144,7 @@ void rattle_dealloc(void *at) { give_back(at); }
 
 /* ---- Choices */
 
-/* A number below n, which isn't 0. */
+/* Returns a number below n, which isn't 0. */
 static uint64_t chosen(uint64_t n) {
   if (choices) return choices_left ? choices_left--, *choices++ % n : 0;
   state ^= state << 13, state ^= state >> 7, state ^= state << 17;
@@ -159,7 +161,7 @@ static uint64_t number(char class, uint32_t kind) {
   return chosen(16) ? chosen(6) : UINT32_MAX;
 }
 
-/* Damages bytes, and answers how many there are then. */
+/* Damages bytes, and returns their new number. */
 static size_t damaged(uint8_t *at, size_t len) {
   static const uint8_t heads[] = {0x00, 0x18, 0x1b, 0x20, 0x3b, 0x40, 0x5b, 0x5f, 0x60, 0x7f, 0x80, 0x9f, 0xa0, 0xbf, 0xc0, 0xd2, 0xdb, 0xf6, 0xfb, 0xff};
   for (uint64_t times = chosen(4); times && len; times--) {
@@ -177,7 +179,7 @@ static size_t damaged(uint8_t *at, size_t len) {
   return len;
 }
 
-/* ---- Places */
+/* ---- Buffers */
 
 static void make_places(void) {
   for (int i = 0; i < WORDS; i++) {
@@ -187,7 +189,7 @@ static void make_places(void) {
   }
 }
 
-/* Lends n bytes of a place, each 0xee, at its end or its start. */
+/* Gives a call n bytes at the end or the start of a place, each 0xee. */
 static void lend(struct place *p, size_t n, int at_start) {
   uint8_t *end = p->start + ROOM;
   p->at = at_start ? p->start : end - n;
@@ -203,7 +205,7 @@ static int is_untouched(const uint8_t *at, size_t n) {
 
 /* ---- One call */
 
-/* The bytes of an argument: those of a row (`first`: of the row that the kind is of), damaged or not; or libFuzzer's. */
+/* Chooses the bytes of an argument: those of a row, damaged or not, or libFuzzer's. `first` is the row of the chosen kind. */
 static size_t bytes_for(struct place *p, const struct row *first, const uint8_t **rest, size_t *left) {
   if (choices) {
     size_t n = *left * chosen(256) / 255;
@@ -217,7 +219,7 @@ static size_t bytes_for(struct place *p, const struct row *first, const uint8_t 
   return chosen(2) ? damaged(p->was, row->len) : row->len;
 }
 
-/* Lends some labels. */
+/* Gives a call some labels. */
 static void lend_labels(struct place *p) {
   size_t count = chosen(5);
   for (size_t i = 0; i < count; i++) {
@@ -228,7 +230,7 @@ static void lend_labels(struct place *p) {
   if (count) memcpy(p->at, p->was, p->n);
 }
 
-/* Lends structs of that size, whose fields are small numbers; of one that begins with its size this is mostly right. */
+/* Gives a call structs of that size with small numbers in their fields. If a struct begins with its size, it is mostly right. */
 static void lend_structs(struct place *p, size_t size, size_t count, int has_size) {
   lend(p, count * size, 0);
   for (size_t at = 0; at < p->n; at += 4) {
@@ -239,7 +241,7 @@ static void lend_structs(struct place *p, size_t size, size_t count, int has_siz
   if (p->n) memcpy(p->was, p->at, p->n);
 }
 
-/* Lends some pairs: some say nothing, and some point to bytes that aren't there. */
+/* Gives a call some pairs. Some are meaningless, and some point to bytes that don't exist. */
 static void lend_pairs(struct place *p) {
   size_t count = chosen(5);
   for (size_t i = 0; i < count; i++) {
@@ -252,7 +254,7 @@ static void lend_pairs(struct place *p) {
   if (count) memcpy(p->at, p->was, p->n);
 }
 
-/* A row for a function, half of the time one that it had an answer for; none for libFuzzer. */
+/* Chooses a row for a function: half of the time one for which it returned a result. libFuzzer uses no rows. */
 static const struct row *row_for(const struct function *f) {
   uint64_t count = liked[f - functions].count;
   if (choices) return NULL;
@@ -289,16 +291,16 @@ static void choose(const uint8_t *rest, size_t left) {
   }
 }
 
-/* The place of the argument of that class, or NULL. */
+/* Returns the place of the argument of that class, or NULL. */
 static struct place *of(char class) {
   const char *found = strchr(now->classes, class);
   return found ? &places[found - now->classes] : NULL;
 }
 
-/* Whether a call with that status wrote an answer: what was asked for, or a layer that waits. */
+/* Returns true if a call with that status wrote a result: the requested one, or a layer that waits. */
 static int is_answer(int32_t status) { return status == COSET_OK || status == COSET_LAYER; }
 
-/* The texts that are named by places are in the input, or in what was written. */
+/* Checks that texts that are given by their places lie in the input, or in the output. */
 static void look_at_spans(size_t len) {
   coset_message_spans_view view;
   memcpy(&view, of('v')->at, sizeof view);
@@ -310,7 +312,7 @@ static void look_at_spans(size_t len) {
       fail("a text outside of its place");
 }
 
-/* A part of the input is within it, and nothing but zeros after a refusal. */
+/* Checks that a part of the input lies within it. After a refusal it must be zeros. */
 static void look_at_span(const struct place *p, int32_t status) {
   coset_span span;
   memcpy(&span, p->at, sizeof span);
@@ -318,7 +320,7 @@ static void look_at_span(const struct place *p, int32_t status) {
   if (span.at > of('b')->n || span.len > of('b')->n - span.at) fail("a part outside of the input");
 }
 
-/* What is to hold of each place after a call with that status; `len` is the length that was told. */
+/* Checks each place after a call with that status. `len` is the length that the call returned. */
 static void look(int32_t status, size_t len) {
   static const uint8_t zeros[1 << 10];
   for (int i = 0; now->classes[i]; i++) {
@@ -342,7 +344,7 @@ static void look(int32_t status, size_t len) {
   if (live) fail("a block isn't freed");
 }
 
-/* Makes the call, with room for `cap` bytes of an answer, and looks at all places; `*len` is the length that it says. */
+/* Makes the call with room for `cap` bytes of a result, and checks all places. Sets `*len` to the length that it returns. */
 static int32_t made(size_t cap, size_t *len) {
   struct place *out = of('o'), *length = of('l');
   if (out) {
@@ -364,7 +366,7 @@ static int32_t made(size_t cap, size_t *len) {
   return status;
 }
 
-/* Whether the answer is the same when memory is refused, request by request, or the call says so. */
+/* Refuses each allocation in turn, and checks that the call returns COSET_MEMORY or the same result. */
 static void refuse_each(int32_t status, size_t cap, size_t len) {
   long most = requests;
   for (long n = 0; n < most && n < 200; n++) {
@@ -377,7 +379,7 @@ static void refuse_each(int32_t status, size_t cap, size_t len) {
   }
 }
 
-/* Whether the call refuses each length, in turn, that no object has. */
+/* Checks that the call refuses each length in turn, if it is above PTRDIFF_MAX. */
 static void lengthen_each(size_t cap) {
   for (int i = 0; now->classes[i]; i++) {
     size_t told;
@@ -389,7 +391,7 @@ static void lengthen_each(size_t cap) {
   }
 }
 
-/* Makes a call again with just enough room, with a byte less and more, with memory refused, and with lengths that are too long. */
+/* Repeats a call with just enough room, with a byte less and more, with allocations refused, and with excessive lengths. */
 static void attack(void) {
   static _Thread_local uint8_t answer[ROOM];
   struct place *out = of('o');

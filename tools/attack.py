@@ -1,5 +1,5 @@
-"""The attack on the C interface that `tools/c --attack` and `tools/fuzz` make: tools/attack.c over each function that the headers
-in include/ declare. The table of these functions is written from the headers, so that a new function is attacked as well."""
+"""Attacks the C interface for `tools/c --attack` and `tools/fuzz`. tools/attack.c calls each function that the headers in
+include/ declare. The table of these functions is written from the headers, so a new function is attacked as well."""
 import os
 import re
 import subprocess
@@ -27,20 +27,20 @@ def headers():
 
 
 def declarations():
-    """The headers as the compiler sees them, without attributes."""
+    """Returns the headers as the compiler sees them, without attributes."""
     given = "".join(f"#include <{it}>\n" for it in headers())
     text = run(["cc", "-E", "-P", "-D__attribute__(x)=", f"-I{HERE}/include", "-x", "c", "-"], input=given)
     return re.sub(r"\[\[.*?\]\]", "", text)
 
 
 def enum(text, first):
-    """The names and numbers of the enum that begins with this constant."""
+    """Returns the names and numbers of the enum that begins with this constant."""
     found = re.search(r"enum\s*\w*\s*\{\s*" + first + r"\s*=.*?\}", text, re.S)
     return [(name, int(number, 0)) for name, number in re.findall(r"(COSET_\w+)\s*=\s*(\w+)", found[0])]
 
 
 def class_of(type_, name, before):
-    """The letter by which attack.c makes an argument, and the type that the answer there has; None where it knows none."""
+    """Returns the letter by which attack.c makes an argument, and the type of the result in it. Unknown arguments are None."""
     if type_ == "size_t" and before in ("b", "w", "o", "p", "x"):
         return {"b": "z", "w": "y", "o": "c", "p": "q", "x": "n"}[before], None
     if type_ == "const coset_pair *":
@@ -62,7 +62,7 @@ def class_of(type_, name, before):
 
 
 def functions(text):
-    """Each function that returns a status: its name, and the class and the type of each argument, None where one isn't known."""
+    """Yields each function that returns a status: its name, and `class_of` for each argument."""
     while re.search(r"\{[^{}]*\}", text):
         text = re.sub(r"\{[^{}]*\}", "", text)
     for name, arguments in re.findall(r"\b(?:int32_t|coset_status)\s+(coset_\w+)\s*\(([^()]*)\)\s*;", text):
@@ -74,7 +74,8 @@ def functions(text):
 
 
 def table(text):
-    """The file calls.h: each function with its classes, kinds and statuses; and the names of those that are left out."""
+    """Returns the file calls.h, and the functions that it leaves out. It has each function with its classes, the kinds and
+    the statuses."""
     statuses, kinds = enum(text, STATUSES), enum(text, KINDS)
     numbers = dict(statuses)
     lines = [f"enum {{ STATUSES = {max(numbers.values()) + 1}, FORM = {TAGGED} }};"]
@@ -93,7 +94,7 @@ def table(text):
 
 
 def rows():
-    """The rows of coset_vectors that hold bytes: the number of the kind, and the bytes."""
+    """Yields the rows of coset_vectors that have bytes: the number of the kind, and the bytes."""
     with open(f"{HERE}/crates/coset_vectors/stdin", encoding="utf-8") as file:
         for line in file:
             words = line.split()
@@ -105,7 +106,7 @@ def rows():
 
 
 def prepared(folder):
-    """Writes calls.h and the file of rows; answers the names of the functions that are left out."""
+    """Writes calls.h and the file of rows. Returns the names of the functions that are left out."""
     text, left = table(declarations())
     with open(f"{folder}/calls.h", "w", encoding="utf-8") as file:
         file.write(text)
@@ -115,7 +116,7 @@ def prepared(folder):
 
 
 def attack(folder, objects, calls):
-    """Attacks the library of these object files in a folder by about so many calls, and answers what is to be said of it."""
+    """Attacks the library of these object files with about `calls` calls. Returns whether no fault was found, and a report."""
     left = prepared(folder)
     flags = ["-std=c11", "-O2", "-Wall", "-Wextra", "-Werror", f"-I{HERE}/include", f"-I{folder}"]
     run(["cc", *flags, "-o", "attack", f"{HERE}/tools/attack.c", *objects, "-lpthread"], cwd=folder)
@@ -126,7 +127,7 @@ def attack(folder, objects, calls):
 
 
 def corpus(folder):
-    """Writes each row as an input of libFuzzer: the choices that attack.c takes first, and the bytes."""
+    """Writes each row as an input of libFuzzer: first the choices that attack.c reads, then the bytes."""
     kinds = [number for _, number in enum(declarations(), KINDS) if number < TAGGED]
     os.makedirs(folder, exist_ok=True)
     for place, (number, data) in enumerate(rows()):

@@ -1,4 +1,4 @@
-"""A headless Chromium over a pipe, with nothing beside Python: pages are opened, run scripts, and are seen."""
+"""Controls a headless Chromium over a pipe, in Python alone: opens pages, runs scripts in them, and takes screenshots."""
 import base64
 import json
 import os
@@ -10,12 +10,12 @@ PROGRAMS = ("chromium", "chromium-browser", "google-chrome")
 
 
 def program():
-    """The path of Chromium, or None."""
+    """Returns the path of Chromium, or None."""
     return next(filter(None, map(shutil.which, PROGRAMS)), None)
 
 
 class Browser:
-    """One Chromium, and in it one page. `requests` has the address of each request that the page made."""
+    """A Chromium with one page. `requests` has the address of each request that the page made."""
 
     def __init__(self):
         self.folder = tempfile.mkdtemp()
@@ -46,7 +46,7 @@ class Browser:
         shutil.rmtree(self.folder, ignore_errors=True)
 
     def read(self):
-        """The next message."""
+        """Returns the next message."""
         parts = [self.rest]
         while b"\0" not in parts[-1]:
             parts.append(os.read(self.of, 1 << 20))
@@ -79,7 +79,7 @@ class Browser:
         self.call("Page.navigate", url=address)
 
     def run(self, script):
-        """What a script of the page answers."""
+        """Runs a script in the page, and returns its result."""
         told = self.call("Runtime.evaluate", expression=script, awaitPromise=True, returnByValue=True)
         if "exceptionDetails" in told:
             raise RuntimeError(json.dumps(told["exceptionDetails"])[:1000])

@@ -1,4 +1,4 @@
-"""What `tools/c --install PREFIX` lays out for those who use the C interface, made of packaging/ and wrappers/:
+"""Installs the files for users of the C interface, for `tools/c --install PREFIX`. They come from packaging/ and wrappers/:
 
     include/*.h                 the headers
     lib/                        libcoset.a and libcoset.so, coset.pc for pkg-config, and the files of CMake
@@ -30,12 +30,12 @@ def version():
 
 
 def numbers():
-    """The version's numbers, without the word behind them."""
+    """Returns the version's numbers, without the word after them."""
     return re.match(r"[\d.]+\d", version())[0]
 
 
 def series():
-    """The first two of them: until there is a version 1, a change of the second may change the interface."""
+    """Returns the first two numbers. Before version 1, a change of the second may change the interface."""
     return ".".join(numbers().split(".")[:2])
 
 
@@ -44,7 +44,7 @@ def soname():
 
 
 def filled(text, prefix, quick):
-    """A file of packaging/ with what it has to say in place of each @WORD@."""
+    """Returns the text of a file of packaging/ with each @WORD@ replaced."""
     words = {"PREFIX": prefix, "VERSION": version(), "NUMBERS": numbers(), "SERIES": series(), "SONAME": soname(),
              "PYTHON_VERSION": version().replace("-", "+", 1), "PROVED": "no" if quick else "yes",
              "UNPROVED": "; built with --quick, not proved" if quick else ""}
@@ -52,7 +52,7 @@ def filled(text, prefix, quick):
 
 
 def public(text):
-    """The public names of a Python module: of each function the names of its parameters, of all else nothing."""
+    """Returns the public names of a Python module: for functions with the names of their parameters, for others with None."""
     found = {}
     for it in ast.parse(text).body:
         if isinstance(it, ast.FunctionDef):
@@ -66,13 +66,13 @@ def public(text):
 
 
 def unlike():
-    """The names that the type hints lack, or have otherwise than the wrapper."""
+    """Returns the names for which the type hints differ from the wrapper."""
     hinted, there = (public(read(f"{folder}/coset.py{i}")) for folder, i in (("packaging/python", "i"), ("wrappers/python", "")))
     return sorted(name for name in {*hinted, *there} if name not in hinted or name not in there or hinted[name] != there[name])
 
 
 def texts(prefix, quick):
-    """Each text that is installed, by its path."""
+    """Returns each text that is installed, by its path."""
     fill = lambda path: filled(read(path), prefix, quick)
     wrapper = read("wrappers/python/coset.py")
     found = {f"include/{it}": read(f"include/{it}") for it in os.listdir(f"{HERE}/include") if it.endswith(".h")}
@@ -90,8 +90,9 @@ def texts(prefix, quick):
 
 
 def install(library, prefix, quick, below=""):
-    """Lays out the library, libcoset.a and libcoset.so of a folder, for a prefix; `below` is what is in front of the paths for
-    now, as whoever builds a package has it. Answers what is to be said."""
+    """Installs the library (libcoset.a and libcoset.so of a folder) for a prefix. Returns the messages to print.
+
+    `below` precedes the paths during the installation, as in the build of a package."""
     prefix = os.path.abspath(prefix)
     root = below + prefix
     for path, text in texts(prefix, quick).items():
@@ -100,7 +101,7 @@ def install(library, prefix, quick, below=""):
             file.write(text)
     shared = f"libcoset.so.{numbers()}"
     for name, path in (("a", "lib/libcoset.a"), ("so", f"lib/{shared}"), ("so", "share/coset/python/coset/libcoset.so")):
-        # A program that runs keeps the file that it has.
+        # A running program keeps its old file.
         shutil.copy(f"{library}/libcoset.{name}", f"{root}/{path}.new")
         os.replace(f"{root}/{path}.new", f"{root}/{path}")
     for name in (soname(), "libcoset.so"):
@@ -109,11 +110,11 @@ def install(library, prefix, quick, below=""):
     return [f"installed in {root}: coset {version()}{', built without a proof' if quick else ''}"]
 
 
-# ---- whether what was installed can be used: what a program of each kind prints of a token
+# ---- trying the installation: the output of a program of each kind for a token
 
 
 def run(*command, **more):
-    """What the command prints, or what is wrong with it."""
+    """Returns the command's output, or a message if it fails."""
     ran = subprocess.run(command, capture_output=True, text=True, errors="replace", check=False, **more)
     return ran.stdout.strip() if ran.returncode == 0 else f"{' '.join(command)}: {ran.stdout[-1000:]}{ran.stderr[-1000:]}"
 
@@ -153,8 +154,9 @@ def has(tool):
 
 
 def tried(library, quick, token, payload, check):
-    """Installs the library elsewhere, and checks that a program shows the payload of a token that was built in each way for
-    which the tool is there; answers which."""
+    """Installs the library in a temporary folder, and builds a program in each way for which the tool is installed.
+
+    Checks that each program prints the payload of the token. Returns which ways were tried."""
     with tempfile.TemporaryDirectory() as prefix, tempfile.TemporaryDirectory() as folder:
         install(library, prefix, quick)
         given = run("nm", "-D", "--defined-only", "--format=just-symbols", f"{prefix}/lib/libcoset.so").split()

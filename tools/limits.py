@@ -1,5 +1,5 @@
-"""How much stack and memory calls from C take, by their input, which `tools/c --limits` measures (wrappers/c/limits.c): the
-tables of docs/C.md. Each number there is a bound: the greatest of all calls over that input, rounded up."""
+"""Makes the tables of docs/C.md with the stack and memory that calls from C take, which `tools/c --limits` measures
+(wrappers/c/limits.c). Each number there is a bound: the greatest over all calls with that input, rounded up."""
 import itertools
 import os
 import subprocess
@@ -19,17 +19,17 @@ CALLS = {SIGN1: "check part label structure detached countersigned sign1 message
 
 
 def levels(count):
-    """A message whose unprotected header has a value of so many arrays inside one another."""
+    """Returns a message whose unprotected header has a value of `count` nested arrays."""
     return hostile.message(b"", hostile.head(5, 1) + hostile.head(0, 70) + hostile.head(4, 1) * (count - 1) + hostile.head(4, 0))
 
 
 def headers(count):
-    """A message with so many headers inside one another, each the unprotected one of a counter signature of the one before."""
+    """Returns a message with `count` nested headers. Each is the unprotected header of a counter signature in the one before."""
     return hostile.message(b"", hostile.nested(count - 1, hostile.head(5, 0), itertools.cycle([7])))
 
 
 def protected(count, around=0):
-    """A message with so many protected headers inside one another, each in the innermost of so many unprotected ones."""
+    """Returns a message with `count` nested protected headers, each inside `around` more unprotected headers."""
     content = b""
     for _ in range(count - 1):
         content = hostile.nested(around, hostile.with_counter_signature(7, content, hostile.head(5, 0)), itertools.cycle([7]))
@@ -37,12 +37,12 @@ def protected(count, around=0):
 
 
 def recipients(count):
-    """So many recipients inside one another."""
+    """Returns `count` nested recipients."""
     return hostile.recipients(count, b"", b"\xf6")
 
 
 def nesting(program, token):
-    """The rows of the table of stack: what is inside one another, how deep, and the inputs, each with its kind."""
+    """Yields the rows of the table of stack: what nests, how deep, and the inputs with their kinds."""
     yield "a signed token (RFC 8392, appendix A.3)", [""], [(SIGN1 + EITHER, token)]
     counts = (16, 64, 128)
     yield "arrays in the value of a label", [*counts, 254], [(SIGN1, levels(n)) for n in (*counts, 254)]
@@ -59,13 +59,13 @@ def nesting(program, token):
 
 
 def is_deeper(program, data, most):
-    """Whether coset_is_deeper says so."""
+    """Returns the result of coset_is_deeper."""
     ran = subprocess.run([program], input=f"deeper {most} {data.hex()}\n", capture_output=True, text=True, check=True)
     return ran.stdout.split()[0] == "1"
 
 
 def shallow(program, most):
-    """The deepest inputs of each kind that `coset_is_deeper` takes for no deeper than that."""
+    """Returns the deepest input of each kind for which `coset_is_deeper` is false."""
     kinds = [(SIGN1, levels), (SIGN1, headers), (SIGN1, protected), (RECIPIENT, recipients)]
     kinds += [(SIGN1, lambda count, around=around: protected(count, around)) for around in (1, 2, 4)]
     found = []
@@ -76,12 +76,12 @@ def shallow(program, most):
 
 
 def list_of(start, member, count):
-    """An array of so many members, behind these bytes."""
+    """Returns `start`, followed by an array of `count` members."""
     return start + hostile.head(4, count) + member * count
 
 
 def amounts(token):
-    """The rows of the table of memory: what is read, its kind and its bytes."""
+    """Yields the rows of the table of memory: the name of the input, its kind, and its bytes."""
     key = b"\xa3\x01\x04\x02" + hostile.byte_string(b"a key's id") + b"\x20" + hostile.byte_string(bytes(32))
     payload = hostile.byte_string(bytes(10**6))
     signers, recipients_of = b"\x84\x40\xa0\xf6", b"\x85\x40\xa0\xf6\x40"
@@ -98,7 +98,8 @@ def amounts(token):
 
 
 def told(program, kind, data, **more):
-    """What each call over that input answers and takes: its status, the bytes of stack, of memory at once, and the requests."""
+    """Returns for each call with that input its status, the bytes of stack, the most bytes of memory at once, and the number of
+    allocations."""
     lines = "".join(f"{call} {kind} {data.hex()}\n" for call in CALLS[kind & 0xFF].split())
     ran = subprocess.run([program], input=lines, capture_output=True, text=True, check=False, **more)
     if ran.returncode:
@@ -107,13 +108,15 @@ def told(program, kind, data, **more):
 
 
 def measured(program, kind, data):
-    """The most stack, memory and requests that a call takes over that input."""
+    """Returns the most status, stack, memory and allocations of any call with that input."""
     return [max(column) for column in zip(*told(program, kind, data))]
 
 
 def refusals(program, token, check):
-    """Each request of each call over the token is refused by the program's heap in turn: nothing but COSET_MEMORY, or what is
-    answered with ample memory, comes of it. The program itself sees that all is freed. Returns how many requests there were."""
+    """Lets the program's heap refuse each allocation of each call with the token in turn.
+
+    A call must then return COSET_MEMORY, or the same as with enough memory. The program itself checks that everything is
+    freed. Returns the number of allocations."""
     ample = told(program, SIGN1 + EITHER, token)
     check(all(it[0] in (0, 12, 13) and (it[3] or it[0]) for it in ample), f"over a heap of the program's own: {ample}")
     for number in range(1, max(it[3] for it in ample) + 1):
@@ -127,7 +130,7 @@ def rounded(number, step):
 
 
 def spelled(number, up=True):
-    """A number of bytes in words, of two digits, rounded up where nothing else is said."""
+    """Returns a number of bytes in words, with two digits. It is rounded up, or to the nearest if `up` is false."""
     unit = 10 ** max(0, len(str(number)) - 2)
     number = rounded(number, unit) if up else (number + unit // 2) // unit * unit
     for unit, name in ((10**6, "MB"), (10**3, "kB")):
@@ -137,7 +140,7 @@ def spelled(number, up=True):
 
 
 def tables(program, token):
-    """The two tables, as docs/C.md has them."""
+    """Yields the lines of the two tables, as docs/C.md has them."""
     yield "| Inside one another | How many | kB of stack |"
     yield "|---|---|---|"
     for name, counts, inputs in nesting(program, token):

@@ -1,4 +1,4 @@
-"""What `tools/page --test` tries: the page in headless Chromium against the native program, and a script of a user's."""
+"""Tests the page for `tools/page --test`: in headless Chromium, against the native program, and with a user's actions."""
 import base64
 import hashlib
 import json
@@ -19,7 +19,7 @@ FORMS = {1: [], 2: ["--edn"], 3: ["--where"]}
 MOMENT = 1_500_000_000
 MEGABYTE = 1 << 20
 STEPS, BYTES = 32, 32  # as many levels are indented, and as many digits are in a row
-# What the page is asked: the forms of an input by the module, what it shows of one, and the hash of a form.
+# Functions for the page: the module's output for an input, the page's rows for it, and the hash of an output.
 SCRIPT = """
 globalThis.bytesOf = text => Uint8Array.from(atob(text), it => it.charCodeAt(0));
 globalThis.asked = async (text, kind, form, now) => {
@@ -47,7 +47,7 @@ globalThis.hashOf = async (text, kind, form) => {
 
 
 def answers(program, form, some, now):
-    """What the native program writes of inputs with their kinds, which it is given as files, many at once."""
+    """Returns the native program's output for inputs with their kinds. It gets many at once, as files."""
     with tempfile.TemporaryDirectory() as folder:
         words, names = [], [f"{folder}/{place}" for place in range(len(some))]
         for name, (data, kind) in zip(names, some):
@@ -61,7 +61,7 @@ def answers(program, form, some, now):
 
 
 def native(program, every):
-    """What the native program writes of each case, by form, and its status, which is 0 where the input is accepted."""
+    """Returns the native program's status and output for each case and form. The status is 0 if the input is accepted."""
     told = {}
     for now in (None, MOMENT):
         some = [case for case in every if case[2] == now]
@@ -75,7 +75,7 @@ def native(program, every):
 
 
 def ask(program, data, kind, form):
-    """What the native program answers to one input: its status and its text."""
+    """Returns the native program's status and output for one input."""
     ran = subprocess.run([program, *FORMS[form], kind], input=data, capture_output=True, check=False)
     return ran.returncode, ran.stdout
 
@@ -88,7 +88,7 @@ def text(data):
 
 
 def rows():
-    """The rows of coset_vectors of a kind that the viewer knows."""
+    """Yields the rows of coset_vectors of a kind that the viewer knows."""
     with open(f"{HERE}/crates/coset_vectors/stdin", encoding="utf-8") as file:
         for line in file:
             words = line.split()
@@ -98,7 +98,7 @@ def rows():
 
 
 def cases():
-    """Each input, with a kind and perhaps a moment."""
+    """Yields each input with a kind, and a moment or None."""
     for kind, data in rows():
         for it in (kind, "auto", "cwt"):
             yield data, it, None
@@ -121,7 +121,7 @@ def head(major, number):
 
 
 def layered(count):
-    """A message in whose protected header a countersignature has a header with one, and so on."""
+    """Returns a message with a countersignature in its protected header, which has one in its own, and so on `count` times."""
     held = b"\xa0"
     for _ in range(count):
         held = b"\xa1\7\x83" + head(2, len(held)) + held + b"\xa0\x40"
@@ -129,7 +129,7 @@ def layered(count):
 
 
 def hostile():
-    """Deep and long inputs, by name; the long ones hold a megabyte."""
+    """Returns deep and long inputs by name. The long ones have about a megabyte."""
     found = {f"levels {n}": b"\x81" * (n - 1) + b"\0" for n in (256, 257, 258)}
     found |= {f"tags {n}": b"\xc6" * (n - 1) + b"\0" for n in (256, 300)} | {f"layers {n}": layered(n) for n in (15, 16, 17, 18)}
     found |= {"maps 256": b"\xa1\0" * 255 + b"\0", "long opened": b"\x9f" * MEGABYTE}
@@ -145,11 +145,11 @@ def hostile():
     return found
 
 
-# ---- what the page shows, as the native program writes it
+# ---- comparing the page with the native program
 
 
 def annotated(shown, notes):
-    """The text that the native program writes, of the rows and the notes that the page shows."""
+    """Returns the rows and notes of the page as the text that the native program writes."""
     comment = lambda note: f" / {note.replace('/', '//')} /" if note else ""
     lines = []
     for digits, depth, words, note, _, _ in shown:
@@ -159,7 +159,7 @@ def annotated(shown, notes):
 
 
 def compare(page, program, wrong):
-    """Compares each case: what the page shows, and each form that the module writes."""
+    """Compares each case with the native program: the page's rows, and the module's output in each form."""
     every = list(dict.fromkeys(cases()))
     told = native(program, every)
     for begin in range(0, len(every), 100):
@@ -181,7 +181,7 @@ def compare(page, program, wrong):
 
 
 def compare_hostile(page, program, wrong, quick):
-    """Compares hostile input by the hashes of answers; where nothing was proved, the module may stop."""
+    """Compares hostile input by the hashes of outputs. An unproved module may stop."""
     tried = stopped = 0
     for name, data in hostile().items():
         kinds = ["encrypt", "mac"] if name.startswith("recipients") else ["auto", "claims"] if name.startswith("long") else ["auto", "sign1"]
@@ -201,11 +201,11 @@ def compare_hostile(page, program, wrong, quick):
     return f"hostile {tried}" + (f", of which the unproved module stopped at {stopped}" if stopped else "")
 
 
-# ---- what a user does
+# ---- a user's actions
 
 
 def wait(page, script):
-    """Waits until that holds in the page."""
+    """Waits until the script returns true in the page. Returns false if it doesn't in time."""
     for _ in range(400):
         if page.run(script):
             return True
@@ -214,13 +214,13 @@ def wait(page, script):
 
 
 def click(page, row, side):
-    """Clicks on a side of a row: 0 are its bytes, 2 is what they are."""
+    """Clicks on a side of a row: 0 is its bytes, 2 is its text."""
     page.click(*page.run(f"""(() => {{ const it = document.querySelectorAll(".row")[{row}].children[{side}].firstChild;
       const range = document.createRange(); range.selectNode(it); const at = range.getBoundingClientRect(); return [at.x + 4, at.y + 5]; }})()"""))
 
 
 def mark(page):
-    """Types a message, clicks on either side of it, goes on by a key, and copies: what is wrong."""
+    """Types a message, clicks on both sides of it, moves on with a key, and copies. Yields what is wrong."""
     page.look_like(1280, 1400, "light")
     page.run('at("clear").click(); at("input").focus()')
     page.call("Input.insertText", text="d28443a10126a10442313154546869732069732074686520636f6e74656e742e41aa")
@@ -242,7 +242,7 @@ def mark(page):
 
 
 def give(page):
-    """Gives the page markup, a file and a fault, and asks for a request: what is wrong."""
+    """Gives the page markup, a file and a fault, and tries a request. Yields what is wrong."""
     markup = "<img src=x onerror=alert(1)><script>alert(2)</script>"
     page.run(f"type({json.dumps((head(3, len(markup)) + markup.encode()).hex())})")
     if not wait(page, f'at("rows").textContent.includes({json.dumps(markup)})'):
@@ -266,7 +266,7 @@ def give(page):
 
 
 def shots(page):
-    """Leaves screenshots of an example and of a fault, at two widths, light and dark."""
+    """Saves screenshots of an example and of a fault, at two widths, light and dark. Returns what is wrong."""
     os.makedirs(SHOTS, exist_ok=True)
     for width, height in ((1280, 1400), (360, 1800)):
         for scheme in ("light", "dark"):
@@ -281,7 +281,7 @@ def shots(page):
 
 
 def times(page):
-    """How long a megabyte takes until it is shown, in milliseconds."""
+    """Returns the times in milliseconds until a megabyte is shown."""
     told = []
     for name, data in hostile().items():
         if name.startswith("long"):
@@ -294,7 +294,7 @@ def times(page):
 
 
 def test(path, program, quick):
-    """Tries the page, and answers what is wrong; None where there is no Chromium."""
+    """Tests the page, and returns what is wrong, or None if there is no Chromium."""
     if not browser.program():
         print("there is no Chromium: the page isn't tried")
         return None

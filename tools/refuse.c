@@ -1,17 +1,17 @@
-// Refuses requests for memory: a library that tools/refuse has loaded before a program (LD_PRELOAD).
+// Refuses allocations: a library that tools/refuse preloads into a program (LD_PRELOAD).
 //
-// Requests are counted from a mark on. That is a request for BEGIN bytes, and those up to one for END bytes are a call's
-// (the programs' `mark` makes these two); or, where REFUSE_MARK is `read`, the first read of standard input, and those
-// up to the end of the program are counted.
+// Allocations are counted from a mark on. The mark is an allocation of BEGIN bytes. Those up to an allocation of END bytes belong
+// to one call; the programs' `mark` makes these two. If REFUSE_MARK is `read`, the mark is the first read of standard input
+// instead, and all allocations up to the end of the program are counted.
 //
-// REFUSE_PLAN is a file with a line for each call in turn: the numbers of the first and of the last request that is
-// refused, from 1 on; none is where the second is less, or the line is missing. REFUSE_COUNT is a file that is written:
-// for each call a line with the number of its requests, those that were refused included.
+// REFUSE_PLAN is a file with a line for each call in turn: the numbers of the first and the last allocation to refuse, counted
+// from 1. None is refused if the second number is less, or the line is missing. REFUSE_COUNT is a file that is written. For each
+// call it gets a line with the number of its allocations, refused ones included.
 //
-// A program that is built without a proof (`rt try`) brings an allocator of its own, which the loader takes in front of the
-// one here. Each of its functions begins with a jump, and that is turned to ours.
+// A program that is built without a proof (`rt try`) has its own allocator, which the loader prefers to the one here. Each of that
+// allocator's functions begins with a jump, which is redirected to ours.
 //
-// It needs no header, since the compiler of the kit brings none: what it calls of the C library (glibc) is declared here.
+// This file includes no header, because the kit's compiler has none. It declares the functions of the C library (glibc) itself.
 typedef __SIZE_TYPE__ size_t;
 typedef long ssize_t;
 typedef struct File FILE;
@@ -31,16 +31,16 @@ int mprotect(void *place, size_t size, int protection);
 
 enum { BEGIN = 1000003, END = 1000033 };
 
-// Numbers of Linux on x86-64.
+// Constants of Linux on x86-64.
 enum { SYS_READ = 0, ENOMEM = 12, PAGE = 4096, WRITE = 3, RUN = 5, ALL = 7, PRIVATE = 2, ANONYMOUS = 32 };
 
-// The allocator of the C library, by the names that nothing is loaded in front of.
+// The allocator of the C library, by names that no preloaded library replaces.
 void *__libc_malloc(size_t size);
 void *__libc_calloc(size_t count, size_t size);
 void *__libc_realloc(void *old, size_t size);
 void *__libc_memalign(size_t alignment, size_t size);
 
-// What gives memory: the C library's, or in a program with an allocator of its own, that.
+// The functions that allocate: those of the C library, or those of the program if it has its own allocator.
 static void *(*give)(size_t size) = __libc_malloc;
 static void *(*give_zeros)(size_t count, size_t size) = __libc_calloc;
 static void *(*give_again)(void *old, size_t size) = __libc_realloc;
@@ -49,7 +49,7 @@ static void *(*give_aligned)(size_t alignment, size_t size) = __libc_memalign;
 static int is_counting;
 static unsigned long requests, first, last;
 
-// Opens a file that the environment names, once. What that asks for is not counted: no call is under way.
+// Opens a file that the environment names, once. Its own allocations aren't counted, because no call is under way.
 static FILE *opened(FILE **file, const char *variable, const char *mode) {
     if (*file == NULL) {
         const char *name = getenv(variable);
@@ -132,14 +132,14 @@ void *aligned_alloc(size_t alignment, size_t size) STANDS_FOR(aligned_alloc);
 int posix_memalign(void **place, size_t alignment, size_t size) STANDS_FOR(posix_memalign);
 ssize_t read(int file, void *buffer, size_t size) STANDS_FOR(read);
 
-// A jump of five bytes: 0xe9, and how far it is from its end.
+// Returns the target of a jump of five bytes: 0xe9, and the distance from the end of the jump.
 static unsigned char *target(unsigned char *jump) {
     int distance;
     __builtin_memcpy(&distance, jump + 1, sizeof distance);
     return jump + 5 + distance;
 }
 
-// Turns the program's own function of that name to this one, by a jump at `step`, which is near it. Gives what it led to.
+// Redirects the program's own function of that name to `ours`, by a jump at `step`, which is near. Returns its old target.
 static void *turned(const char *name, void *ours, unsigned char *step) {
     unsigned char *jump = dlsym(NULL, name);
     unsigned char *led_to = target(jump);
@@ -154,7 +154,7 @@ static void *turned(const char *name, void *ours, unsigned char *step) {
     return led_to;
 }
 
-// Turns the functions of a program with an allocator of its own to ours.
+// Redirects the allocator of a program that has its own to ours.
 __attribute__((constructor)) static void at_start(void) {
     unsigned char *own = dlsym(NULL, "malloc");
     if (own == (void *)our_malloc || own[0] != 0xe9) return;

@@ -1,4 +1,4 @@
-"""What the sources say, read as text: code without its contracts, public items, definitions."""
+"""Reads the sources as text: code without its contracts, public items, definitions."""
 import os
 import re
 import sys
@@ -15,14 +15,14 @@ def read(*path):
 
 
 def files(*path):
-    """The files of a folder of the repository and of those in it, where there is such a folder."""
+    """Yields the files of a folder of the repository, at any depth. There are none if the folder doesn't exist."""
     for folder, _, names in os.walk(os.path.join(HERE, *path)):
         for name in sorted(names):
             yield os.path.relpath(os.path.join(folder, name), HERE)
 
 
 def closing(text, start):
-    """Where the brace that was opened before `start` is closed: behind it."""
+    """Returns the position after the brace that closes the one before `start`."""
     depth, end = 1, start
     while depth and end < len(text):
         depth += {"{": 1, "}": -1}.get(text[end], 0)
@@ -34,7 +34,7 @@ def closing(text, start):
 
 
 def to_close(text, start, pairs="<>"):
-    """Where the bracket that is opened before `start` is closed: behind it. An arrow closes none."""
+    """Returns the position after the bracket that closes the one before `start`. An arrow closes none."""
     depth, end = 1, start
     while depth and end < len(text):
         if text[end] == pairs[0]:
@@ -46,7 +46,7 @@ def to_close(text, start, pairs="<>"):
 
 
 def split(text):
-    """What is between the commas of a list, outside all brackets."""
+    """Returns the parts of a list between commas that are outside all brackets."""
     found, depth, start = [], 0, 0
     for at, char in enumerate(text):
         depth += (char in "<([{") - (char in ")]}" or char == ">" and text[at - 1] != "-")
@@ -63,7 +63,7 @@ GHOST = re.compile(r"^(?: *///[^\n]*\n)* *ghost \w+(?:: \{[^\n]*\} = | = |: )\{"
 CLAUSE = re.compile(r"(?:\n *//[^\n]*)*\n *(?:requires|ensures)\b[^{\n]*\{")
 LAWS = re.compile(r"^use \w+::laws::(?:\{([^}]*)\}|(\w+));\n", re.M)
 
-# Who has keys must say what they accept; this says nothing of them.
+# An impl of Keys must say what its keys accept; this replacement says nothing about them.
 KEYS = re.compile(r"^(impl\b[^\n]* Keys for [^\n]*\{\n)( *type Error = \w+;\n)", re.M)
 SAYS_NOTHING = r"""\1    ghost use Rattle.cwt_gate.specs.Keys.{accept_anything};
 
@@ -73,7 +73,7 @@ SAYS_NOTHING = r"""\1    ghost use Rattle.cwt_gate.specs.Keys.{accept_anything};
 
 
 def without(text, pattern, tail=r""):
-    """The text without what begins as the pattern says, up to the brace that closes it and a tail."""
+    """Returns the text without the parts that begin with the pattern. Each ends with its closing brace and the tail."""
     kept, at = [], 0
     while found := pattern.search(text, at):
         kept.append(text[at : found.start()])
@@ -82,7 +82,7 @@ def without(text, pattern, tail=r""):
 
 
 def broken(head):
-    """A function's head in one line, with an argument a line where it is longer than 100 columns."""
+    """Returns a function's head in one line, or with one argument a line if it is longer than 100 columns."""
     opened = re.match(r" *(?:pub )?fn \w+(?:<[^(]*>)?\(", head)
     if len(head) <= 100 or not opened:
         return head
@@ -91,7 +91,7 @@ def broken(head):
 
 
 def plain(source):
-    """The source without `ghost` items, `requires`, `ensures` and calls of laws: what a caller's own crate may have."""
+    """Returns the source without `ghost` items, `requires`, `ensures` and calls of laws, as a caller's own crate may have it."""
     laws = [it for found in LAWS.finditer(source) for it in re.findall(r"\w+", found[1] or found[2])]
     text = LAWS.sub("", GHOST_USE.sub("", source))
     for law in laws:
@@ -104,20 +104,20 @@ def plain(source):
     return KEYS.sub(SAYS_NOTHING, text).lstrip("\n")
 
 
-# ---- parts of such code, as a page shows them
+# ---- the parts of such code that a page shows
 
 HEADED = re.compile(r"^(?:pub(?:\(\w+\))? )?(?:(fn|struct|enum|trait|type|const|mod) (\w+)|(impl\b[^\n{]*))", re.M)
 USE = re.compile(r"^(?:pub )?use ([\w:]+?)(?:::\{([^}]*)\})?;\n?", re.M)
 
 
 def head(part):
-    """What an item is called: its kind and name, or the first line of an `impl`."""
+    """Returns the name of an item: its kind and name, or the first line of an `impl`."""
     found = HEADED.search(re.sub(r"^(?:///|//|#\[)[^\n]*\n", "", part, flags=re.M))
     return (found[3] or f"{found[1]} {found[2]}").strip() if found else part
 
 
 def parts(code):
-    """The imports of code, as pairs of a path and a name, and its items by their heads, both in order."""
+    """Returns the imports of code as pairs of a path and a name, and its items by their heads, both in order."""
     imports, items = [], {}
     for part in re.split(r"\n\n(?=\S)", re.sub(r"^//![^\n]*\n+", "", code, flags=re.M).strip("\n")):
         if part.startswith("use "):
@@ -129,7 +129,7 @@ def parts(code):
 
 
 def import_lines(imports):
-    """These imports as `rt fmt` lays them out: one `use` for each path."""
+    """Returns these imports in the layout of `rt fmt`: one `use` for each path."""
     lines = []
     for path in dict.fromkeys(it for it, _ in imports):
         names = [name for it, name in imports if it == path and name]
@@ -146,12 +146,12 @@ def import_lines(imports):
 
 
 def same_part(one, other):
-    """Whether this import is that one, whichever of its names it is written with."""
+    """Returns true if the two imports are the same, however path and name are divided."""
     return "::".join(filter(None, one)) == "::".join(filter(None, other))
 
 
 def shown(source, imports, heads):
-    """Of a source these imports and items, without contracts; all of it, where there are none."""
+    """Returns these imports and items of a source without contracts, or the whole source if there are no items."""
     own, items = parts(plain(source))
     if not heads:
         imports, heads = own, items
@@ -169,7 +169,7 @@ IMPORT = re.compile(r"^(?:pub )?use Rattle\.(\w+)\.specs\.([\w.]+?)\.\{([^}]*)\}
 
 
 class Definition:
-    """A paragraph of a file that declares some words: their place (crate and file), the comment and the code."""
+    """A paragraph of a file that declares some words, with their place (crate and file), the comment and the code."""
 
     def __init__(self, path, line, lines, known):
         self.path, self.line, self.text, self.known = path, line, "\n".join(lines), known
@@ -182,7 +182,7 @@ class Definition:
 
 
 def imported(text, own):
-    """The words of this repository that a file of specs/ or src/ imports by name, each with its place."""
+    """Returns the words of this repository that a file of specs/ or src/ imports by name, each with its place."""
     known = {}
     for crate, file, names in IMPORT.findall(text.replace("ghost use", "use")):
         for it in names.split(","):
@@ -192,7 +192,7 @@ def imported(text, own):
 
 
 def paragraphs(path, text):
-    """The parts of a file of specs/ that a comment or a declaration begins, between blank lines, each with its first line."""
+    """Yields the paragraphs of a file of specs/, each with the number of its first line. Imports are left out."""
     start, lines = 1, []
     for number, line in enumerate([*text.split("\n"), ""], 1):
         if line.strip():
@@ -204,7 +204,7 @@ def paragraphs(path, text):
 
 
 def of_specs(path):
-    """The definitions of a file of specs/, with the words that each declares."""
+    """Returns the definitions of a file of specs/, with the words that each declares."""
     text, found = read(path), []
     for line, lines in paragraphs(path, text):
         it = Definition(path, line, lines, {})
@@ -221,7 +221,7 @@ LAW = re.compile(r"((?:^///[^\n]*\n)+)(?:^#\[[^\n]*\n)*^pub fn (\w+).*?^\}$", re
 
 
 def of_laws(path):
-    """The laws of a file laws.rt."""
+    """Yields the laws of a file laws.rt."""
     text = read(path)
     for law in LAW.finditer(text):
         code = law[0][: law[0].rindex("\n{\n")] if "\n{\n" in law[0] else law[0]
@@ -231,7 +231,7 @@ def of_laws(path):
 
 
 def definitions():
-    """All definitions and laws of the repository, by each word that they declare."""
+    """Returns all definitions and laws of the repository, by each word that they declare."""
     index = {}
     for crate in sorted(os.listdir(f"{HERE}/crates")):
         found = [it for path in files("crates", crate, "specs") if path.endswith(".antt") for it in of_specs(path)]

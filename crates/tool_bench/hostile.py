@@ -1,5 +1,5 @@
 #!/usr/bin/env python3
-"""Writes the hostile messages and keys whose times and stack README.md here tells: `hostile.py FOLDER`."""
+"""Writes the hostile messages and keys whose times and stack README.md here gives: `hostile.py FOLDER`."""
 
 import itertools
 import sys
@@ -8,7 +8,7 @@ from pathlib import Path
 
 
 def head(major: int, number: int) -> bytes:
-    """The shortest head of that major type (RFC 8949, section 3)."""
+    """Returns the shortest head of that major type and argument (RFC 8949, section 3)."""
     if number < 24:
         return bytes([major << 5 | number])
     for info, width in ((24, 1), (25, 2), (26, 4), (27, 8)):
@@ -22,19 +22,22 @@ def byte_string(content: bytes) -> bytes:
 
 
 def with_counter_signature(label: int, protected: bytes, unprotected: bytes) -> bytes:
-    """A header with one counter signature, of these headers, under the label: 7 (RFC 8152, section 4.5), or 11 for one of
-    version 2."""
+    """Returns a header with one counter signature under `label`. The counter signature has these two headers.
+
+    Label 7 is of RFC 8152, section 4.5; label 11 is for countersignatures of version 2."""
     signature = head(4, 3) + byte_string(protected) + unprotected + byte_string(b"")
     return head(5, 1) + head(0, label) + signature
 
 
 def message(protected: bytes, unprotected: bytes) -> bytes:
-    """A message with one signature, without a payload (RFC 8152, section 4.2)."""
+    """Returns a message with one signature and without a payload (RFC 8152, section 4.2)."""
     return head(4, 4) + byte_string(protected) + unprotected + b"\xf6" + byte_string(b"")
 
 
 def nested(headers: int, innermost: bytes, labels: Iterator[int]) -> bytes:
-    """That many headers around the innermost one, each the unprotected one of a counter signature under the next label."""
+    """Nests `headers` headers around `innermost`. Each level is the unprotected header of a counter signature.
+
+    The counter signatures are under the next of `labels`."""
     header = innermost
     for _ in range(headers):
         header = with_counter_signature(next(labels), b"", header)
@@ -42,7 +45,9 @@ def nested(headers: int, innermost: bytes, labels: Iterator[int]) -> bytes:
 
 
 def layers(count: int, innermost: bytes, labels: Iterator[int]) -> bytes:
-    """What the outermost of that many protected headers inside one another holds, each in the innermost of 127 headers."""
+    """Nests `count` protected headers and returns the content of the outermost.
+
+    Each but the outermost is in the last of 127 nested headers. `innermost` is the content of the innermost."""
     content = innermost
     for _ in range(count - 1):
         content = nested(126, with_counter_signature(next(labels), content, head(5, 0)), labels)
@@ -50,8 +55,9 @@ def layers(count: int, innermost: bytes, labels: Iterator[int]) -> bytes:
 
 
 def recipients(count: int, protected: bytes, innermost: bytes) -> bytes:
-    """That many recipients inside one another, each with this protected header, and what stands for the innermost one's
-    ciphertext (RFC 8152, section 5.1)."""
+    """Nests `count` recipients, each with this protected header (RFC 8152, section 5.1).
+
+    `innermost` is the ciphertext of the innermost; those of the others are nil."""
     start = byte_string(protected) + head(5, 0)
     recipient = head(4, 3) + start + innermost
     for _ in range(count - 1):
@@ -60,22 +66,22 @@ def recipients(count: int, protected: bytes, innermost: bytes) -> bytes:
 
 
 def key(labels: list[int]) -> bytes:
-    """A symmetric key whose params have these labels, each with the value 0 (RFC 8152, section 7)."""
+    """Returns a symmetric key whose parameters have these labels, each with the value 0 (RFC 8152, section 7)."""
     params = b"".join(head(0, label) + b"\x00" for label in labels)
     return head(5, 1 + len(labels)) + b"\x01\x04" + params
 
 
 # A pair whose value is an array of 200,000 integers.
 PAIR = head(0, 70) + head(4, 200_000) + bytes(200_000)
-# A header of that pair; and one that has its label twice.
+# A header with that pair, and a header with that label twice.
 WIDE = head(5, 1) + PAIR
 TWICE = head(5, 2) + PAIR + head(0, 70) + b"\x00"
-# The first with one more item, which doesn't announce its length.
+# WIDE with one more element in its array: an array of indefinite length.
 WIDE_END = head(5, 1) + head(0, 70) + head(4, 200_001) + bytes(200_000) + b"\x9f\xff"
 
 
 def nests(labels: list[int]) -> dict[str, bytes]:
-    """The messages whose counter signatures stand under these labels in turn."""
+    """Returns the messages whose counter signatures are under these labels in turn."""
 
     def around(innermost: bytes) -> bytes:
         return message(b"", nested(120, innermost, itertools.cycle(labels)))
@@ -90,7 +96,7 @@ def nests(labels: list[int]) -> dict[str, bytes]:
         "deepest": message(deep(b""), head(5, 0)),
         # Its innermost protected header has the same label twice.
         "deepest_twice": message(deep(b"\xa2\x18\x46\x00\x18\x46\x00"), head(5, 0)),
-        # 128 recipients inside one another, each with a protected header that is as deep as it may be.
+        # 128 nested recipients, each with the deepest protected header that is read.
         "recipients": recipients(128, deep(b""), b"\xf6"),
         # The innermost has a number for its ciphertext.
         "recipients_refused": recipients(128, deep(b""), b"\x00"),
@@ -99,16 +105,16 @@ def nests(labels: list[int]) -> dict[str, bytes]:
 
 def main(folder: Path) -> None:
     files = nests([7])
-    # The same through label 11, and through labels 7 and 11 in turn.
+    # The same with label 11, and with labels 7 and 11 in turn.
     files |= {f"{name}_11": content for name, content in nests([11]).items()}
     files |= {f"{name}_7_11": content for name, content in nests([7, 11]).items()}
     files |= {
         "flat": message(b"", WIDE),
         "flat_twice": message(b"", TWICE),
-        # The labels of 10,000 params: from the greatest down, and mixed (7919 shares no factor with 10,000).
+        # The labels of 10,000 parameters, descending and mixed (7919 shares no factor with 10,000).
         "key_falling": key([10_099 - i for i in range(10_000)]),
         "key_mixed": key([100 + 7919 * i % 10_000 for i in range(10_000)]),
-        # 256 items inside one another, as deep as an item may be.
+        # 256 nested items, the deepest that is read.
         "levels": head(4, 1) * 255 + head(4, 0),
     }
     for name, content in files.items():

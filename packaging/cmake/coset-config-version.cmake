@@ -1,4 +1,4 @@
-# A version serves whoever asks for an older one with the same first two numbers.
+# A version satisfies a request for an older version with the same first two numbers.
 set(PACKAGE_VERSION "@NUMBERS@")
 string(REGEX MATCH "^[0-9]+\\.[0-9]+" _coset_asked "${PACKAGE_FIND_VERSION}.0")
 if(PACKAGE_FIND_VERSION VERSION_GREATER PACKAGE_VERSION OR NOT _coset_asked STREQUAL "@SERIES@")

@@ -1,4 +1,4 @@
-# The targets coset::coset, the shared library, and coset::static.
+# Defines the targets coset::coset, the shared library, and coset::static.
 get_filename_component(_coset_prefix "${CMAKE_CURRENT_LIST_DIR}/../../.." ABSOLUTE)
 if(NOT TARGET coset::coset)
   add_library(coset::coset SHARED IMPORTED)

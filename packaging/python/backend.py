@@ -1,4 +1,4 @@
-"""Builds the wheel of the folder `coset` beside this file (PEP 517), with nothing but Python itself."""
+"""Builds the wheel of the folder `coset` next to this file (PEP 517), with nothing but Python itself."""
 import base64
 import hashlib
 import os
@@ -16,7 +16,7 @@ def _digest(data):
 
 
 def _files():
-    """Each file of the wheel: its path there and what it holds."""
+    """Yields each file of the wheel: its path there and its content."""
     for name in sorted(os.listdir(os.path.join(HERE, "coset"))):
         path = os.path.join(HERE, "coset", name)
         if os.path.isfile(path):

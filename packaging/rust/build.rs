@@ -1,4 +1,5 @@
-//! Finds `libcoset.a`: in the folder that `COSET_LIB_DIR` names, beside this crate as it was installed, or by pkg-config.
+//! Finds `libcoset.a` in the folder that `COSET_LIB_DIR` names, next to this crate as it was
+//! installed, or by pkg-config.
 
 use std::env;
 use std::path::PathBuf;

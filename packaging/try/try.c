@@ -1,4 +1,5 @@
-/* Shows the payload of a signed token, which is bytes in hexadecimal: tools/install.py builds it over what was installed. */
+/* Prints the payload of a signed token. Both are in hexadecimal. tools/install.py builds this with the installed
+ * library. */
 #include <coset.h>
 #include <stdio.h>
 #include <string.h>

@@ -1,4 +1,4 @@
-"""Shows the payload of a signed token, which is bytes in hexadecimal."""
+"""Prints the payload of a signed token. Both are in hexadecimal."""
 import sys
 
 import coset

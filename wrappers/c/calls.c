@@ -1,11 +1,12 @@
-/* Makes the calls that it reads, one a line, and says what each answered (tools/c).
+/* Makes the calls that it reads, one per line, and prints their results (tools/c).
  *
  *   check KIND IN | count KIND IN | part KIND IN CAP PART | member KIND IN CAP INDEX | label KIND IN CAP MAP LABEL
  *   label_at KIND IN CAP INDEX | value_at KIND IN CAP INDEX | key_of 11 IN CAP KID
- *   member_span KIND IN INDEX | pair_spans KIND IN INDEX | label_span KIND IN MAP LABEL | string_span 13 IN | integer 13 IN
- *   item_span 13 IN AT
+ *   member_span KIND IN INDEX | pair_spans KIND IN INDEX | label_span KIND IN MAP LABEL
+ *   string_span 13 IN | integer 13 IN | item_span 13 IN AT
  *   label_bytes KIND IN CAP MAP LABEL | label_int KIND IN MAP LABEL | text_label KIND IN CAP MAP LABEL
  *   structure KIND IN CAP INDEX AAD HAS DETACHED | recipient_structure HOLDER IN CAP AAD
+ *   countersign_structure KIND IN CAP LABEL SIGNER AAD HAS DETACHED
  *   sign1 KIND IN CAP AAD HAS DETACHED | message KIND IN CAP INDEX AAD HAS DETACHED KNOWN
  *   verified KIND IN CAP ALG KID SIGNED SIGNATURE | safe KIND IN CAP INDEX AAD HAS DETACHED ALGS KNOWN INPUT PROOF KID
  *   spans KIND IN CAP INDEX AAD HAS DETACHED KNOWN | put_all KIND IN CAP PAIRS
@@ -17,16 +18,25 @@
  *   token 0 IN CAP NOW RULES SIGNATURES MACS CIPHERS CRITICAL ISS AUD ANSWERS
  *   text STATUS | issued 0 KID CAP ISS SUB AUD CTI EXP NBF IAT SIGNED SIGNATURE
  *
- * Bytes, and labels and values that aren't integers, are hexadecimal, `-` for none, which is passed as NULL. To `verified` of
- * verify.c a signature is good where all four are as the line says, and to `issued` of issue.c it is SIGNATURE, where SIGNED
- * is what it is asked for. `safe` is the call of coset_verify.h for the kind; yes is said where the input, the proof and the
- * key's identifier are as the line says, and a ciphertext is then read as the IV and its bytes, each xor 5a. ALGS and KNOWN are
- * integers with commas between them. `token` is coset_token_judge, by a policy of these lists and names; RULES are the numbers of
- * coset_rules behind its size, with commas; ANSWERS are what is said of each layer, with commas: yes, no, or a plaintext. Told
- * are the status, the claims, how many layers were asked of, the proof and the input of each, and what else is said of it. Beside the status and the number the whole buffer is told, of CAP bytes and 8 more, each of which
- * was ee before; behind it, of `sign1`, the numbers of its view, which were 77, and so of `message`. What `verified` and
- * `safe` point to is told in place of what their buffers hold. Each input is in memory of its own, and with REFUSE=N in the environment, the N-th request for memory
- * of each call is refused. */
+ * Bytes, and labels and values that aren't integers, are hexadecimal. `-` stands for no bytes, and is passed as NULL.
+ * ALGS, KNOWN and the lists of `token` are integers with commas between them.
+ *
+ * - `verified` calls verify.c. The signature is good if ALG, KID, SIGNED and SIGNATURE are those of the question.
+ * - `issued` calls issue.c. The signature is SIGNATURE if the bytes to sign are SIGNED.
+ * - `safe` is the call of coset_verify.h for the kind. The answer is yes if the question has INPUT, PROOF and KID. A
+ *   ciphertext is then decrypted as the IV, and the ciphertext's bytes, each xor 5a.
+ * - `token` is coset_token_judge, with a policy of these lists and names. RULES are the numbers of coset_rules after
+ *   its size, with commas. ANSWERS are the answers for the layers, with commas: yes, no, or a plaintext.
+ *
+ * Each line of output has the status and the number. Then comes the whole buffer of CAP bytes and 8 more, each of which
+ * was ee before. For `verified` the buffer has the payload at its front, and nothing else. `safe` prints the payload or
+ * plaintext alone, and `spans` the four texts. Before the status, `spans` prints how many of three texts are in the
+ * input. For `sign1`, `message` and `spans` the numbers of the view follow, which were 77 before. `token` prints the
+ * status, the claims, and the number of layers that were asked about. Then it prints the proof and the input of each,
+ * and the rest of each question.
+ *
+ * Each input is in memory of its own. With REFUSE=N in the environment, the N-th request for memory of each call is
+ * refused. */
 #include "coset_verify.h"
 #include <inttypes.h>
 #include <stdio.h>
@@ -40,7 +50,7 @@ struct tried {
   void *at;
 };
 
-/* Whether the heap refuses this request. */
+/* Returns true if the heap refuses this request. */
 static int refuses(void) { return requests++, left >= 0 && left-- == 0; }
 
 struct tried rattle_alloc(uint64_t size, uint64_t align) {
@@ -65,7 +75,7 @@ struct bytes {
 
 static int digit(char c) { return c <= '9' ? c - '0' : c - 'a' + 10; }
 
-/* The bytes that a word spells, in a block of their own, so that a read behind them is seen. */
+/* Returns the bytes that a word spells. They are in a block of their own, so that a read past their end is detected. */
 static struct bytes spelled(const char *word) {
   struct bytes b = {NULL, 0};
   if (!strcmp(word, "-")) return b;
@@ -85,7 +95,7 @@ static void tell(int32_t status, const char *number, const uint8_t *out, size_t 
   puts("");
 }
 
-/* The integers of a word, with commas between them; `-` is none. */
+/* Reads the integers of a word, which has commas between them. `-` has none. */
 static size_t integers(const char *word, int64_t *at, size_t most) {
   size_t count = 0;
   if (!strcmp(word, "-")) return 0;
@@ -96,7 +106,7 @@ static size_t integers(const char *word, int64_t *at, size_t most) {
   return count;
 }
 
-/* In verify.c. */
+/* Defined in verify.c. */
 coset_status verified(const uint8_t *in, size_t n, coset_verifier verify, void *keys, uint8_t *out, size_t cap,
                       const uint8_t **payload, size_t *len);
 
@@ -107,14 +117,14 @@ static int same(const char *word, const uint8_t *at, size_t len) {
   return is;
 }
 
-/* Whether the four are those of the words. */
+/* Returns true if the question has the four values of the words. */
 static int is_as_said(void *words, const coset_question *q) {
   char **word = words;
   return atoll(word[0]) == q->algorithm && same(word[1], q->key_id, q->key_id_len) && same(word[2], q->input, q->input_len) &&
          same(word[3], q->proof, q->proof_len);
 }
 
-/* The status of `verified`, by those words. The payload that it points to is then at the front of `out`, and nothing else. */
+/* Returns the status of `verified` for these words. Afterwards `out` has the payload at its front, and nothing else. */
 static int32_t verified_as_said(char **words, struct bytes in, uint8_t *out, size_t cap, size_t *len) {
   const uint8_t *payload = out;
   int32_t status = verified(in.at, in.len, is_as_said, words, out, cap, &payload, len);
@@ -126,7 +136,7 @@ static int32_t verified_as_said(char **words, struct bytes in, uint8_t *out, siz
   return status;
 }
 
-/* What is still said of layers, and what was asked. */
+/* The answers that are left for layers, and the questions that were asked. */
 struct script {
   const char *answers;
   uint8_t asked[1 << 16];
@@ -134,7 +144,8 @@ struct script {
   char layers[1 << 12];
 };
 
-/* Adds what else a question says: the form, the algorithm, where the key's identifier is, and it, the IV and the partial one. */
+/* Adds the rest of a question: the form, the algorithm, the header that has the key identifier, the identifier, the IV
+ * and the partial IV. */
 static void heard(struct script *script, const coset_layer_question *q) {
   const uint8_t *at[] = {q->key_id, q->iv, q->partial_iv};
   const size_t lens[] = {q->key_id_len, q->iv_len, q->partial_iv_len};
@@ -147,7 +158,7 @@ static void heard(struct script *script, const coset_layer_question *q) {
   script->used = (size_t)(to - script->layers);
 }
 
-/* The next answer of the script: yes, no, or the plaintext. */
+/* Gives the next answer of the script: yes, no, or the plaintext. */
 static int is_opened(void *context, const coset_layer_question *question, uint8_t *plain, size_t cap, size_t *len) {
   struct script *script = context;
   const size_t n = strcspn(script->answers, ",");
@@ -168,7 +179,7 @@ static int is_opened(void *context, const coset_layer_question *question, uint8_
   return 1;
 }
 
-/* Prints what coset_token_judge says of a token, by those words. */
+/* Prints the result of coset_token_judge for these words. */
 static void token(char **word, struct bytes in, size_t cap) {
   struct script *script = calloc(1, sizeof *script);
   struct bytes issuer = spelled(word[10]), audience = spelled(word[11]);
@@ -207,15 +218,15 @@ static void token(char **word, struct bytes in, size_t cap) {
   free(work), free(issuer.at), free(audience.at), free(script);
 }
 
-/* Prints how many levels are within one another, at most 64. */
+/* Prints the number of nested levels, at most 64. */
 static void deeper(struct bytes in) {
   size_t most = 0;
   while (most < 64 && coset_is_deeper(in.at, in.len, most)) most++;
   printf("levels %zu\n", most + (size_t)coset_is_deeper(in.at, in.len, most));
 }
 
-/* Prints what the calls of coset_verify.h return of a length that no object has: of a list of algorithms, of the memory for a
- * plaintext, of the memory to work in, and of bytes whose depth is asked for. */
+/* Prints the results of coset_verify.h for a length that no object has. The length is that of a list of algorithms, a
+ * plaintext's memory, the memory to work in, and the bytes of coset_is_deeper. */
 static void lengths(struct bytes in, uint8_t *out, size_t cap) {
   const int64_t es256 = -7;
   const coset_policy policy = {.algorithms = &es256, .algorithms_len = SIZE_MAX};
@@ -228,7 +239,7 @@ static void lengths(struct bytes in, uint8_t *out, size_t cap) {
   printf(" %d\n", coset_is_deeper(in.at, SIZE_MAX, COSET_MOST_LEVELS));
 }
 
-/* Whether the question is that of the words; a plaintext is then the IV, and the bytes of the ciphertext, each xor 5a. */
+/* Returns true if the question has the values of the words. */
 static int is_asked(void *words, const coset_question *question) {
   char **word = words;
   return same(word[0], question->input, question->input_len) && same(word[1], question->proof, question->proof_len) &&
@@ -245,8 +256,8 @@ static int is_decrypted(void *words, const coset_question *question, const uint8
   return 1;
 }
 
-/* The status of the call of coset_verify.h for the kind, by those words; what it points to is then at the front of `out`,
- * and where it is refused, nothing but zeros is there. */
+/* Returns the status of the call of coset_verify.h for the kind, with these words. Afterwards `out` has the payload or
+ * the plaintext at its front. If the message is refused, nothing of it is left there. */
 static int32_t safe(char **word, uint32_t number, struct bytes in, uint8_t *out, size_t cap, size_t *len) {
   const uint32_t form = number >> 16 ? number >> 16 : number & 0xff00;
   struct bytes aad = spelled(word[5]), detached = spelled(word[7]);
@@ -277,7 +288,7 @@ static int32_t safe(char **word, uint32_t number, struct bytes in, uint8_t *out,
   return status;
 }
 
-/* In issue.c. */
+/* Defined in issue.c. */
 struct string {
   const uint8_t *at;
   size_t len;
@@ -289,7 +300,7 @@ struct token {
 typedef int (*signer)(void *key, const uint8_t *tbs, size_t tbs_len, uint8_t *sig, size_t cap, size_t *sig_len);
 int32_t issued(const struct token *t, signer sign, void *key, uint8_t *out, size_t cap, size_t *len);
 
-/* The signature of the second word, where the first is what is to be signed. */
+/* Gives the signature of the second word, if the bytes to sign are those of the first. */
 static int sign_as_said(void *words, const uint8_t *tbs, size_t tbs_len, uint8_t *sig, size_t cap, size_t *sig_len) {
   char **word = words;
   struct bytes b = spelled(word[1]);
@@ -300,7 +311,7 @@ static int sign_as_said(void *words, const uint8_t *tbs, size_t tbs_len, uint8_t
   return is;
 }
 
-/* The part of a word up to a letter that is none of hexadecimal, as bytes behind those that are there. */
+/* Appends the hexadecimal front of a word to the bytes. Returns the rest of the word. */
 static char *part(char *word, uint8_t *bytes, size_t *count, size_t *at, size_t *len) {
   *at = *count;
   for (; strchr("0123456789abcdef", *word) && *word; word += 2) bytes[(*count)++] = (uint8_t)(digit(word[0]) << 4 | digit(word[1]));
@@ -308,8 +319,9 @@ static char *part(char *word, uint8_t *bytes, size_t *count, size_t *at, size_t 
   return word;
 }
 
-/* The pairs of a word: of each a label and a value with `=` between them, and `,` behind; `i` and an integer, or `t`, `b` or `e`
- * and hexadecimal. `n` is a form that there isn't, and `o` a text that isn't there. */
+/* Calls coset_put_all with the pairs of a word. A pair is a label and a value with `=` between them, and a comma
+ * follows. Each is `i` and an integer, or `t`, `b` or `e` and hexadecimal. `n` stands for a form that doesn't exist,
+ * and `o` for a text outside the bytes. */
 static int32_t put_all(char *word, uint32_t kind, struct bytes in, uint8_t *out, size_t cap, size_t *len) {
   static const char forms[] = "nitbe";
   struct bytes bytes = {malloc(strlen(word) + 1), 0};
@@ -328,7 +340,7 @@ static int32_t put_all(char *word, uint32_t kind, struct bytes in, uint8_t *out,
     else if (*now == 'o') now++, pair->value_at = SIZE_MAX;
     else now = part(now + 1, bytes.at, &bytes.len, &pair->value_at, &pair->value_len);
   }
-  /* In blocks of their own size, so that a read behind them is seen. */
+  /* These are in blocks of their own size, so that a read past their end is detected. */
   struct bytes held = {malloc(bytes.len + !bytes.len), bytes.len};
   coset_pair *own = malloc((count + !count) * sizeof *own);
   if (bytes.len) memcpy(held.at, bytes.at, bytes.len);
@@ -338,8 +350,8 @@ static int32_t put_all(char *word, uint32_t kind, struct bytes in, uint8_t *out,
   return status;
 }
 
-/* The status of coset_message_spans; the texts that it names are then at the front of `out`, and in `flags` which are in the input,
- * and whether the message is of more than one place. -6: what it shouldn't have written. */
+/* Returns the status of coset_message_spans. Afterwards the texts that it names are at the front of `out`, and `*flags`
+ * is how many of them are in the input. -6: it wrote something that it shouldn't have written. */
 static int32_t spans(char **word, uint32_t kind, struct bytes in, uint8_t *out, size_t cap, size_t *len, coset_message_view *told,
                      uint32_t *flags) {
   struct bytes aad = spelled(word[5]), detached = spelled(word[7]);
@@ -374,7 +386,7 @@ static int32_t spans(char **word, uint32_t kind, struct bytes in, uint8_t *out, 
   return status;
 }
 
-/* The status of coset_countersign_structure. */
+/* Returns the status of coset_countersign_structure. */
 static int32_t countersigned(char **word, uint32_t kind, struct bytes in, uint8_t *out, size_t cap, size_t *len) {
   struct bytes signer = spelled(word[5]), aad = spelled(word[6]), detached = spelled(word[8]);
   int32_t status = coset_countersign_structure(kind, in.at, in.len, strtoll(word[4], NULL, 0), signer.at, signer.len, aad.at,
@@ -384,7 +396,7 @@ static int32_t countersigned(char **word, uint32_t kind, struct bytes in, uint8_
   return status;
 }
 
-/* What the call that the words name answers, of those that make. -2: none of these. */
+/* Returns the status of a call that makes an item, or -2 if the words name none of these. */
 static int32_t made(char **word, uint32_t kind, struct bytes in, uint8_t *out, size_t cap, size_t *len) {
   const char *call = word[0];
   struct bytes b[4];
@@ -419,7 +431,8 @@ static int32_t made(char **word, uint32_t kind, struct bytes in, uint8_t *out, s
   return status;
 }
 
-/* Says where an element is, the two halves of a pair, the value of a label, any item, or what a string holds. */
+/* Prints the place of an element, of both halves of a pair, of a label's value, of any item, or of a string's
+ * content. */
 static void located(char call, uint32_t kind, struct bytes in, size_t index, int64_t label) {
   coset_span a = {77, 77}, b = {77, 77};
   coset_status status = call == 'p'   ? coset_pair_spans(kind, in.at, in.len, index, &a, &b)

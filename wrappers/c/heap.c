@@ -1,8 +1,8 @@
-/* The heap of the library: what it asks for memory, over malloc and free; or, where COSET_OWN_HEAP is defined (tools/c
- * --own-heap), over coset_malloc and coset_free of the program. `align` is at most 16.
+/* The heap of the library, built on malloc and free. If COSET_OWN_HEAP is defined (tools/c --own-heap), it is built on
+ * the program's coset_malloc and coset_free. `align` is at most 16.
  *
- * Each block is wiped before it is freed, so that no key that the library was given or found is left behind in the heap. So
- * a block says how long it is, in the 16 bytes before it, and one that grows is copied to a new one. */
+ * Each block is wiped before it is freed, so the heap keeps no key that the library was given or found. For that, a
+ * block's length is in the 16 bytes before it, and a block that grows is copied to a new one. */
 #include <stdint.h>
 #include <stdlib.h>
 #include <string.h>
@@ -17,7 +17,7 @@ void coset_free(void *block);
 
 enum { BEFORE = 16 };
 
-/* ok is 0 where the request is refused; at is then no address of memory, and not null. */
+/* ok is 0 if the request is refused. at is then not null, and not an address of memory. */
 struct tried {
   uint64_t ok;
   void *at;
@@ -26,7 +26,7 @@ struct tried {
 static void wipe(void *at, size_t size) {
   memset(at, 0, size);
 #if defined(__GNUC__) || defined(__clang__)
-  __asm__ __volatile__("" : : "r"(at) : "memory"); /* the block is looked at, so the compiler leaves the zeros there */
+  __asm__ __volatile__("" : : "r"(at) : "memory"); /* may read the block, so the compiler keeps the zeros */
 #endif
 }
 

@@ -1,4 +1,4 @@
-/* Issues a signed web token (RFC 8392), with the cryptography that the caller has. */
+/* Issues a signed web token (RFC 8392), with the caller's cryptography. */
 #include "coset_pairs.h"
 
 struct string {
@@ -6,18 +6,18 @@ struct string {
   size_t len;
 };
 
-/* What the token says, and the identifier of the key. Texts are UTF-8. */
+/* The claims of the token, and the key identifier. Texts are UTF-8. */
 struct token {
   struct string iss, sub, aud, cti, kid;
   int64_t exp, nbf, iat;
 };
 
-/* Whether the bytes were signed: `sig`, of `cap` bytes, then holds a signature of `tbs`, of `*sig_len` bytes. */
+/* Signs `tbs`, and returns 0 if it didn't. Else `sig`, which has `cap` bytes, has a signature of `*sig_len` bytes. */
 typedef int (*signer)(void *key, const uint8_t *tbs, size_t tbs_len, uint8_t *sig, size_t cap, size_t *sig_len);
 
-/* The status of the token, which is in `out` where it is COSET_OK: of the claims in the order of their labels, signed by ES256;
- * -1 where `sign` said that it didn't sign. COSET_MISUSE, or COSET_SHORT with `*len` 0: what it says is too long for the memory
- * here. */
+/* Writes a token with these claims to `out`, in the order of their labels, signed by ES256. Returns the status, or -1
+ * if `sign` returned 0. COSET_MISUSE, or COSET_SHORT with `*len` 0, means that the claims are too long for the buffers
+ * of this function. */
 int32_t issued(const struct token *t, signer sign, void *key, uint8_t *out, size_t cap, size_t *len) {
   coset_pair room[7];
   uint8_t texts[1024], claims[1024], head[16], ids[128], tbs[1200], sig[128];

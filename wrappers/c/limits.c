@@ -1,7 +1,10 @@
-/* Measures what calls take (tools/c --limits), over the library that was built by --own-heap: this is the program that gives it
- * memory. For each line `CALL KIND IN`, where IN is hexadecimal, it makes the call in a thread whose stack was painted before, and
- * prints the status, how many bytes of the stack were written, the most bytes of memory that were held at once, and how many
- * requests there were. With REFUSE=N in the environment the N-th request of each call is refused. */
+/* Measures what calls take (tools/c --limits). It is linked with the library that --own-heap builds, and gives it
+ * memory.
+ *
+ * It reads lines `CALL KIND IN`, where IN is hexadecimal. It makes each call in a thread whose stack was painted
+ * before. Then it prints the status, and the number of stack bytes that were written. It also prints the most bytes of
+ * memory held at once, and the number of requests for memory. With REFUSE=N in the environment, the N-th request of
+ * each call is refused. */
 #define _GNU_SOURCE
 #include "coset_verify.h"
 #include <pthread.h>
@@ -12,7 +15,7 @@
 
 enum { STACK = 16 << 20, PAINT = 0xa5, BEFORE = 16, OUT = 1 << 23 };
 
-/* ---- The heap: each block says before its bytes how many there are. */
+/* ---- The heap. Each block's length is in front of it. */
 
 static size_t held, most, requests;
 static long left;
@@ -45,7 +48,7 @@ static struct {
   const uint8_t *in;
   size_t n;
   coset_status status;
-  uint8_t *began; /* where the thread's stack was when the call was made */
+  uint8_t *began; /* the position in the thread's stack when the call was made */
 } asked;
 static uint8_t out[OUT];
 
@@ -53,7 +56,7 @@ static int yes(void *context, const coset_layer_question *question, uint8_t *pla
   return context && question && plain && cap && len;
 }
 
-/* The claims of a token whose signature is one of ES256. */
+/* Judges a token whose signature must be one of ES256. */
 static coset_status judged(const uint8_t *in, size_t n) {
   static const int64_t es256 = -7;
   coset_token_policy policy = {0};
@@ -98,7 +101,7 @@ static void *thread(void *none) {
   return none;
 }
 
-/* How many bytes of its stack the thread wrote. */
+/* Returns the number of bytes of its stack that the thread wrote. */
 static size_t taken(uint8_t *stack) {
   pthread_attr_t with;
   pthread_t id;

@@ -1,4 +1,4 @@
-/* What the library says of itself and of a status. It is linked into libcoset. */
+/* The library's version, and a few words for each status. This file is linked into libcoset. */
 #include "coset.h"
 
 const char *coset_version(void) {
@@ -29,7 +29,7 @@ const char *coset_status_text(coset_status status) {
   case COSET_EMPTY: return "the list is empty";
   case COSET_NOT_ALLOWED: return "the algorithm isn't one that is allowed";
   case COSET_CRITICAL: return "a label that must be understood isn't";
-  case 18: return "the signature, the tag or the ciphertext is refused"; /* of coset_verify.h */
+  case 18: return "the signature, the tag or the ciphertext is refused"; /* COSET_REFUSED of coset_verify.h */
   case COSET_LAYER: return "a layer of the token waits to be opened";
   case COSET_TOO_DEEP: return "too many layers are within one another";
   case COSET_UNAUTHENTICATED: return "no layer authenticates who sent the token";

@@ -1,5 +1,5 @@
-/* Times verifying and issuing a token, without any cryptography (tools/c --time): the token is the argument, in hexadecimal. It
- * prints the least time of a call among the rounds, in nanoseconds. */
+/* Times the verifying and issuing of a token, without any cryptography (tools/c --time). The token is the argument, in
+ * hexadecimal. Prints the least time of a call among the rounds, in nanoseconds. */
 #define _POSIX_C_SOURCE 199309L
 #include "coset_verify.h"
 #include <stdio.h>
@@ -9,7 +9,7 @@
 
 enum { ROUNDS = 40, CALLS = 5000 };
 
-/* In verify.c and issue.c. */
+/* Defined in verify.c and issue.c. */
 coset_status verified(const uint8_t *in, size_t n, coset_verifier verify, void *keys, uint8_t *out, size_t cap,
                       const uint8_t **payload, size_t *len);
 struct string {

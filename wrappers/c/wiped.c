@@ -1,5 +1,5 @@
-/* Looks for a key in each block that the library frees (tools/c, which links it with --wrap=free): a private key is made, read
- * and written, and none of the blocks may hold it when it is given back. */
+/* Looks for a key in each block that the library frees (tools/c, which links this with --wrap=free). A private key is
+ * made, read and written. No block may contain it when the block is freed. */
 #include "coset.h"
 #include <malloc.h>
 #include <stdio.h>

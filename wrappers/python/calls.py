@@ -1,5 +1,5 @@
-"""Makes the calls that it reads, as wrappers/c/calls.c does, through the wrapper, and says what each answered (tools/c): `ok`
-and the answer, or the error."""
+"""Makes the calls that it reads through the wrapper, as wrappers/c/calls.c does, and prints their results (tools/c). A
+result is `ok` and a value, or the error."""
 import sys
 
 import coset
@@ -18,14 +18,14 @@ def data(word):
 
 
 def pairs(word):
-    """The pairs of the word of `put_all`."""
+    """Returns the pairs in the word of `put_all`."""
     values = {"i": int, "t": lambda it: data(it).decode(), "b": data, "e": lambda it: coset.Encoded(data(it))}
     halves = [pair.split("=") for pair in word.split(",") if "=" in pair]
     return [tuple(values[half[0]](half[1:]) for half in pair) for pair in halves]
 
 
 def made(name, kind, given, *words):
-    """What that call answers, of those that make."""
+    """Returns the result of a call that makes an item."""
     if name == "put_int":
         return coset.put(kind, given, int(words[1]), int(words[2]))
     if name == "put_bytes":
@@ -51,7 +51,7 @@ def made(name, kind, given, *words):
 
 
 def token(key_id, issuer, subject, audience, token_id, *words):
-    """The token of the words of `issued`."""
+    """Returns the token for the words of `issued`."""
     texts = [data(word).decode() for word in (issuer, subject, audience)]
     claims = dict(zip(range(1, 8), [*texts, *map(int, words[:3]), data(token_id)]))
     found = issued(claims, key_id, lambda signed: data(words[4]) if signed.hex() == words[3] else None)
@@ -59,7 +59,8 @@ def token(key_id, issuer, subject, audience, token_id, *words):
 
 
 def told(kind, given, aad, has, content):
-    """What `sign1` says: its texts one behind the other, and the numbers of the view that coset_sign1 gave."""
+    """Returns the result of `sign1`: its texts one after another, and the numbers of the view that coset_sign1
+    gives."""
     m = coset.sign1(kind, given, data(aad), None if has == "0" else data(content))
     texts = [m.signed, m.signature, m.payload, m.key_id]
     numbers = [m.algorithm or 0, m.algorithm_form, m.key_id_map or 0, int(m.has_critical), int(m.is_tagged), *map(len, texts)]
@@ -67,12 +68,12 @@ def told(kind, given, aad, has, content):
 
 
 def integers(word):
-    """The integers of a word, with commas between them."""
+    """Returns the integers of a word, which has commas between them."""
     return [] if word == "-" else list(map(int, word.split(",")))
 
 
 def message(kind, given, index, aad, has, content, known):
-    """What `message` says, as `told` does."""
+    """Returns the result of `message`, in the same form as `told`."""
     m = coset.message(kind, given, int(index), integers(known), data(aad), None if has == "0" else data(content))
     texts = [m.input, m.proof, m.content, m.key_id]
     numbers = [m.algorithm or 0, m.algorithm_form, m.key_id_map or 0, m.critical, int(m.is_tagged), *map(len, texts)]
@@ -80,7 +81,7 @@ def message(kind, given, index, aad, has, content, known):
 
 
 def safe(kind, given, index, aad, has, content, algorithms, known, *words):
-    """What `verify` or `decrypt` answers, as calls.c says."""
+    """Returns the result of `verify` or `decrypt`, as calls.c describes it."""
     is_asked = lambda q: [q.input, q.proof, q.key_id or b""] == list(map(data, words))
     plain = lambda q, iv: (iv or b"") + bytes(byte ^ 0x5A for byte in q.proof) if is_asked(q) else None
     more = {"critical": integers(known), "external_aad": data(aad), "detached": None if has == "0" else data(content)}
@@ -90,7 +91,7 @@ def safe(kind, given, index, aad, has, content, algorithms, known, *words):
 
 
 def judged(given, now, rules, signatures, macs, ciphers, critical, issuer, audience, said):
-    """What `token_claims` answers, and what was asked, as calls.c says."""
+    """Returns the result of `token_claims` and the questions that it asked, as calls.c describes them."""
     leeway, max_age, has_max_age, plain, by, leaves_out, forever, later, has_issuer, has_audience = map(int, rules.split(","))
     answers, asked, heard = iter(said.split(",")), [], []
 
@@ -111,7 +112,7 @@ def judged(given, now, rules, signatures, macs, ciphers, critical, issuer, audie
 
 
 def span(part):
-    """Where a part of the input is."""
+    """Returns the place of a part of the input."""
     return f"{part.start} {part.stop - part.start}"
 
 

@@ -1,10 +1,16 @@
-"""coset from Python: the calls of include/coset.h over libcoset.so, which is beside this file or where COSET_LIBRARY says.
+"""coset from Python: the calls of include/coset.h. The library is libcoset.so next to this file, or the file that the
+environment's COSET_LIBRARY names.
 
-A call is given bytes and answers bytes, a number or None, and raises Fault where the bytes, or what would be made of them, are
-no item of the kind, Absent where what is asked for isn't in them or what is given has no place, WrongType where it is there and
-of another kind, Empty, Misuse, and MemoryError. `verify` and `decrypt` hand out what a message says once the caller's function
-said yes, and raise NotAllowed, Critical or Refused; `token_claims` those of a web token, and raises NotLetIn too. What is promised
-of each call is in the header and in docs/C.md.
+A call takes bytes and returns bytes, a number or None. It raises one of these errors:
+- Fault if the bytes aren't an item of the kind, or the new item wouldn't be.
+- Absent if the bytes don't have the requested part. Or items of the kind, or the bytes that something is added to, have
+  no place for an argument.
+- WrongType if the requested value is of another type.
+- Empty, Misuse, and MemoryError.
+
+`verify` and `decrypt` return a message's contents only after the caller's function said yes. They also raise
+NotAllowed, Critical or Refused. `token_claims` returns the claims of a web token, and also raises NotLetIn. The
+header and docs/C.md say what each call promises.
 """
 import ctypes
 import enum
@@ -15,8 +21,8 @@ from collections import namedtuple
 
 
 class Kind(enum.IntEnum):
-    """What bytes should be an item of. A message, one of the first six, is plain, or under its tag (TAGGED is added to the kind),
-    or either is taken (EITHER is added): SIGN1 + EITHER is Kind.SIGN1_EITHER."""
+    """The kind of item that the bytes should be. A message, one of the first six, is plain. It is under its tag if
+    TAGGED is added, and both forms are accepted if EITHER is added: SIGN1 + EITHER is Kind.SIGN1_EITHER."""
 
     SIGN1, SIGN, MAC0, MAC, ENCRYPT0, ENCRYPT, SIGNATURE, RECIPIENT, HEADER, KEY, KEY_SET, CLAIMS, ITEM, KDF_CONTEXT = range(1, 15)
     SIGN1_TAGGED, SIGN_TAGGED, MAC0_TAGGED, MAC_TAGGED, ENCRYPT0_TAGGED, ENCRYPT_TAGGED = range(0x101, 0x107)
@@ -52,8 +58,8 @@ _library = ctypes.CDLL(os.environ.get("COSET_LIBRARY", _beside))
 
 
 class Fault(ValueError):
-    """The bytes, or what would be made of them, are no item of the kind. `status` is the status of the call; `offset`, which
-    `check` alone knows, where they stop being one item of CBOR, or None."""
+    """The bytes aren't an item of the kind, or the new item wouldn't be. `status` is the status of the call. `offset`
+    is where the bytes stop being one item of CBOR, or None. Only `check` knows it."""
 
     def __init__(self, status, offset=None):
         super().__init__(status, offset)
@@ -64,44 +70,49 @@ class Fault(ValueError):
 
 
 class Absent(LookupError):
-    """What is asked for isn't in the bytes, or what is given has no place in items of the kind."""
+    """The bytes don't have the requested part. Or items of the kind, or the bytes that something is added to, have no
+    place for an argument."""
 
 
 class Empty(LookupError):
-    """The list is empty: who verifies each of its signatures has verified none."""
+    """The counted list is empty: verifying each of its signatures would verify none."""
 
 
 class WrongType(TypeError):
-    """What is asked for is there, and is no string, or no integer of 64 bits."""
+    """The value is there, but isn't a string, or isn't an integer of 64 bits with a sign. From a call that returns a
+    place also: a string is in chunks."""
 
 
 class Misuse(TypeError):
-    """A number that is of no kind, no part, no map, no order or no countersignature, or for a kind of another call; or a
-    payload that is given as detached, and the message carries one."""
+    """A number names no kind, part, map, order or countersignature, or a kind that the call doesn't take. Or a payload
+    is given as detached although the message carries one."""
 
 
 class Refused(Exception):
-    """The caller's function said no: to the signature, the tag or the ciphertext."""
+    """The caller's function said no to the signature, the tag or the ciphertext."""
 
 
 class NotAllowed(Refused):
-    """The message names no algorithm by a number in its protected header, or none that is allowed."""
+    """The protected header doesn't name an allowed algorithm by its number."""
 
 
 class Critical(Refused):
-    """The message names a label that must be understood, and isn't, or isn't protected."""
+    """A critical label isn't understood, or isn't protected."""
 
 
 class Question(namedtuple("Question", "algorithm key_id key_id_map input proof")):
-    """What the caller's function is asked of: the algorithm, one of those that are allowed; the key's identifier, None where the
-    message names no key, and where it is, as in Sign1; what is signed or authenticated, or what goes with the ciphertext; and
-    the signature or the tag, or to `decrypt` the ciphertext."""
+    """The question that the caller's function answers:
+    - `algorithm` is one of the allowed ones.
+    - `key_id` is the key identifier, or None if the message names no key. `key_id_map` is the header that has it, as
+      in Sign1.
+    - `input` is the structure that is signed, authenticated, or goes with the ciphertext.
+    - `proof` is the signature or the tag, or for `decrypt` the ciphertext."""
 
     __slots__ = ()
 
 
 class NotLetIn(Refused):
-    """The token isn't let in: `status` says why, one of the header's from COSET_TOO_DEEP on."""
+    """The token is refused. `status` is the reason, one of the header's statuses from COSET_TOO_DEEP on."""
 
     def __init__(self, status):
         super().__init__(status)
@@ -112,31 +123,44 @@ class NotLetIn(Refused):
 
 
 class Layer(namedtuple("Layer", "form algorithm key_id key_id_map input proof iv partial_iv")):
-    """What the caller's function is asked of a layer of a token: its form, SIGN1, MAC0 or ENCRYPT0; the algorithm, one of those that
-    are allowed; the key's identifier, None where the layer names no key, and where it is, as in Sign1; what is signed or
-    authenticated, or what goes with the ciphertext; the signature, the MAC or the ciphertext; and the initialization vector and the
-    partial one, each None where there is none."""
+    """The question that the caller's function answers for a layer of a token:
+    - `form` is SIGN1, MAC0 or ENCRYPT0.
+    - `algorithm` is one of the allowed ones.
+    - `key_id` is the key identifier, or None if the layer names no key. `key_id_map` is the header that has it, as
+      in Sign1.
+    - `input` is the structure that is signed, authenticated, or goes with the ciphertext.
+    - `proof` is the signature, the MAC or the ciphertext.
+    - `iv` and `partial_iv` are the initialization vector and the partial one, each None if there is none."""
 
     __slots__ = ()
 
 
 class Message(namedtuple("Message", "algorithm algorithm_form key_id_map critical is_tagged input proof content key_id")):
-    """All that verifying or decrypting a message takes, as Sign1 of any message: `critical` is NONE, UNDERSTOOD or
-    NOT_UNDERSTOOD; `input` is what is signed or authenticated, or what goes with the ciphertext; `proof` is the signature or the
-    tag, empty of an encrypted message; `content` is the payload or the ciphertext that the message carries, empty where it is
-    detached. Of a message with signers the headers and the signature are those of one."""
+    """Everything that verifying or decrypting a message takes. It is like Sign1, but for any message:
+    - `critical` is NONE, UNDERSTOOD or NOT_UNDERSTOOD.
+    - `input` is the structure that is signed, authenticated, or goes with the ciphertext.
+    - `proof` is the signature or the tag, and empty for an encrypted message.
+    - `content` is the payload or ciphertext that the message carries, and empty if it is detached.
+
+    For a message with signers, the headers and the signature are those of one signer."""
 
     __slots__ = ()
 
 
 class Sign1(namedtuple("Sign1", "algorithm algorithm_form key_id_map has_critical is_tagged signed signature payload key_id")):
-    """All that verifying a message with one signature takes: the algorithm that the protected header names, an int or None, and
-    its form, NONE, INT or TEXT; where the key's identifier is, IN_PROTECTED, else IN_UNPROTECTED, which isn't signed, else
-    None; whether either header has crit, labels that must be understood; whether the message is under its tag; and what is
-    signed, the signature, the payload that the message carries (empty where it is detached), and the key's identifier.
+    """Everything that verifying a message with one signature takes:
+    - `algorithm` is the algorithm in the protected header, an int or None. `algorithm_form` is its form: NONE, INT
+      or TEXT.
+    - `key_id_map` is the header that has the key identifier: IN_PROTECTED, else IN_UNPROTECTED, which isn't signed,
+      else None.
+    - `has_critical` says whether either header has crit: labels that must be understood.
+    - `is_tagged` says whether the message is under its tag.
+    - `signed` is the structure that is signed, and `signature` the signature.
+    - `payload` is the payload that the message carries, and empty if it is detached.
+    - `key_id` is the key identifier.
 
-    Verify the signature over what is signed, by a key that you trust and an algorithm that you allow for it, before you use the
-    payload; and refuse a message that has crit."""
+    Before you use the payload, verify the signature over `signed`, by a key that you trust and an algorithm that you
+    allow for it. Refuse a message that has crit."""
 
     __slots__ = ()
 
@@ -286,7 +310,7 @@ _declare()
 
 
 def _raise(status, offset=None):
-    """Raises what the status says, unless that all is well."""
+    """Raises the error of a status other than success."""
     if status == _MEMORY:
         raise MemoryError
     if status == _ABSENT:
@@ -308,21 +332,21 @@ def _raise(status, offset=None):
 
 
 def _bytes(data):
-    """The bytes and their number, of any object that lends them."""
+    """Returns the bytes of any bytes-like object, and their number."""
     if type(data) is not bytes:
         data = bytes(memoryview(data))
     return data, len(data)
 
 
 def _kind(number):
-    """The number of a kind."""
+    """Returns the number of a kind, or raises Misuse."""
     if number not in _KINDS:
         raise Misuse("a number of no kind")
     return number
 
 
 def _number(number):
-    """The number of a part, a map or an order."""
+    """Returns the number of a part, a map or an order, or raises Misuse."""
     if not 0 <= number < 1 << 32:
         raise Misuse("a number of no part, no map or no order")
     return number
@@ -341,8 +365,9 @@ def _size(number):
 
 
 def _written(call, *arguments, behind=()):
-    """What the call writes, with arguments behind those for that too. The memory for it is as long as an answer may be: all that
-    is given, once and once more, with heads. Should it be short all the same, the call is made again."""
+    """Returns the bytes that a call writes. The arguments in `behind` follow those for the result. The buffer has room
+    for any usual result: twice the size of all arguments, and heads. If it is too small all the same, the call is
+    made again."""
     room, length = 256, ctypes.c_size_t()
     for it in arguments:
         if type(it) is bytes:
@@ -364,19 +389,19 @@ def check(kind, data):
 
 
 def count(kind, data):
-    """How many signatures, recipients or keys there are."""
+    """Returns the number of signatures, recipients, keys or elements, which is at least 1."""
     number = ctypes.c_size_t()
     _raise(_library.coset_count(_kind(kind), *_bytes(data), ctypes.byref(number)))
     return number.value
 
 
 def part(kind, data, which):
-    """A part: PROTECTED, PAYLOAD, CIPHERTEXT or PROOF."""
+    """Returns a part: PROTECTED, PAYLOAD, CIPHERTEXT or PROOF."""
     return _written(_library.coset_part, _kind(kind), *_bytes(data), _number(which))
 
 
 def member(kind, data, index):
-    """The signature, recipient or key of that index, in its shortest encoding."""
+    """Returns the signature, recipient, key or element at `index`, in its shortest encoding."""
     return _written(_library.coset_member, _kind(kind), *_bytes(data), _size(index))
 
 
@@ -385,58 +410,60 @@ def _slice(span):
 
 
 def member_span(kind, data, index):
-    """Where the signature, recipient or key of that index is in the bytes, or the element of an array, as it was received: a slice,
-    as `memoryview(data)[..]` takes it."""
+    """Returns the place of the signature, recipient, key or array element at `index`, as received. It is a slice for
+    `memoryview(data)[..]`."""
     span = _Span()
     _raise(_library.coset_member_span(_kind(kind), *_bytes(data), _size(index), ctypes.byref(span)))
     return _slice(span)
 
 
 def pair_spans(kind, data, index):
-    """Where the label and the value of the pair of that index of a map are in the bytes, as they were received: two slices."""
+    """Returns the places of the label and value of a map's pair, as received: two slices. `index` counts the pairs from
+    0."""
     name, value = _Span(), _Span()
     _raise(_library.coset_pair_spans(_kind(kind), *_bytes(data), _size(index), ctypes.byref(name), ctypes.byref(value)))
     return _slice(name), _slice(value)
 
 
 def label_span(kind, data, which, name):
-    """Where the value of an integer label is in the bytes, as it was received: a slice."""
+    """Returns the place of an integer label's value, as received: a slice."""
     span = _Span()
     _raise(_library.coset_label_span(_kind(kind), *_bytes(data), _number(which), _int64(name), ctypes.byref(span)))
     return _slice(span)
 
 
 def item_span(data, at):
-    """Where the item is that begins `at` bytes behind the first, as it was received: a slice. Where it ends, the next element of an
-    array begins, or the next label or value of a map."""
+    """Returns the place of the item that begins at the offset `at`, as received: a slice. The next element of an array,
+    or the next label or value of a map, begins where the item ends."""
     span = _Span()
     _raise(_library.coset_item_span(*_bytes(data), _size(at), ctypes.byref(span)))
     return _slice(span)
 
 
 def string_span(data):
-    """Where the content of a byte string or a text string is in the bytes, which are one whose length is announced: a slice."""
+    """Returns the place of a string's content: a slice. The string has definite length."""
     span = _Span()
     _raise(_library.coset_string_span(*_bytes(data), ctypes.byref(span)))
     return _slice(span)
 
 
 def integer(data):
-    """The integer that the bytes are."""
+    """Returns the integer that the bytes encode."""
     value = ctypes.c_int64()
     _raise(_library.coset_integer(*_bytes(data), ctypes.byref(value)))
     return value.value
 
 
 def label(kind, data, which, name):
-    """The value of a label, an int or a str, in its shortest encoding: in IN_PROTECTED, IN_UNPROTECTED or IN_ITEM."""
+    """Returns the value of a label, in its shortest encoding. `name` is an int or a str. `which` is the map:
+    IN_PROTECTED, IN_UNPROTECTED or IN_ITEM."""
     if isinstance(name, str):
         return _written(_library.coset_text_label, _kind(kind), *_bytes(data), _number(which), *_bytes(name.encode()))
     return _written(_library.coset_label, _kind(kind), *_bytes(data), _number(which), _int64(name))
 
 
 def has(kind, data, which, name):
-    """Whether there is such a label."""
+    """Returns True if the map has the label."""
     try:
         label(kind, data, which, name)
     except Absent:
@@ -445,35 +472,36 @@ def has(kind, data, which, name):
 
 
 def label_bytes(kind, data, which, name):
-    """What the byte string or the text string holds that is the value of an integer label."""
+    """Returns the content of the byte string or text string that is the value of an integer label."""
     return _written(_library.coset_label_bytes, _kind(kind), *_bytes(data), _number(which), _int64(name))
 
 
 def label_int(kind, data, which, name):
-    """The integer that is the value of an integer label."""
+    """Returns the integer that is the value of an integer label."""
     value = ctypes.c_int64()
     _raise(_library.coset_label_int(_kind(kind), *_bytes(data), _number(which), _int64(name), ctypes.byref(value)))
     return value.value
 
 
 def label_at(kind, data, index):
-    """The label of the pair of that index of a map, in its shortest encoding."""
+    """Returns the label of a map's pair, in its shortest encoding. `index` counts the pairs from 0."""
     return _written(_library.coset_label_at, _kind(kind), *_bytes(data), _size(index))
 
 
 def value_at(kind, data, index):
-    """The value of the pair of that index of a map, in its shortest encoding."""
+    """Returns the value of a map's pair, in its shortest encoding. `index` counts the pairs from 0."""
     return _written(_library.coset_value_at, _kind(kind), *_bytes(data), _size(index))
 
 
 def key_of(data, key_id):
-    """The first key of a set that has that identifier, in its shortest encoding."""
+    """Returns the first key of a set with this identifier, in its shortest encoding."""
     return _written(_library.coset_key_of, *_bytes(data), *_bytes(key_id))
 
 
 def structure(kind, data, index=0, external_aad=b"", detached=None):
-    """What is signed (by the signer of that index), authenticated, or goes with the ciphertext: over the payload that the
-    message carries, or over `detached`, where that isn't None and it carries none."""
+    """Returns the structure that is signed (by the signer at `index`), authenticated, or goes with the ciphertext. Its
+    payload is the one that the message carries. If the message carries none, it is `detached`; else `detached` is
+    None."""
     content = _bytes(b"" if detached is None else detached)
     return _written(
         _library.coset_structure, _kind(kind), *_bytes(data), _size(index), *_bytes(external_aad), detached is not None, *content
@@ -481,21 +509,26 @@ def structure(kind, data, index=0, external_aad=b"", detached=None):
 
 
 def recipient_structure(holder, data, external_aad=b""):
-    """What goes with the ciphertext of a recipient, by the kind that holds it: ENCRYPT, MAC or RECIPIENT."""
+    """Returns the structure that goes with the ciphertext of a recipient, by the kind that contains it: ENCRYPT, MAC or
+    RECIPIENT."""
     return _written(_library.coset_recipient_structure, _kind(holder), *_bytes(data), *_bytes(external_aad))
 
 
 def countersign_structure(kind, data, label, signer=b"", external_aad=b"", detached=None):
-    """What a countersignature of a message, of a signature or of a recipient is over, by its label: 7, or 9 where it is abbreviated
-    (RFC 8152), 11 or 12 (RFC 9338). `signer` is what the byte string of the countersignature's protected header holds; an
-    abbreviated one has none. It is over the payload, the ciphertext or the signature that the item carries, or over `detached`."""
+    """Returns the structure that a countersignature of a message, a signature or a recipient signs.
+
+    `label` is 7, or 9 for an abbreviated countersignature (RFC 8152, section 4.5 and appendix A.2); or 11, or 12 for
+    an abbreviated one (RFC 9338, section 2). `signer` is the content of the countersignature's own protected header.
+    An abbreviated countersignature has none. The structure's payload is the payload, ciphertext or signature that
+    the item carries. If the item carries none, it is `detached`."""
     given = *_bytes(data), _int64(label), *_bytes(signer), *_bytes(external_aad)
     content = _bytes(b"" if detached is None else detached)
     return _written(_library.coset_countersign_structure, _kind(kind), *given, detached is not None, *content)
 
 
 class _Room(threading.local):
-    """Memory for the structure, its length and the view of a message, which a thread uses again and again, and where it is."""
+    """Memory for the structure, its length and the view of a message, and the addresses of these. A thread uses it for
+    all its calls."""
 
     def __init__(self):
         out, length, view = ctypes.create_string_buffer(4096), ctypes.c_size_t(), ctypes.create_string_buffer(ctypes.sizeof(_Spans))
@@ -508,7 +541,7 @@ _message_spans, _made = _library.coset_message_spans, tuple.__new__
 
 
 def _seen(shape, kind, data, index, critical, external_aad, detached):
-    """What Message has, or with `has_critical` Sign1: a value of that shape."""
+    """Returns a Message or a Sign1, as `shape` says. A Sign1 has `has_critical` in place of `critical`."""
     if kind not in _KINDS:
         _kind(kind)
     data, data_len = (data, len(data)) if type(data) is bytes else _bytes(data)
@@ -516,7 +549,7 @@ def _seen(shape, kind, data, index, critical, external_aad, detached):
     content, content_len = (b"", 0) if detached is None else _bytes(detached)
     known = (ctypes.c_int64 * len(critical))(*map(_int64, critical)) if critical else None
     out, length, view, out_at, length_at, view_at = _room.parts
-    # The structure has all that is given once, with heads; what has no place in the message may be behind it.
+    # The structure has all arguments once, with heads. Texts that have no place in the message may follow it.
     room, needed = 4096, 2 * data_len + aad_len + content_len + 128
     while True:
         if needed > room:
@@ -543,22 +576,23 @@ def _seen(shape, kind, data, index, critical, external_aad, detached):
 
 
 def sign1(kind, data, external_aad=b"", detached=None):
-    """All that verifying a message with one signature takes (Sign1), of a kind SIGN1, with TAGGED or EITHER or neither: over the
-    payload that the message carries, or over `detached`, where that isn't None and it carries none."""
+    """Returns everything that verifying a message with one signature takes: a Sign1. `kind` is SIGN1, with TAGGED,
+    EITHER or neither added. The payload is the one that the message carries. If the message carries none, it is
+    `detached`; else `detached` is None."""
     if kind & 0xFF != SIGN1:
         raise Misuse("a kind of another call")
     return _seen(Sign1, kind, data, 0, (), external_aad, detached)
 
 
 def message(kind, data, index=0, critical=(), external_aad=b"", detached=None):
-    """All that verifying or decrypting a message takes (Message), and of the signer of that index where it is one with signers:
-    over the payload that the message carries, or over `detached`, where that isn't None and it carries none. The caller
-    understands the critical labels."""
+    """Returns everything that verifying or decrypting a message takes: a Message. For a message with signers, it is for
+    the signer at `index`. The payload is the one that the message carries. If the message carries none, it is
+    `detached`; else `detached` is None. `critical` are the critical labels that the caller understands."""
     return _seen(Message, kind, data, _size(index), critical, external_aad, detached)
 
 
 def _asked(found, algorithms, proof):
-    """What is asked of a message, where that is allowed; with this proof."""
+    """Returns the question about a message with this proof, or raises an error if the message isn't allowed."""
     if found.critical == NOT_UNDERSTOOD:
         raise Critical("a label that must be understood isn't")
     if found.algorithm is None or found.algorithm not in algorithms:
@@ -567,10 +601,13 @@ def _asked(found, algorithms, proof):
 
 
 def verify(kind, data, algorithms, verify, index=0, critical=(), external_aad=b"", detached=None):
-    """The payload of a message that is signed or has a MAC (SIGN1, SIGN, MAC0 or MAC, with TAGGED or EITHER or neither), once
-    `verify` said yes: that the proof of the Question is one of its input, by a key that the caller trusts for that algorithm.
-    `algorithms` are those that are allowed, and `critical` the critical labels that the caller understands, and acts on. Of a
-    message with signers the signer of that index is asked of; which signers are enough is the caller's to say."""
+    """Returns the payload of a message with signatures or a MAC, after `verify` said yes. `kind` is SIGN1, SIGN, MAC0
+    or MAC, with TAGGED, EITHER or neither added.
+
+    `verify` returns True if the question's proof is a signature or MAC of its input, by a key that the caller trusts
+    for that algorithm. `algorithms` are those that are allowed. `critical` are the critical labels that the caller
+    understands, and acts on. For a message with signers, the question is about the signer at `index`. The caller
+    decides which signers are enough."""
     if _kind(kind) & 0xFF not in (SIGN1, SIGN, MAC0, MAC):
         raise Misuse("a kind without a signature or a tag")
     found = message(kind, data, index, critical, external_aad, detached)
@@ -580,7 +617,7 @@ def verify(kind, data, algorithms, verify, index=0, critical=(), external_aad=b"
 
 
 def _found(call, *arguments):
-    """What the call answers, or None where it isn't there."""
+    """Returns the result of the call, or None if it raises Absent."""
     try:
         return call(*arguments)
     except Absent:
@@ -588,9 +625,11 @@ def _found(call, *arguments):
 
 
 def decrypt(kind, data, algorithms, decrypt, critical=(), external_aad=b"", detached=None):
-    """The plaintext of an ENCRYPT0 (with TAGGED or EITHER or neither), which `decrypt` has of the Question, where the proof is the
-    ciphertext, and of the IV, label 5 of the headers, or None; None where the ciphertext is none by a key that the caller
-    trusts. The rest is as to `verify`."""
+    """Returns the plaintext of an ENCRYPT0, with TAGGED, EITHER or neither added.
+
+    `decrypt` receives the question, whose proof is the ciphertext, and the IV, label 5 of the headers, or None. It
+    returns the plaintext, or None if the ciphertext isn't authentic by a key that the caller trusts. The other
+    arguments are those of `verify`."""
     if _kind(kind) & 0xFF != ENCRYPT0:
         raise Misuse("a kind of another call")
     found = message(kind, data, 0, critical, external_aad)
@@ -608,12 +647,12 @@ def decrypt(kind, data, algorithms, decrypt, critical=(), external_aad=b"", deta
 
 
 def _integers(numbers):
-    """The integers and their number, as an array."""
+    """Returns the integers as an array, and their number."""
     return (ctypes.c_int64 * len(numbers))(*map(_int64, numbers)), len(numbers)
 
 
 def _layer(view, text):
-    """The layer that waits."""
+    """Returns the layer that waits."""
     texts, start = [], 0
     for length in (view.structure_len, view.proof_len, view.key_id_len, view.iv_len, view.partial_iv_len):
         texts.append(text[start : start + length])
@@ -624,11 +663,13 @@ def _layer(view, text):
 
 def token_claims(data, now, opener, signatures=(), macs=(), ciphers=(), critical=(), issuer=None, audience=None, leeway=0, max_age=None,
                  plain=SIGN1, authenticated_by=0, leaves_out=False, may_not_expire=False, may_be_issued_later=False):
-    """The claims of a web token at `now`, in seconds since 1970 began in UTC: a CLAIMS, once `opener` said yes to each layer. It
-    is handed a Layer, and returns True where that is signed, or has a MAC, by a key that the caller trusts for that algorithm; of an
-    ENCRYPT0 it returns the plaintext, or None where the ciphertext is none by such a key. The algorithms are those that are
-    allowed in signatures, in MACs and in encryption; the rest is as coset_rules of the header says. Where the token isn't let
-    in, it raises NotAllowed, Critical, Refused, or NotLetIn with the reason."""
+    """Returns the claims of a web token at `now`, in seconds since 1970 began in UTC: a CLAIMS.
+
+    `opener` is called with each Layer, and must accept it. For a signature or a MAC by a key that the caller trusts
+    for that algorithm it returns True. For an ENCRYPT0 it returns the plaintext, or None if the ciphertext isn't
+    authentic by such a key. `signatures`, `macs` and `ciphers` are the algorithms that are allowed in signatures, in
+    MACs and in encryption. The other arguments are those of coset_rules in the header. If the token is refused, this
+    raises NotAllowed, Critical, Refused, or NotLetIn with the reason."""
     names = [None if name is None else name.encode() for name in (issuer, audience)]
     flags = [max_age is not None, plain, authenticated_by, leaves_out, may_not_expire, may_be_issued_later, *(name is not None for name in names)]
     seconds = [leeway, max_age or 0]
@@ -661,18 +702,19 @@ def token_claims(data, now, opener, signatures=(), macs=(), ciphers=(), critical
 
 
 def version():
-    """The version of the library, and behind it ` (unproved)` where it was built without a proof."""
+    """Returns the version of the library, followed by ` (unproved)` if it was built without a proof."""
     return _library.coset_version().decode()
 
 
 def status_text(status):
-    """What a status of the header is, in a few words."""
+    """Returns a few words for a status of the header."""
     return _library.coset_status_text(status).decode()
 
 
 def put(kind, data, name, value):
-    """The header, key or claims set, which may be empty, with one pair more, behind the others: an integer label, and an int,
-    a str, or bytes. True and False are no integers of CBOR: `put_encoded` takes them, as b"\xf5" and b"\xf4"."""
+    """Returns the header, key or claims set, which may be empty, with one more pair at its end. The pair is an integer
+    label, and an int, a str, or bytes. True and False are no integers of CBOR: `put_encoded` takes them, as b"\xf5"
+    and b"\xf4"."""
     if isinstance(value, bool):
         raise TypeError("True and False are no integers of CBOR: put_encoded takes their encodings")
     given = _kind(kind), *_bytes(data), _int64(name)
@@ -684,27 +726,28 @@ def put(kind, data, name, value):
 
 
 def put_encoded(kind, data, name, value):
-    """Such a map with one pair more: a label, an int or a str, and a value by its encoding, one item of CBOR."""
+    """Returns such a map with one more pair: a label, an int or a str, and a value as its encoding, one item of
+    CBOR."""
     if isinstance(name, str):
         return _written(_library.coset_put_text_label, _kind(kind), *_bytes(data), *_bytes(name.encode()), *_bytes(value))
     return _written(_library.coset_put, _kind(kind), *_bytes(data), _int64(name), *_bytes(value))
 
 
 class Encoded(bytes):
-    """A value by its encoding, one item of CBOR, for `put_all`."""
+    """A value for `put_all` as its encoding, one item of CBOR."""
 
     __slots__ = ()
 
 
 def _part(data, parts):
-    """Where the bytes begin among the parts, once they are the last of these, and how many they are."""
+    """Appends the bytes to the parts. Returns their offset and their number."""
     at = len(parts)
     parts += data
     return at, len(parts) - at
 
 
 def _pair(name, value, parts):
-    """The struct of a pair, whose texts and bytes are then the last parts."""
+    """Returns the struct of a pair, and appends its texts and bytes to the parts."""
     pair = _Pair()
     if isinstance(name, str):
         pair.label_form, (pair.label_at, pair.label_len) = TEXT, _part(name.encode(), parts)
@@ -723,29 +766,32 @@ def _pair(name, value, parts):
 
 
 def put_all(kind, data, pairs):
-    """The header, key or claims set, which may be empty, with these pairs more, in their order, in one call: of a dict, or
-    labels with values. A label is an int or a str; a value is an int, a str, bytes, or Encoded, one item of CBOR."""
+    """Returns the header, key or claims set, which may be empty, with these pairs at its end, in order, in one call.
+    `pairs` is a dict, or labels with values. A label is an int or a str. A value is an int, a str, bytes, or
+    Encoded, one item of CBOR."""
     parts = bytearray()
     told = [_pair(name, value, parts) for name, value in (pairs.items() if isinstance(pairs, dict) else pairs)]
     return _written(_library.coset_put_all, _kind(kind), *_bytes(data), (_Pair * len(told))(*told), len(told), *_bytes(parts))
 
 
 def structure_of(kind, protected, content=b"", signer=b"", external_aad=b""):
-    """As `structure`, of a message that isn't made yet: of its protected header, of the payload (a structure that goes with a
-    ciphertext has none), and of the signer's protected header, for SIGN alone."""
+    """Does the same as `structure` for a message that isn't made yet. `protected` is its protected header. `content` is
+    the payload; a structure that goes with a ciphertext has none. `signer` is the signer's protected header, for
+    SIGN alone."""
     return _written(
         _library.coset_structure_of, _kind(kind), *_bytes(protected), *_bytes(signer), *_bytes(external_aad), *_bytes(content)
     )
 
 
 def recipient_structure_of(holder, protected, external_aad=b""):
-    """As `recipient_structure`, of the protected header of a recipient that isn't made yet."""
+    """Does the same as `recipient_structure` for a recipient that isn't made yet, from its protected header."""
     return _written(_library.coset_recipient_structure_of, _kind(holder), *_bytes(protected), *_bytes(external_aad))
 
 
 def make(kind, protected, unprotected, content=None, proof=b""):
-    """A message, a signature or a recipient, of its headers, its payload or ciphertext (None: detached), and its signature or
-    tag. A message with signers or recipients is made without them."""
+    """Makes a message, a signature or a recipient from its headers, its content, and its signature or tag. The content
+    is the payload or the ciphertext, or None if that is detached. A message with signers or recipients is made
+    without them."""
     held = _bytes(b"" if content is None else content)
     return _written(
         _library.coset_make, _kind(kind), *_bytes(protected), *_bytes(unprotected), content is not None, *held, *_bytes(proof)
@@ -753,15 +799,16 @@ def make(kind, protected, unprotected, content=None, proof=b""):
 
 
 def add(kind, data, item):
-    """The item with one signature, recipient or key more, behind the others. A set of keys may begin with nothing."""
+    """Returns the item with one more signature, recipient, key or element at the end. A set of keys or an array may
+    begin with no bytes."""
     return _written(_library.coset_add, _kind(kind), *_bytes(data), *_bytes(item))
 
 
 def write(kind, data):
-    """The item in its shortest encoding."""
+    """Returns the item in its shortest encoding."""
     return _written(_library.coset_write, _kind(kind), *_bytes(data))
 
 
 def canonical_key(order, data):
-    """The key in its shortest encoding, with its labels in that order: LEXICOGRAPHIC or LENGTH_FIRST."""
+    """Returns the key in its shortest encoding, with its labels in this order: LEXICOGRAPHIC or LENGTH_FIRST."""
     return _written(_library.coset_canonical_key, _number(order), *_bytes(data))

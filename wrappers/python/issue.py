@@ -1,9 +1,9 @@
-"""Issues a signed web token (RFC 8392), with the cryptography that the caller has."""
+"""Issues a signed web token (RFC 8392), with the caller's cryptography."""
 import coset
 
 
 def issued(claims, key_id, sign):
-    """A token of these claims, by their labels, signed by ES256; None where `sign`, which is given what is signed, answers None."""
+    """Returns a token with these claims, signed by ES256, or None if `sign` returns None for the bytes to sign."""
     payload = coset.put_all(coset.CLAIMS, b"", claims)
     protected = coset.put(coset.HEADER, b"", 1, -7)
     unprotected = coset.put(coset.HEADER, b"", 4, key_id)

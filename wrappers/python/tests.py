@@ -1,5 +1,5 @@
-"""What the wrapper does beyond the calls themselves (tools/c): errors cross to another process, and numbers and values that
-stand for nothing are refused."""
+"""Tests of the wrapper apart from its calls (tools/c): errors pass to another process, and numbers and values without a
+meaning are refused."""
 import copy
 import hashlib
 import pickle
@@ -8,7 +8,7 @@ import coset
 
 
 def raised(call, *arguments, **more):
-    """What the call raises."""
+    """Returns the error that the call raises, or None."""
     try:
         call(*arguments, **more)
     except Exception as error:
@@ -33,7 +33,7 @@ for number in (0, 15, -1, (1 << 32) + 1, (1 << 64) + 1, 1.5, None):
 assert coset.Kind(coset.SIGN1 + coset.EITHER) is coset.Kind.SIGN1_EITHER
 assert type(raised(coset.part, coset.SIGN1, bytes.fromhex("8440a0f640"), (1 << 32) + 1)) is coset.Misuse
 
-# The answer to a call is computed once: the memory for it is as long as it may be.
+# A call's result is computed once, because the buffer is as large as a result may be.
 made, calls = coset.ctypes.create_string_buffer, []
 coset.ctypes.create_string_buffer = lambda room: calls.append(room) or made(room)
 token = coset.make(coset.SIGN1, b"\xa1\x01\x26", b"", bytes(100_000), bytes(64))
@@ -45,7 +45,8 @@ assert coset.verify(coset.SIGN1, token, [-7], lambda question: True) == bytes(10
 
 
 def countersignatures(kind, message):
-    """The countersignatures under label 11 of the unprotected header: one by itself, or several in an array (RFC 9338, section 3.1)."""
+    """Returns the countersignatures under label 11 of the unprotected header. It has one by itself, or several in an
+    array (RFC 9338, section 2)."""
     if not coset.has(kind, message, coset.IN_UNPROTECTED, 11):
         return []
     value = coset.label(kind, message, coset.IN_UNPROTECTED, 11)
@@ -55,12 +56,12 @@ def countersignatures(kind, message):
 
 
 def made_by(key, over):
-    """What stands for the signature of those bytes by that key."""
+    """Returns a stand-in for the signature of those bytes by that key."""
     return hashlib.sha256(key + over).digest()
 
 
 def countersigned(kind, message, keys):
-    """The message with a countersignature by each of the keys, whose identifiers they are."""
+    """Returns the message with a countersignature by each of the keys. The keys are their own identifiers."""
     made = []
     for key in keys:
         own = coset.put_all(coset.HEADER, b"", {1: -7, 4: key})
@@ -74,7 +75,7 @@ def countersigned(kind, message, keys):
 
 
 def countersigners(kind, message):
-    """The identifier of the key of each countersignature, which is verified."""
+    """Verifies each countersignature, and yields the identifier of its key."""
     for one in countersignatures(kind, message):
         over = coset.countersign_structure(kind, message, 11, coset.part(coset.SIGNATURE, one, coset.PROTECTED))
         key = coset.label_bytes(coset.SIGNATURE, one, coset.IN_PROTECTED, 4)
@@ -91,7 +92,7 @@ assert type(raised(coset.countersign_structure, coset.SIGN1, bare, 12, b"\xa0"))
 
 
 def elements(array):
-    """The elements of an array, in one walk: each begins where the one before it ends."""
+    """Yields the elements of an array, in one walk: each begins where the one before it ends."""
     at = coset.member_span(coset.ITEM, array, 0).start
     for _ in range(coset.count(coset.ITEM, array)):
         span = coset.item_span(array, at)
@@ -100,8 +101,8 @@ def elements(array):
 
 
 def certificates(kind, message):
-    """The certificates under x5chain, label 33 of the unprotected header: one byte string, or an array of them (RFC 9360, section
-    2). Each is a part of the message, and not a copy."""
+    """Returns the certificates under x5chain, label 33 of the unprotected header: one byte string, or an array of them
+    (RFC 9360, section 2). Each is a part of the message, not a copy."""
     chain = memoryview(message)[coset.label_span(kind, message, coset.IN_UNPROTECTED, 33)]
     try:
         parts = list(elements(chain))

@@ -1,7 +1,7 @@
-"""Verifies a signed web token (RFC 8392), with the cryptography that the caller has."""
+"""Verifies a signed web token (RFC 8392), with the caller's cryptography."""
 import coset
 
 
 def verified(token, verify):
-    """The payload of a token, once `verify`, which is given a coset.Question, said that its ES256 signature is one."""
+    """Returns the payload of a token whose ES256 signature `verify` accepts. `verify` receives a coset.Question."""
     return coset.verify(coset.SIGN1 + coset.EITHER, token, [-7], verify)

@@ -1,5 +1,5 @@
-//! Makes the calls that it reads, as `wrappers/c/calls.c` does, through the safe wrapper, and says what each answered
-//! (`tools/c`): `ok` and the answer, or the error.
+//! Makes the calls that it reads through the safe wrapper, as `wrappers/c/calls.c` does, and prints
+//! their results (`tools/c`). A result is `ok` and a value, or the error.
 
 mod coset;
 mod issue;
@@ -72,7 +72,7 @@ fn hex(bytes: &[u8]) -> String {
     bytes.iter().map(|b| format!("{b:02x}")).collect()
 }
 
-/// What the call that the words name answers, of those that make.
+/// Returns the result of a call that makes an item.
 fn made(w: &[&str]) -> Result<Vec<u8>, Error> {
     let (k, input, label) = (kind(w[1]), bytes(w[2]), w.get(4).and_then(|word| word.parse().ok()).unwrap_or(0));
     match w[0] {
@@ -92,7 +92,7 @@ fn made(w: &[&str]) -> Result<Vec<u8>, Error> {
     }
 }
 
-/// The token of `issued`'s words.
+/// Returns the token for the words of `issued`.
 fn issued(w: &[&str]) -> Result<String, Error> {
     let (issuer, subject, audience, id) = (text(w[4]), text(w[5]), text(w[6]), bytes(w[7]));
     let time = |place: usize| Entry::Int(w[place].parse().unwrap());
@@ -109,7 +109,8 @@ fn issued(w: &[&str]) -> Result<String, Error> {
     Ok(token.map_or("no".to_string(), |token| hex(&token)))
 }
 
-/// What `sign1` says: its texts one behind the other, and the numbers of the view that `coset_sign1` gave.
+/// Returns the result of `sign1`: its texts one after another, and the numbers of the view that
+/// `coset_sign1` gives.
 fn told(w: &[&str]) -> Result<String, Error> {
     let content = bytes(w[6]);
     let m = coset::sign1(form(w[1]), &bytes(w[2]), &bytes(w[4]), (w[5] != "0").then_some(content.as_slice()))?;
@@ -124,12 +125,12 @@ fn told(w: &[&str]) -> Result<String, Error> {
     Ok(format!("{texts} {number} {named} {map} {} {} {lengths}", u32::from(m.has_critical), u32::from(m.is_tagged)))
 }
 
-/// The integers of a word, with commas between them.
+/// Returns the integers of a word, which has commas between them.
 fn integers(word: &str) -> Vec<i64> {
     word.split(',').filter_map(|number| number.parse().ok()).collect()
 }
 
-/// The bytes, and what is made of them by `put_all`'s word.
+/// Returns the map with the pairs of `put_all`'s word added.
 fn put_all(k: Kind, input: &[u8], word: &str) -> Result<Vec<u8>, Error> {
     let held: Vec<(String, Vec<u8>, &str, Vec<u8>)> = word
         .split(',')
@@ -159,7 +160,7 @@ fn put_all(k: Kind, input: &[u8], word: &str) -> Result<Vec<u8>, Error> {
     coset::put_all(k, input, &pairs)
 }
 
-/// What `message_lent` says, as `message` does.
+/// Returns the result of `message_lent`, in the same form as `message`.
 fn spans(w: &[&str]) -> Result<String, Error> {
     let (aad, content, known) = (bytes(w[5]), bytes(w[7]), integers(w[8]));
     let detached = (w[6] != "0").then_some(content.as_slice());
@@ -177,7 +178,7 @@ fn spans(w: &[&str]) -> Result<String, Error> {
     Ok(format!("{texts} {number} {named} {map} {} {} {lengths}", m.critical as u32, u32::from(m.is_tagged)))
 }
 
-/// What `message` says, as `told` does.
+/// Returns the result of `message`, in the same form as `told`.
 fn message(w: &[&str]) -> Result<String, Error> {
     let (aad, content, known) = (bytes(w[5]), bytes(w[7]), integers(w[8]));
     let detached = (w[6] != "0").then_some(content.as_slice());
@@ -199,7 +200,7 @@ fn message(w: &[&str]) -> Result<String, Error> {
     Ok(format!("{texts} {number} {named} {map} {critical} {} {lengths}", u32::from(m.is_tagged)))
 }
 
-/// What `verify` or `decrypt` answers, as calls.c says.
+/// Returns the result of `verify` or `decrypt`, as calls.c describes it.
 fn safe(w: &[&str]) -> Result<String, Error> {
     let (aad, content, algorithms, known) = (bytes(w[5]), bytes(w[7]), integers(w[8]), integers(w[9]));
     let detached = (w[6] != "0").then_some(content.as_slice());
@@ -219,7 +220,7 @@ fn safe(w: &[&str]) -> Result<String, Error> {
     Ok(hex(&answer?))
 }
 
-/// What `token_claims` answers, and what was asked, as calls.c says.
+/// Returns the result of `token_claims` and the questions that it asked, as calls.c describes them.
 fn token(w: &[&str]) -> Result<String, Error> {
     let numbers: Vec<u64> = w[5].split(',').map(|number| number.parse().unwrap()).collect();
     let lists = [6, 7, 8, 9].map(|place| integers(w[place]));
@@ -258,7 +259,7 @@ fn token(w: &[&str]) -> Result<String, Error> {
     Ok(format!("{} {} {asked} {}", hex(&claims), heard.len(), heard.join(",")))
 }
 
-/// Where a part of the input is.
+/// Returns the place of a part of the input.
 fn span(range: std::ops::Range<usize>) -> String {
     format!("{} {}", range.start, range.len())
 }

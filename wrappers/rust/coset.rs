@@ -1,5 +1,7 @@
-//! Safe Rust over `include/coset.h`: a file to take into a program that links `libcoset.a`. What is promised of each call
-//! is in the header and in docs/C.md; what an answer is long, the call finds out.
+//! Safe Rust over `include/coset.h`: a file to copy into a program that links `libcoset.a`.
+//!
+//! The header and docs/C.md say what each call promises. The calls find out the lengths of their
+//! results.
 
 use std::borrow::Cow;
 use std::fmt;
@@ -12,7 +14,7 @@ pub enum Form {
     Either,
 }
 
-/// What the bytes should be an item of.
+/// The kind of item that the bytes should be.
 #[derive(Clone, Copy, Debug, PartialEq, Eq)]
 pub enum Kind {
     Sign1(Form),
@@ -27,9 +29,9 @@ pub enum Kind {
     Key,
     KeySet,
     Claims,
-    /// Any item of CBOR.
+    /// Any data item of CBOR.
     Item,
-    /// What a key is derived for: an array, which is taken apart and made as an item.
+    /// The context of a key derivation: an array. Read its elements and make it as an `Item`.
     KdfContext,
 }
 
@@ -55,20 +57,20 @@ pub enum Map {
 pub enum Order {
     /// By their bytes (RFC 8949, section 4.2.1).
     Lexicographic = 1,
-    /// By their lengths, and then by their bytes (RFC 7049, section 3.9).
+    /// By their lengths, then by their bytes (RFC 8949, section 4.2.3; RFC 7049, section 3.9).
     LengthFirst = 2,
 }
 
-/// Which countersignature it is, by its label.
+/// The type of a countersignature, by its label.
 #[derive(Clone, Copy, Debug, PartialEq, Eq)]
 pub enum Countersignature {
     /// `counter signature` (RFC 8152, section 4.5).
     Full = 7,
-    /// `CounterSignature0`, the same without a header of its own.
+    /// `CounterSignature0`, the same without headers of its own (RFC 8152, appendix A.2).
     Abbreviated = 9,
-    /// Of version 2 (RFC 9338, section 3.1).
+    /// A full countersignature of version 2 (RFC 9338, sections 2 and 3.1).
     FullV2 = 11,
-    /// An abbreviated one of version 2 (RFC 9338, section 3.2).
+    /// An abbreviated countersignature of version 2 (RFC 9338, sections 2 and 3.2).
     AbbreviatedV2 = 12,
 }
 
@@ -78,7 +80,7 @@ pub enum Entry<'a> {
     Int(i64),
     Bytes(&'a [u8]),
     Text(&'a str),
-    /// One item of CBOR.
+    /// Any item, as its encoding.
     Encoded(&'a [u8]),
 }
 
@@ -109,72 +111,80 @@ pub enum Algorithm {
     Text,
 }
 
-/// All that verifying a message with one signature takes. Verify the signature over what is signed, by a key that you trust and
-/// an algorithm that you allow for it, before you use the payload; and refuse a message that has `crit`.
+/// Everything that verifying a message with one signature takes.
+///
+/// Before you use the payload, verify the signature over `signed`, by a key that you trust and an
+/// algorithm that you allow for it. Refuse a message that has `crit`.
 #[derive(Clone, Debug, PartialEq, Eq)]
 pub struct Sign1 {
     /// The algorithm that the protected header names.
     pub algorithm: Algorithm,
-    /// Where the key's identifier is: in the protected header; else in the unprotected one, which isn't signed.
+    /// The header that has the key identifier: the protected one, else the unprotected one, which
+    /// isn't signed.
     pub key_id_map: Option<Map>,
     /// Whether either header has `crit`: labels that must be understood.
     pub has_critical: bool,
     /// Whether the message is under its tag.
     pub is_tagged: bool,
-    /// What is signed.
+    /// The structure that is signed.
     pub signed: Vec<u8>,
     pub signature: Vec<u8>,
-    /// The payload that the message carries, which is the one that is signed; empty where it is detached.
+    /// The payload that the message carries, which is the signed one. Empty if it is detached.
     pub payload: Vec<u8>,
-    /// The identifier of the key, empty where there is none.
+    /// The key identifier. Empty if there is none.
     pub key_id: Vec<u8>,
 }
 
-/// What there is of labels that must be understood (`crit`).
+/// The state of `crit`: labels that must be understood.
 #[derive(Clone, Copy, Debug, PartialEq, Eq)]
 pub enum Critical {
     Absent,
-    /// Each is an integer among those that the caller understands, and protected.
+    /// Only the protected header has `crit`, and the caller understands each label in it. Whether
+    /// the header has these labels isn't checked.
     Understood,
-    /// One isn't.
+    /// The unprotected header has `crit`, or the caller doesn't understand a label.
     NotUnderstood,
 }
 
-/// All that verifying or decrypting a message takes, as [`Sign1`] of any message. Of a message with signers the headers and the
-/// signature are those of one.
+/// Everything that verifying or decrypting a message takes. It is like [`Sign1`], but for any
+/// message.
+///
+/// For a message with signers, the headers and the signature are those of one signer.
 #[derive(Clone, Debug, PartialEq, Eq)]
 pub struct Message {
     pub algorithm: Algorithm,
     pub key_id_map: Option<Map>,
     pub critical: Critical,
     pub is_tagged: bool,
-    /// What is signed or authenticated, or what goes with the ciphertext.
+    /// The structure that is signed, authenticated, or goes with the ciphertext.
     pub input: Vec<u8>,
-    /// The signature or the tag; empty of an encrypted message.
+    /// The signature or the tag. Empty for an encrypted message.
     pub proof: Vec<u8>,
-    /// The payload or the ciphertext that the message carries; empty where it is detached.
+    /// The payload or ciphertext that the message carries. Empty if it is detached.
     pub content: Vec<u8>,
     pub key_id: Vec<u8>,
 }
 
-/// The same as [`Message`], where what the message holds is lent of it: it is copied where it has no place of its own there, as a
-/// string in chunks, or where the message has a list of signatures or names critical labels.
+/// The same as [`Message`], with the message's own texts borrowed from it.
+///
+/// All texts are copied if the message has a list of signatures, critical labels, or a string in
+/// chunks.
 #[derive(Clone, Debug, PartialEq, Eq)]
 pub struct LentMessage<'a> {
     pub algorithm: Algorithm,
     pub key_id_map: Option<Map>,
     pub critical: Critical,
     pub is_tagged: bool,
-    /// What is signed or authenticated, or what goes with the ciphertext.
+    /// The structure that is signed, authenticated, or goes with the ciphertext.
     pub input: Vec<u8>,
-    /// The signature or the tag; empty of an encrypted message.
+    /// The signature or the tag. Empty for an encrypted message.
     pub proof: Cow<'a, [u8]>,
-    /// The payload or the ciphertext that the message carries; empty where it is detached.
+    /// The payload or ciphertext that the message carries. Empty if it is detached.
     pub content: Cow<'a, [u8]>,
     pub key_id: Cow<'a, [u8]>,
 }
 
-/// What the caller allows. The default allows nothing.
+/// The caller's requirements for a message. The default accepts nothing.
 #[derive(Clone, Copy, Debug, Default)]
 pub struct Policy<'a> {
     /// The algorithms that are allowed.
@@ -182,22 +192,23 @@ pub struct Policy<'a> {
     /// The critical labels that the caller understands, and acts on.
     pub critical: &'a [i64],
     pub external_aad: &'a [u8],
-    /// The payload or the ciphertext, where the message carries none.
+    /// The payload or the ciphertext, if the message carries none.
     pub detached: Option<&'a [u8]>,
 }
 
-/// What the caller's function is asked of.
+/// The question that the caller's function answers.
 #[derive(Clone, Copy, Debug)]
 pub struct Question<'a> {
-    /// One of those that are allowed.
+    /// One of the allowed algorithms.
     pub algorithm: i64,
-    /// `None` where the message names no key.
+    /// `None` if the message names no key.
     pub key_id: Option<&'a [u8]>,
-    /// Where the identifier is: in the protected header; else in the other, which isn't signed.
+    /// The header that has the key identifier: the protected one, else the unprotected one, which
+    /// isn't signed.
     pub key_id_map: Option<Map>,
-    /// What is signed or authenticated, or what goes with the ciphertext.
+    /// The structure that is signed, authenticated, or goes with the ciphertext.
     pub input: &'a [u8],
-    /// The signature or the tag; to [`decrypt`] the ciphertext.
+    /// The signature or the tag. For [`decrypt`] the ciphertext.
     pub proof: &'a [u8],
 }
 
@@ -208,42 +219,46 @@ pub enum TokenForm {
     Sign1 = 1,
     /// `COSE_Mac0`: is the proof a MAC of the input?
     Mac0 = 3,
-    /// `COSE_Encrypt0`: decrypt the proof, with the input as additional data.
+    /// `COSE_Encrypt0`: decrypt the proof, with the input as additional authenticated data.
     Encrypt0 = 5,
 }
 
-/// Which layers authenticate who sent a web token.
+/// The layers that authenticate the sender of a web token.
 #[derive(Clone, Copy, Debug, PartialEq, Eq)]
 pub enum Authentication {
     SignatureOrMac = 0,
     BySignature = 1,
-    /// Also an encrypted one, by whoever shares its key.
+    /// Any layer. An encrypted one authenticates those who share its key.
     ByAny = 2,
 }
 
-/// What a verifier asks of a web token. The default allows nothing, and is the strictest.
+/// A verifier's requirements for a web token.
+///
+/// The default accepts nothing, because it allows no algorithm. It has no leeway, and checks
+/// neither the age nor the issuer nor the audience.
 #[derive(Clone, Copy, Debug)]
 pub struct TokenPolicy<'a> {
     /// The algorithms that are allowed in signatures.
     pub signatures: &'a [i64],
-    /// In MACs.
+    /// The algorithms that are allowed in MACs.
     pub macs: &'a [i64],
-    /// And in encryption.
+    /// The algorithms that are allowed in encryption.
     pub ciphers: &'a [i64],
     /// The critical labels that the caller understands, and acts on.
     pub critical: &'a [i64],
     /// The form of a layer without a tag.
     pub plain: TokenForm,
     pub authenticated_by: Authentication,
-    /// Whether claims with unassigned numbers are left out; else a token that has one is refused.
+    /// True if claims with unassigned numbers are left out. Otherwise a token with such a claim is
+    /// refused.
     pub leaves_out: bool,
     pub may_not_expire: bool,
     pub may_be_issued_later: bool,
-    /// The age, in seconds, at which a token is refused.
+    /// The age in seconds at which a token is refused.
     pub max_age: Option<u64>,
-    /// How many seconds the clocks of issuer and verifier may differ.
+    /// The number of seconds by which the clocks of issuer and verifier may differ.
     pub leeway: u64,
-    /// The issuer that the claims must name, and the audience.
+    /// The issuer and the audience that the claims must name, if there are any.
     pub issuer: Option<&'a str>,
     pub audience: Option<&'a str>,
 }
@@ -268,81 +283,85 @@ impl Default for TokenPolicy<'_> {
     }
 }
 
-/// What the caller's function is asked of a layer of a web token.
+/// The question that the caller's function answers for a layer of a web token.
 #[derive(Clone, Copy, Debug)]
 pub struct Layer<'a> {
     pub form: TokenForm,
-    /// One of those that are allowed.
+    /// One of the allowed algorithms.
     pub algorithm: i64,
-    /// `None` where the layer names no key.
+    /// `None` if the layer names no key.
     pub key_id: Option<&'a [u8]>,
-    /// Where the identifier is: in the protected header; else in the other, which isn't covered.
+    /// The header that has the key identifier: the protected one, else the unprotected one, which
+    /// isn't covered.
     pub key_id_map: Option<Map>,
-    /// What is signed or authenticated, or what goes with the ciphertext.
+    /// The structure that is signed, authenticated, or goes with the ciphertext.
     pub input: &'a [u8],
     /// The signature, the MAC or the ciphertext.
     pub proof: &'a [u8],
-    /// The initialization vector, and the partial one.
+    /// The initialization vector and the partial one, each if there is one.
     pub iv: Option<&'a [u8]>,
     pub partial_iv: Option<&'a [u8]>,
 }
 
-/// Why a call has no answer.
+/// The reason why a call failed.
 #[derive(Clone, Copy, Debug, PartialEq, Eq)]
 pub enum Error {
-    /// A request for memory was refused.
+    /// An allocation failed.
     Memory,
     /// The bytes end before the item does.
     Ends,
-    /// They aren't well-formed.
+    /// The bytes aren't well-formed.
     Malformed,
     /// Arrays, maps and tags nest more than 256 levels deep.
     Deep,
     /// Bytes follow the item.
     Extraneous,
-    /// An item isn't as its place asks.
+    /// An item isn't what its place requires.
     Unexpected,
-    /// Two keys of a map are one label.
+    /// Two keys of a map are the same label.
     Duplicate,
-    /// An integer lies outside the range of its place.
+    /// An integer is outside the range of its place.
     OutOfRange,
-    /// An integer without a name, in a registry without a private range.
+    /// An integer isn't registered, and its registry has no private range.
     Unregistered,
-    /// An integer without a name and outside the private range of its registry.
+    /// An integer isn't registered, and is outside its registry's private range.
     NotPrivate,
-    /// What is asked for isn't in the bytes, or what is given has no place in items of the kind.
+    /// The bytes don't have the requested part. Or items of the kind, or the bytes that something
+    /// is added to, have no place for an argument.
     Absent,
-    /// A payload is given as detached, and the message carries one; or the kind is one of another call.
+    /// A payload is given as detached although the message carries one, or the call doesn't take
+    /// the kind.
     Misuse,
-    /// What is asked for is there, and is no string, or no integer of 64 bits.
+    /// The value is there, but isn't a string, or isn't an integer in the range of `i64`. From a
+    /// call that returns a place also: a string is in chunks.
     Type,
-    /// The list is empty: who verifies each of its signatures has verified none.
+    /// The counted list is empty: verifying each of its signatures would verify none.
     Empty,
-    /// The message names no algorithm by a number in its protected header, or none that is allowed.
+    /// The protected header doesn't name an allowed algorithm by its number.
     NotAllowed,
-    /// It names a label that must be understood, and isn't, or isn't protected.
+    /// A critical label isn't understood, or isn't protected.
     Critical,
     /// The caller's function said no.
     Refused,
-    /// More than four layers of a token are within one another.
+    /// The token has more than four nested layers.
     TooDeep,
-    /// No layer authenticates who sent the token.
+    /// No layer authenticates the sender of the token.
     Unauthenticated,
-    /// What is in the innermost layer isn't a claims set.
+    /// The content of the innermost layer isn't a claims set.
     NotClaims,
-    /// The token doesn't say when it expires.
+    /// The token has no expiration time.
     NoExpiration,
-    /// It has expired.
+    /// The token has expired.
     Expired,
-    /// It isn't valid yet.
+    /// The token isn't valid yet.
     NotYetValid,
-    /// It is issued later than now.
+    /// The token is issued later than now.
     IssuedLater,
-    /// It has reached the greatest age, or doesn't say when it was issued.
+    /// The token has reached the greatest age, or has no time of issue.
     TooOld,
-    /// It is of another issuer, or of none.
+    /// The token has another issuer, or none.
     Issuer,
-    /// It is for another audience, or for none.
+    /// The token has another audience, or none.
     Audience,
 }
 
@@ -382,7 +401,8 @@ impl fmt::Display for Error {
 
 impl std::error::Error for Error {}
 
-/// Why bytes are no item of a kind, and where they stop being one item of CBOR, where that is said.
+/// The reason why bytes aren't an item of a kind. `offset` is where they stop being one item of
+/// CBOR, if that is known.
 #[derive(Clone, Copy, Debug, PartialEq, Eq)]
 pub struct Fault {
     pub error: Error,
@@ -574,7 +594,7 @@ impl Kind {
 
 const SHORT: i32 = 1;
 
-/// The answer of a call whose status isn't that its memory is short.
+/// Converts a status other than `SHORT` to a result.
 fn answer<T>(status: i32, value: T) -> Result<T, Error> {
     Err(match status {
         0 => return Ok(value),
@@ -608,7 +628,8 @@ fn answer<T>(status: i32, value: T) -> Result<T, Error> {
     })
 }
 
-/// What a call writes that is given a buffer, how long that is, and where to tell the length: once more where it was short.
+/// Returns the bytes that a call writes. The call receives a buffer, the buffer's size, and a place
+/// for the length. If the buffer is too small, the call is made again.
 fn written(call: impl Fn(*mut u8, usize, *mut usize) -> i32) -> Result<Vec<u8>, Error> {
     let mut out = vec![0; 256];
     loop {
@@ -623,8 +644,8 @@ fn written(call: impl Fn(*mut u8, usize, *mut usize) -> i32) -> Result<Vec<u8>, 
     }
 }
 
-// SAFETY, of each call below: the declarations are those of the header, and each slice is whole, apart from the others, and
-// lent for the call.
+// SAFETY, for each call below: the declarations are those of the header. Each slice is whole,
+// separate from the others, and borrowed for the call.
 
 /// Checks that the bytes are an item of the kind.
 pub fn check(kind: Kind, bytes: &[u8]) -> Result<(), Fault> {
@@ -633,112 +654,116 @@ pub fn check(kind: Kind, bytes: &[u8]) -> Result<(), Fault> {
     answer(status, ()).map_err(|error| Fault { error, offset: (offset != usize::MAX).then_some(offset) })
 }
 
-/// How many signatures, recipients or keys there are.
+/// Returns the number of signatures, recipients, keys or elements, which is at least 1.
 pub fn count(kind: Kind, bytes: &[u8]) -> Result<usize, Error> {
     let mut count = 0;
     let status = unsafe { c::coset_count(kind.number(), bytes.as_ptr(), bytes.len(), &mut count) };
     answer(status, count)
 }
 
-/// A part of an item.
+/// Returns a part of an item.
 pub fn part(kind: Kind, bytes: &[u8], part: Part) -> Result<Vec<u8>, Error> {
     written(|out, cap, len| unsafe { c::coset_part(kind.number(), bytes.as_ptr(), bytes.len(), part as u32, out, cap, len) })
 }
 
-/// The signature, recipient or key of that index, in its shortest encoding.
+/// Returns the signature, recipient, key or element at `index`, in its shortest encoding.
 pub fn member(kind: Kind, bytes: &[u8], index: usize) -> Result<Vec<u8>, Error> {
     written(|out, cap, len| unsafe { c::coset_member(kind.number(), bytes.as_ptr(), bytes.len(), index, out, cap, len) })
 }
 
-/// The bytes that a span names.
+/// Returns the range that a span names.
 fn range(span: &c::Span) -> std::ops::Range<usize> {
     span.at..span.at + span.len
 }
 
-/// Where the signature, recipient or key of that index is in the bytes, or the element of an array, as it was received.
+/// Returns the place of the signature, recipient, key or array element at `index`, as received.
 pub fn member_span(kind: Kind, bytes: &[u8], index: usize) -> Result<std::ops::Range<usize>, Error> {
     let mut span = c::Span::default();
     let status = unsafe { c::coset_member_span(kind.number(), bytes.as_ptr(), bytes.len(), index, &mut span) };
     answer(status, range(&span))
 }
 
-/// Where the label and the value of the pair of that index of a map are in the bytes, as they were received.
+/// Returns the places of the label and value of a map's pair, as received. `index` counts the pairs
+/// from 0.
 pub fn pair_spans(kind: Kind, bytes: &[u8], index: usize) -> Result<(std::ops::Range<usize>, std::ops::Range<usize>), Error> {
     let (mut label, mut value) = (c::Span::default(), c::Span::default());
     let status = unsafe { c::coset_pair_spans(kind.number(), bytes.as_ptr(), bytes.len(), index, &mut label, &mut value) };
     answer(status, (range(&label), range(&value)))
 }
 
-/// Where the value of an integer label is in the bytes, as it was received.
+/// Returns the place of an integer label's value, as received.
 pub fn label_span(kind: Kind, bytes: &[u8], map: Map, label: i64) -> Result<std::ops::Range<usize>, Error> {
     let mut span = c::Span::default();
     let status = unsafe { c::coset_label_span(kind.number(), bytes.as_ptr(), bytes.len(), map as u32, label, &mut span) };
     answer(status, range(&span))
 }
 
-/// Where the item is that begins `at` bytes behind the first, as it was received. Where it ends, the next element of an array begins,
-/// or the next label or value of a map.
+/// Returns the place of the item that begins at the offset `at`, as received.
+///
+/// The next element of an array, or the next label or value of a map, begins where the item ends.
 pub fn item_span(bytes: &[u8], at: usize) -> Result<std::ops::Range<usize>, Error> {
     let mut span = c::Span::default();
     let status = unsafe { c::coset_item_span(bytes.as_ptr(), bytes.len(), at, &mut span) };
     answer(status, range(&span))
 }
 
-/// Where the content of a byte string or a text string is in the bytes, which are one whose length is announced.
+/// Returns the place of a string's content. The string has definite length.
 pub fn string_span(bytes: &[u8]) -> Result<std::ops::Range<usize>, Error> {
     let mut span = c::Span::default();
     let status = unsafe { c::coset_string_span(bytes.as_ptr(), bytes.len(), &mut span) };
     answer(status, range(&span))
 }
 
-/// The integer that the bytes are.
+/// Returns the integer that the bytes encode.
 pub fn integer(bytes: &[u8]) -> Result<i64, Error> {
     let mut value = 0;
     let status = unsafe { c::coset_integer(bytes.as_ptr(), bytes.len(), &mut value) };
     answer(status, value)
 }
 
-/// The value of an integer label, in its shortest encoding.
+/// Returns the value of an integer label, in its shortest encoding.
 pub fn label(kind: Kind, bytes: &[u8], map: Map, label: i64) -> Result<Vec<u8>, Error> {
     written(|out, cap, len| unsafe { c::coset_label(kind.number(), bytes.as_ptr(), bytes.len(), map as u32, label, out, cap, len) })
 }
 
-/// What the byte string or the text string holds that is the value of an integer label.
+/// Returns the content of the byte string or text string that is the value of an integer label.
 pub fn label_bytes(kind: Kind, bytes: &[u8], map: Map, label: i64) -> Result<Vec<u8>, Error> {
     written(|out, cap, len| unsafe { c::coset_label_bytes(kind.number(), bytes.as_ptr(), bytes.len(), map as u32, label, out, cap, len) })
 }
 
-/// The integer that is the value of an integer label.
+/// Returns the integer that is the value of an integer label.
 pub fn label_int(kind: Kind, bytes: &[u8], map: Map, label: i64) -> Result<i64, Error> {
     let mut value = 0;
     let status = unsafe { c::coset_label_int(kind.number(), bytes.as_ptr(), bytes.len(), map as u32, label, &mut value) };
     answer(status, value)
 }
 
-/// The value of a text label, in its shortest encoding.
+/// Returns the value of a text label, in its shortest encoding.
 pub fn text_label(kind: Kind, bytes: &[u8], map: Map, label: &str) -> Result<Vec<u8>, Error> {
     written(|out, cap, len| unsafe {
         c::coset_text_label(kind.number(), bytes.as_ptr(), bytes.len(), map as u32, label.as_ptr(), label.len(), out, cap, len)
     })
 }
 
-/// The label of the pair of that index of a map, in its shortest encoding.
+/// Returns the label of a map's pair, in its shortest encoding. `index` counts the pairs from 0.
 pub fn label_at(kind: Kind, bytes: &[u8], index: usize) -> Result<Vec<u8>, Error> {
     written(|out, cap, len| unsafe { c::coset_label_at(kind.number(), bytes.as_ptr(), bytes.len(), index, out, cap, len) })
 }
 
-/// The value of the pair of that index of a map, in its shortest encoding.
+/// Returns the value of a map's pair, in its shortest encoding. `index` counts the pairs from 0.
 pub fn value_at(kind: Kind, bytes: &[u8], index: usize) -> Result<Vec<u8>, Error> {
     written(|out, cap, len| unsafe { c::coset_value_at(kind.number(), bytes.as_ptr(), bytes.len(), index, out, cap, len) })
 }
 
-/// The first key of a set that has that identifier, in its shortest encoding.
+/// Returns the first key of a set with this identifier, in its shortest encoding.
 pub fn key_of(set: &[u8], key_id: &[u8]) -> Result<Vec<u8>, Error> {
     written(|out, cap, len| unsafe { c::coset_key_of(set.as_ptr(), set.len(), key_id.as_ptr(), key_id.len(), out, cap, len) })
 }
 
-/// What is signed (by the signer of that index), authenticated, or goes with the ciphertext: over the payload that the message
-/// carries, or over `detached` where it carries none.
+/// Returns the structure that is signed (by the signer at `index`), authenticated, or goes with the
+/// ciphertext.
+///
+/// Its payload is the one that the message carries. If the message carries none, it is `detached`.
 pub fn structure(kind: Kind, bytes: &[u8], index: usize, external_aad: &[u8], detached: Option<&[u8]>) -> Result<Vec<u8>, Error> {
     let content = detached.unwrap_or_default();
     written(|out, cap, len| unsafe {
@@ -749,8 +774,10 @@ pub fn structure(kind: Kind, bytes: &[u8], index: usize, external_aad: &[u8], de
     })
 }
 
-/// What goes with the ciphertext of a recipient, by the kind that holds it: an encrypted message with recipients, a message with
-/// a MAC and recipients, or a recipient.
+/// Returns the structure that goes with the ciphertext of a recipient.
+///
+/// `holder` is the kind that contains the recipient: an encrypted message with recipients, a
+/// message with a MAC and recipients, or a recipient.
 pub fn recipient_structure(holder: Kind, bytes: &[u8], external_aad: &[u8]) -> Result<Vec<u8>, Error> {
     written(|out, cap, len| unsafe {
         c::coset_recipient_structure(
@@ -759,9 +786,11 @@ pub fn recipient_structure(holder: Kind, bytes: &[u8], external_aad: &[u8]) -> R
     })
 }
 
-/// What a countersignature of a message, of a signature or of a recipient is over: of what the byte string of the
-/// countersignature's protected header holds, which an abbreviated one doesn't have, and of the payload, the ciphertext or the
-/// signature that the item carries, or of `detached`.
+/// Returns the structure that a countersignature of a message, a signature or a recipient signs.
+///
+/// `signer` is the content of the countersignature's own protected header. An abbreviated
+/// countersignature has none. The structure's payload is the payload, ciphertext or signature that
+/// the item carries. If the item carries none, it is `detached`.
 pub fn countersign_structure(
     kind: Kind,
     bytes: &[u8],
@@ -791,8 +820,9 @@ fn key_id_map(number: u32) -> Option<Map> {
     [None, Some(Map::InProtected), Some(Map::InUnprotected)][number as usize]
 }
 
-/// All that verifying a message with one signature takes: over the payload that the message carries, or over `detached` where
-/// it carries none.
+/// Returns everything that verifying a message with one signature takes.
+///
+/// The payload is the one that the message carries. If the message carries none, it is `detached`.
 pub fn sign1(form: Form, bytes: &[u8], external_aad: &[u8], detached: Option<&[u8]>) -> Result<Sign1, Error> {
     let (kind, content) = (Kind::Sign1(form).number(), detached.unwrap_or_default());
     let mut view = c::View::default();
@@ -818,8 +848,10 @@ pub fn sign1(form: Form, bytes: &[u8], external_aad: &[u8], detached: Option<&[u
     })
 }
 
-/// All that verifying or decrypting a message takes, and of the signer of that index where it is one with signers. Of the policy
-/// the algorithms aren't looked at.
+/// Returns everything that verifying or decrypting a message takes.
+///
+/// For a message with signers, it is for the signer at `index`. The policy's algorithms are
+/// ignored.
 pub fn message(kind: Kind, bytes: &[u8], index: usize, policy: &Policy<'_>) -> Result<Message, Error> {
     let (kind, content) = (kind.number(), policy.detached.unwrap_or_default());
     let (aad, known) = (policy.external_aad, policy.critical);
@@ -846,7 +878,8 @@ pub fn message(kind: Kind, bytes: &[u8], index: usize, policy: &Policy<'_>) -> R
     })
 }
 
-/// All that verifying or decrypting a message takes, as [`Message`], lent from the message.
+/// Returns everything that verifying or decrypting a message takes, as [`Message`] does, borrowed
+/// from the message.
 pub fn message_lent<'a>(kind: Kind, bytes: &'a [u8], index: usize, policy: &Policy<'_>) -> Result<LentMessage<'a>, Error> {
     let (kind, content) = (kind.number(), policy.detached.unwrap_or_default());
     let (aad, known) = (policy.external_aad, policy.critical);
@@ -878,7 +911,7 @@ pub fn message_lent<'a>(kind: Kind, bytes: &'a [u8], index: usize, policy: &Poli
 }
 
 impl LentMessage<'_> {
-    /// What is asked of it, where the policy allows that; with this proof.
+    /// Returns the question about the message with this proof, if the policy allows the message.
     fn asked<'a>(&'a self, policy: &Policy<'_>, proof: &'a [u8]) -> Result<Question<'a>, Error> {
         if self.critical == Critical::NotUnderstood {
             return Err(Error::Critical);
@@ -894,9 +927,11 @@ impl LentMessage<'_> {
     }
 }
 
-/// The payload of a message that is signed or has a MAC, once `verify` said yes: that the proof is one of the input, by a key
-/// that the caller trusts for that algorithm. Of a message with signers the signer of that index is asked of; which signers are
-/// enough is the caller's to say.
+/// Returns the payload of a message with signatures or a MAC, after `verify` said yes.
+///
+/// `verify` returns true if the proof is a signature or a MAC of the input, by a key that the
+/// caller trusts for that algorithm. For a message with signers, the question is about the signer
+/// at `index`. The caller decides which signers are enough.
 pub fn verify(
     kind: Kind,
     bytes: &[u8],
@@ -914,8 +949,11 @@ pub fn verify(
     Ok(policy.detached.map_or_else(|| found.content.into_owned(), <[u8]>::to_vec))
 }
 
-/// The plaintext of a `Kind::Encrypt0` in that form, which `decrypt` has of the question, where the proof is the ciphertext, and
-/// of the IV, label 5 of the headers; `None` where the ciphertext is none by a key that the caller trusts.
+/// Returns the plaintext of a `Kind::Encrypt0` in this form.
+///
+/// `decrypt` receives the question, whose proof is the ciphertext, and the IV, label 5 of the
+/// headers. It returns the plaintext, or `None` if the ciphertext isn't authentic by a key that the
+/// caller trusts.
 pub fn decrypt(
     form: Form,
     bytes: &[u8],
@@ -946,7 +984,7 @@ pub fn decrypt(
 }
 
 impl<'a> Layer<'a> {
-    /// The layer that waits, by its numbers and its texts.
+    /// Returns the layer that waits, from its numbers and its texts.
     fn of(view: &c::Layer, text: &'a [u8]) -> Layer<'a> {
         let (input, rest) = text.split_at(view.structure_len);
         let (proof, rest) = rest.split_at(view.proof_len);
@@ -988,9 +1026,12 @@ impl TokenPolicy<'_> {
     }
 }
 
-/// The claims of a web token at `now`, in seconds since 1970 began in UTC, a `Kind::Claims`, once `opener` said yes to each layer: by
-/// `Some` of nothing, where it is signed or has a MAC by a key that the caller trusts for that algorithm, or of the plaintext, where it
-/// is encrypted; `None` refuses the token.
+/// Returns the claims of a web token at `now`, in seconds since 1970 began in UTC: a
+/// `Kind::Claims`.
+///
+/// `opener` is called for each layer, and must accept it. For a signature or a MAC by a key that
+/// the caller trusts for that algorithm it returns an empty `Some`. For an encrypted layer it
+/// returns the plaintext. `None` refuses the token.
 pub fn token_claims(
     token: &[u8],
     now: i64,
@@ -1036,22 +1077,23 @@ pub fn token_claims(
     }
 }
 
-/// The version of the library that is linked, and behind it ` (unproved)` where it was built without a proof.
+/// Returns the version of the library that is linked, followed by ` (unproved)` if it was built
+/// without a proof.
 pub fn version() -> &'static str {
     text(unsafe { c::coset_version() })
 }
 
-/// What a status of the header is, in a few words.
+/// Returns a few words for a status of the header.
 pub fn status_text(status: i32) -> &'static str {
     text(unsafe { c::coset_status_text(status) })
 }
 
-/// The text that the library points to, which is there as long as the program is.
+/// Returns the text that the library points to. It lives as long as the program.
 fn text(at: *const std::ffi::c_char) -> &'static str {
     unsafe { std::ffi::CStr::from_ptr(at) }.to_str().unwrap_or_default()
 }
 
-/// The header, key or claims set, which may be empty, with one pair more, behind the others.
+/// Returns the header, key or claims set, which may be empty, with one more pair at its end.
 pub fn put(kind: Kind, map: &[u8], label: i64, value: Entry<'_>) -> Result<Vec<u8>, Error> {
     let (kind, at, n) = (kind.number(), map.as_ptr(), map.len());
     written(|out, cap, len| unsafe {
@@ -1064,7 +1106,8 @@ pub fn put(kind: Kind, map: &[u8], label: i64, value: Entry<'_>) -> Result<Vec<u
     })
 }
 
-/// The same with many pairs more, in this order: the map is read once, and what is made is checked and written once.
+/// Returns such a map with many more pairs, in this order. The map is read once, and the new map is
+/// checked and written once.
 pub fn put_all<'a, L: Copy + Into<Label<'a>>>(kind: Kind, map: &[u8], pairs: &[(L, Entry<'_>)]) -> Result<Vec<u8>, Error> {
     let mut bytes = Vec::new();
     let mut part = |part: &[u8]| {
@@ -1094,7 +1137,7 @@ pub fn put_all<'a, L: Copy + Into<Label<'a>>>(kind: Kind, map: &[u8], pairs: &[(
     })
 }
 
-/// `put` with a text label, and a value by its encoding.
+/// Does the same as `put` with a text label, and a value as its encoding.
 pub fn put_text_label(kind: Kind, map: &[u8], label: &str, value: &[u8]) -> Result<Vec<u8>, Error> {
     written(|out, cap, len| unsafe {
         c::coset_put_text_label(
@@ -1103,8 +1146,10 @@ pub fn put_text_label(kind: Kind, map: &[u8], label: &str, value: &[u8]) -> Resu
     })
 }
 
-/// As `structure`, of a message that isn't made yet: of its protected header, of the signer's for `Kind::Sign` alone, and of
-/// the payload; a structure that goes with a ciphertext has none.
+/// Does the same as `structure` for a message that isn't made yet.
+///
+/// `protected` is the message's protected header. `signer` is the signer's, for `Kind::Sign` alone.
+/// `content` is the payload. A structure that goes with a ciphertext has none.
 pub fn structure_of(kind: Kind, protected: &[u8], signer: &[u8], external_aad: &[u8], content: &[u8]) -> Result<Vec<u8>, Error> {
     written(|out, cap, len| unsafe {
         c::coset_structure_of(
@@ -1114,7 +1159,8 @@ pub fn structure_of(kind: Kind, protected: &[u8], signer: &[u8], external_aad: &
     })
 }
 
-/// As `recipient_structure`, of the protected header of a recipient that isn't made yet.
+/// Does the same as `recipient_structure` for a recipient that isn't made yet, from its protected
+/// header.
 pub fn recipient_structure_of(holder: Kind, protected: &[u8], external_aad: &[u8]) -> Result<Vec<u8>, Error> {
     written(|out, cap, len| unsafe {
         c::coset_recipient_structure_of(
@@ -1123,8 +1169,11 @@ pub fn recipient_structure_of(holder: Kind, protected: &[u8], external_aad: &[u8
     })
 }
 
-/// A message, a signature or a recipient, of its headers, its payload or ciphertext (`None`: detached), and its signature or
-/// tag. A message with signers or recipients is made without them.
+/// Makes a message, a signature or a recipient from its headers, its content, and its signature or
+/// tag.
+///
+/// The content is the payload or the ciphertext, or `None` if that is detached. A message with
+/// signers or recipients is made without them.
 pub fn make(kind: Kind, protected: &[u8], unprotected: &[u8], content: Option<&[u8]>, proof: &[u8]) -> Result<Vec<u8>, Error> {
     let held = content.unwrap_or_default();
     written(|out, cap, len| unsafe {
@@ -1135,19 +1184,20 @@ pub fn make(kind: Kind, protected: &[u8], unprotected: &[u8], content: Option<&[
     })
 }
 
-/// The item with one signature, recipient or key more, behind the others. A set of keys may begin with nothing.
+/// Returns the item with one more signature, recipient, key or element at the end. A set of keys or
+/// an array may begin with no bytes.
 pub fn add(kind: Kind, bytes: &[u8], member: &[u8]) -> Result<Vec<u8>, Error> {
     written(|out, cap, len| unsafe {
         c::coset_add(kind.number(), bytes.as_ptr(), bytes.len(), member.as_ptr(), member.len(), out, cap, len)
     })
 }
 
-/// The item in its shortest encoding.
+/// Returns the item in its shortest encoding.
 pub fn write(kind: Kind, bytes: &[u8]) -> Result<Vec<u8>, Error> {
     written(|out, cap, len| unsafe { c::coset_write(kind.number(), bytes.as_ptr(), bytes.len(), out, cap, len) })
 }
 
-/// The key in its shortest encoding, with its labels in that order.
+/// Returns the key in its shortest encoding, with its labels in this order.
 pub fn canonical_key(order: Order, bytes: &[u8]) -> Result<Vec<u8>, Error> {
     written(|out, cap, len| unsafe { c::coset_canonical_key(order as u32, bytes.as_ptr(), bytes.len(), out, cap, len) })
 }

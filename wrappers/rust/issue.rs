@@ -1,8 +1,9 @@
-//! Issues a signed web token (RFC 8392), with the cryptography that the caller has.
+//! Issues a signed web token (RFC 8392), with the caller's cryptography.
 
 use crate::coset::{self, Entry, Error, Form, Kind};
 
-/// A token of these claims, signed by ES256; `None` where `sign`, which is given what is signed, has no signature.
+/// Returns a token with these claims, signed by ES256, or `None` if `sign` returns `None`. `sign`
+/// receives the bytes to sign.
 pub fn issued(claims: &[(i64, Entry<'_>)], key_id: &[u8], sign: impl FnOnce(&[u8]) -> Option<Vec<u8>>) -> Result<Option<Vec<u8>>, Error> {
     let payload = coset::put_all(Kind::Claims, b"", claims)?;
     let protected = coset::put(Kind::Header, b"", 1, Entry::Int(-7))?;

@@ -1,3 +1,3 @@
-//! CBOR by itself: values, read from bytes and written to them (RFC 8949).
+//! CBOR by itself (RFC 8949): its values, and reading and writing them.
 
 pub use coset_cbor::{EndOfFile, OutOfMemory, cursor, de, head, ser, value};

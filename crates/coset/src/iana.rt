@@ -1,4 +1,4 @@
-//! The registries that COSE and CBOR web tokens are built on: enums whose values are the numbers that IANA assigns.
+//! IANA's registries for COSE and CBOR web tokens, as enums.
 
 pub use coset_iana::{
     ALGORITHM_PRIVATE_USE_MAX, AkpKeyParameter, Algorithm, CWT_CLAIM_PRIVATE_USE_MAX, CborTag,

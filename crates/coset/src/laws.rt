@@ -1,5 +1,5 @@
-//! What holds of the library's definitions as such. Each law is the contract of a function that does nothing: who proves
-//! something over it calls that function.
+//! Laws of the library. Each law is the contract of an empty function. A proof uses a law by
+//! calling its function.
 
 pub use coset_cbor::laws::{
     least_encoding_is_shortest, least_heads_are_shortest, lent_chunks, lent_elements, lent_item,

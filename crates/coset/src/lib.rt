@@ -1,16 +1,28 @@
-//! COSE (RFC 8152) over CBOR (RFC 8949): messages that are signed, authenticated by a MAC or encrypted, their headers, and
-//! what these are built on. This crate has no code of its own: it shows the public items of the crates below it, under the
-//! paths of the Rust crate `coset`.
+//! COSE (RFC 8152) over CBOR (RFC 8949): messages that are signed, authenticated by a MAC or
+//! encrypted, and their headers.
 //!
-//! Who signs makes a [`CoseSign1`] (its builder's `create_signature` signs it with a closure), and writes it with
-//! `to_vec` of [`CborSerializable`], or `to_tagged_vec` of [`TaggedCborSerializable`]. Who verifies reads it with
-//! `from_slice`, `from_tagged_slice` or, whether it is tagged or not, `from_any_slice`, and calls `verify_signature` with a
-//! closure, which is given the signature and what it is over: the bytes as they were received. Somebody else's signature over a message is in its header as a
-//! [`CoseCountersignature`], which [`verify_countersignature`] verifies. A message with a MAC ([`CoseMac0`]) is made by
-//! `create_tag` and verified by `verify_tag`, an encrypted one ([`CoseEncrypt0`]) is made by `create_ciphertext` and read
-//! by `decrypt`; [`CoseMac`] and [`CoseEncrypt`] have recipients besides ([`CoseRecipient`]). Keys are [`CoseKey`] and
-//! [`CoseKeySet`], and what a key is derived for is a [`CoseKdfContext`]. CBOR by itself is in [`cbor`], the numbers that
-//! IANA registers in [`iana`], claims of web tokens in [`cwt`].
+//! This crate has no code of its own. It re-exports the public items of the crates below it, under
+//! the paths of the Rust crate `coset`.
+//!
+//! To sign, build a [`CoseSign1`]: its builder's `create_signature` signs with a closure. Write the
+//! message with `to_vec` of [`CborSerializable`], or with `to_tagged_vec` of
+//! [`TaggedCborSerializable`].
+//!
+//! To verify, read the message with `from_slice`, with `from_tagged_slice`, or with
+//! `from_any_slice`, which accepts both forms. Then call `verify_signature` with a closure. The
+//! closure receives the signature and the signed bytes. These contain the protected header as it
+//! was received.
+//!
+//! A [`CoseCountersignature`] in a header is another party's signature over the message.
+//! [`verify_countersignature`] verifies it.
+//!
+//! `create_tag` makes a message with a MAC ([`CoseMac0`]), and `verify_tag` verifies it.
+//! `create_ciphertext` makes an encrypted message ([`CoseEncrypt0`]), and `decrypt` reads it.
+//! [`CoseMac`] and [`CoseEncrypt`] also have recipients ([`CoseRecipient`]).
+//!
+//! Keys are [`CoseKey`] and [`CoseKeySet`], and the context of a key derivation is a
+//! [`CoseKdfContext`]. CBOR by itself is in [`cbor`], the numbers that IANA registers are in
+//! [`iana`], and the claims of web tokens are in [`cwt`].
 #![tactic(auto)]
 
 pub mod cbor;

@@ -1,4 +1,4 @@
--- What is an encoding of a value is read as that value.
+-- An encoding of a value is read as that value.
 use Rattle.std.proofs.Common.{◌≡◌, ℕ, zero, suc, ◌+◌, ◌*◌, ◌/◌, ◌%◌, ◌^◌, ◌<◌, ◌≤◌, Bool, true, false, ltb, eqb, List, [], ◌∷◌, ◌++◌, length, Some, None}
 use Rattle.std.proofs.Common.{Result, Ok, refl, sym, ap, subst, ◌∙◌, append_assoc, arith, inl, inr}
 use Rattle.std.specs.Prelude.{pos, negsuc}
@@ -67,7 +67,7 @@ first_mod m k lt = omega arith
 abbrev pub head_of : ℕ → Argument → HeadView
 head_of m a = record { major_type = major_type_of m; argument = a }
 
--- the first byte of type m with low bits k
+-- Reads an initial byte of major type m with low bits k.
 first_again : (m k : ℕ) (s : List ℕ) → k < 32 → head_at ((32 * m + k) ∷ s) ≡ (argument_by k (suc (length s)) s >>= λ a. Ok (head_of m a.0, a.1))
 unfolding head_at
 first_again m k s lt = rw (first_div m k lt, first_mod m k lt) refl
@@ -81,7 +81,7 @@ head_again two m n rest h = first_again m 25 (to_be_bytes w16 n ++ rest) (omega 
 head_again four m n rest h = first_again m 26 (to_be_bytes w32 n ++ rest) (omega arith) ∙ rw (argument_again places.Four w32 (2 ^ 32) wide32 n rest h) refl
 head_again eight m n rest h = first_again m 27 (to_be_bytes w64 n ++ rest) (omega arith) ∙ rw (argument_again places.Eight w64 (2 ^ 64) wide64 n rest h) refl
 
--- what reading a head gives
+-- Reading the head of b gives the argument n and leaves rest.
 pub record HeadAgain (m n : ℕ) (b rest : List ℕ) : Type 0 where
   pub argument : Argument
   pub reads : head_at b ≡ Ok (head_of m argument, rest)
@@ -103,11 +103,11 @@ IsHeaded-again m n s b rest is =
       number = r.number;
     }
 
--- the opening without a length
+-- Reads the initial byte of an indefinite length.
 pub opening_again : (m : ℕ) (s : List ℕ) → head_at ((32 * m + 31) ∷ s) ≡ Ok (head_of m places.Indefinite, s)
 opening_again m s = first_again m 31 s (omega arith)
 
--- ---- what begins no break, and takes a byte
+-- ---- bytes that are not empty and do not begin with the break
 
 pub record Begins (b : List ℕ) : Type 0 where
   pub first : ℕ
@@ -189,9 +189,9 @@ chunk_again is_text s c rest h =
     let r = IsHeaded-again (string_type is_text) (length s) s c rest h.1 in
     rw (r.reads, begins_chunk-type is_text, r.number, string_again is_text (length (c ++ rest)) s rest h.0) refl
 
--- ---- one after the other
+-- ---- repetition
 
--- a reader of encodings
+-- `read` reads each encoding by R as its value.
 pub record ReadsAgain {A : Type 0} (R : A → List ℕ → Type 0) (read : Parse A) : Type 0 where
   pub again : (x : A) (c rest : List ℕ) → R x c → read (c ++ rest) ≡ Ok (x, rest)
   pub begins : (x : A) (c : List ℕ) → R x c → Begins c
@@ -219,7 +219,7 @@ until_again R read reads (suc turns) (x ∷ xs) b rest h lt =
     ap (until_at read (suc turns)) (regroup h.0 h.1 b (255 ∷ rest) h.4)
     ∙ rw (goes, reads.again x h.0 (h.1 ++ 255 ∷ rest) h.2, until_again R read reads turns xs h.1 rest h.3 (omega arith)) refl
 
--- each takes at least a byte
+-- Each element takes at least one byte.
 pub EachInOrder-long : {A : Type 0} (R : A → List ℕ → Type 0) (begins : (x : A) (c : List ℕ) → R x c → Begins c) (xs : List A) (b : List ℕ) → EachInOrder R xs b
     → length xs ≤ length b
 EachInOrder-long R begins [] b h = omega arith
@@ -230,7 +230,7 @@ EachInOrder-long R begins (x ∷ xs) b h =
     let others = EachInOrder-long R begins xs h.1 h.3 in
     omega arith
 
--- ---- what nests
+-- ---- enclosed items
 
 abbrev pub list_of : Items → List Item
 list_of no_items = []
@@ -256,7 +256,7 @@ pub length-pair_list_of : (ps : Pairs) → length (pair_list_of ps) ≡ pairs_co
 length-pair_list_of no_pairs = refl
 length-pair_list_of (pair k v ps) = ap suc (length-pair_list_of ps)
 
--- encodings of values less than d deep
+-- An encoding of a value less than d deep.
 abbrev pub IsEncodingBelow : ℕ → Item → List ℕ → Type 0
 IsEncodingBelow d v b = IsEncoding v b × (depth v < d)
 
@@ -287,7 +287,7 @@ pair_reads d read reads = record {
   begins = λ p c h. begins_append h.0 h.1 c h.4 (IsEncoding-begins p.0 h.0 h.2.0);
 }
 
--- what is read inside
+-- The readers `inside` read encodings of values less than d deep as these values.
 pub record InsideAgain (d : ℕ) (inside : Inside) : Type 0 where
   pub one : (v : Item) (c rest : List ℕ) → IsEncoding v c → depth v < d → inside.one (c ++ rest) ≡ Ok (v, rest)
   pub items : (vs : Items) (c rest : List ℕ) → AreEncodings vs c → items_depth vs < d → inside.items (Some (items_count vs)) (c ++ rest) ≡ Ok (list_of vs, rest)
@@ -345,7 +345,7 @@ things_again d read reads =
         let others = pairs_long d ps h.1 h.3 in
         omega arith
 
--- what reading a string gives
+-- Reading a string gives its content s and leaves rest.
 pub record StringAgain (is_text : Bool) (left : ℕ) (s b rest : List ℕ) : Type 0 where
   argument : Argument
   more : List ℕ
@@ -409,7 +409,7 @@ from_again d inside inner (dict ps) b rest (c, h, inr e) le =
     ap (item_from inside) (broken_is 5 c b rest e) ∙ rw
     (opening_again 5 (c ++ 255 ∷ rest), inner.pairs_until ps c rest h (omega arith), pairs_of-pair_list_of ps) refl
 
--- An encoding of a value that is at most d deep is read as that value, whatever follows.
+-- An encoding of a value at most d deep is read as that value, whatever follows.
 pub item_again : (d : ℕ) (v : Item) (b rest : List ℕ) → IsEncoding v b → depth v ≤ d → item_at d (b ++ rest) ≡ Ok (v, rest)
 unfolding item_at
 item_again zero v b rest h le = from_again 0 nothing nothing_again v b rest h le
@@ -423,11 +423,11 @@ item_again (suc d) v b rest h le = from_again (suc d) (things (item_at d))
 abbrev done : Item × List ℕ → Result (Item × List ℕ) Fault
 done x = Ok x
 
--- `cc` does not look into pairs
+-- Needed because `cc` does not look into pairs.
 pub ok_is : (x y : Item × List ℕ) → done x ≡ done y → x ≡ y
 ok_is x y e = cc
 
--- No encoding of a value begins another.
+-- No encoding is a proper prefix of another.
 pub encodings_differ : (v w : Item) (b c x y : List ℕ) → IsEncoding v b → IsEncoding w c → b ++ x ≡ c ++ y → (v ≡ w) × (b ≡ c)
 encodings_differ v w b c x y h k e =
     let d = depth v + depth w in

@@ -1,4 +1,4 @@
--- Bytes that are tested for ASCII several at a time.
+-- Testing bytes for ASCII, several at a time.
 use Rattle.std.proofs.Common.{◌≡◌, ℕ, zero, suc, ◌<◌, List, length, take, drop, get_or, subst, arith, bit_or}
 use Rattle.std.proofs.lemmas.Nat.{le_or_l, le_or_r}
 use Rattle.std.proofs.lemmas.List.{get_or_past, take-append-drop}
@@ -55,7 +55,7 @@ four_ascii s len lt i = at i (four_below (get_or s 0 0) (get_or s 1 0) (get_or s
     at (suc (suc (suc zero))) p = p.3
     at (suc (suc (suc (suc i)))) p = let none = get_or_past s (suc (suc (suc (suc i)))) 0 (omega arith) in omega arith
 
--- a step of several
+-- One step of the test, over k bytes.
 pub ascii_on : (k : ℕ) (b rest front after : List ℕ) → front ≡ take k rest → after ≡ drop k rest → IsAscii front → (IsAscii rest → IsAscii b) → IsAscii after
     → IsAscii b
 ascii_on k b rest front after e d first goes more =

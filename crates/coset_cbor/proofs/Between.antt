@@ -1,4 +1,4 @@
--- The bytes behind the head of an array or a map are its elements, and the first of them is at the front.
+-- The bytes after the head of an array or a map are its elements, and the first element is at their start.
 use Rattle.std.proofs.Common.{◌≡◌, ℕ, zero, suc, ◌<◌, true, false, eqb, ltb, List, [], ◌∷◌, ◌++◌, length, Some, None, Ok, refl, sym, ap, subst, ◌∙◌, arith, inl}
 use Rattle.std.proofs.Common.{inr, ◌⊎◌}
 use Rattle.std.specs.Prelude.{◌≢◌, pos, negsuc, unwrap_or}
@@ -67,7 +67,7 @@ major_type_by inside left a major_types.Tag s x e =
     major_type_made (tag n.0 r.0.0, r.0.1) x r.2
 major_type_by inside left a major_types.Simple s x e = simple_major_type left a s x e
 
--- what is read begins with a head of its kind
+-- b begins with a head of v's major type.
 record HasHead (b : List ℕ) (v : Item) : Type 0 where
   head : HeadView × List ℕ
   reads : head_at b ≡ Ok head
@@ -115,9 +115,9 @@ is_map (tag t v) = inr (refl, λ e. cc)
 is_map (array vs) = inr (refl, λ e. cc)
 is_map (dict ps) = inl (ps, refl)
 
--- ---- bytes behind a head
+-- ---- bytes after a head
 
--- what follows a head: all the elements, or the elements and the break
+-- The bytes after a head are all the elements, or the elements and the break.
 held_parts : (m n : ℕ) (c b : List ℕ) (h : HeadView × List ℕ) → IsHeld m n c b → head_at b ≡ Ok h → ((number_of h.0.argument ≡ Some n) × (h.1 ≡ c))
     ⊎ ((number_of h.0.argument ≡ None) × (h.1 ≡ c ++ 255 ∷ []))
 held_parts m n c b h (inl is) e =
@@ -149,7 +149,7 @@ fits_around x s lt fits = fits_append (x ∷ []) (s ++ 255 ∷ []) (fits_one x l
 fits_inside : (x : ℕ) (s : List ℕ) → IsBytes (x ∷ (s ++ 255 ∷ [])) → IsBytes s
 fits_inside x s fits = fits_front s (255 ∷ []) (IsBytes-rest x (s ++ 255 ∷ []) fits)
 
--- what follows the head is what it holds
+-- The content after the head is the content c.
 content_held : (m n : ℕ) (k : MajorType) (c b s : List ℕ) → IsBytes b → IsHeld m n c b → IsContent k b s → (s ≡ c) × IsBytes c
 content_held m n k c b s fits is content =
     let h = content.head in
@@ -161,7 +161,7 @@ content_held m n k c b s fits is content =
 
 -- ---- arrays
 
--- bytes that are items, one after the other
+-- b encodes items, one after the other.
 record AreItems (b : List ℕ) : Type 0 where
   items : Items
   encodings : AreEncodings items b
@@ -201,7 +201,7 @@ are_items b one = elim (is_array (item_of (array_around b))) [
   | inr a ↦ absurd (a.1 (one_item_major_type (array_around b) (head_of 4 places.Indefinite, b ++ 255 ∷ []) one (opening_again 4 (b ++ 255 ∷ []))))
 ]
 
--- the elements of an array that is one item follow its head
+-- b is an array that is one item, and s is the bytes of its elements.
 pub record HoldsItems (b s : List ℕ) : Type 0 where
   pub one : is_one_item (array_around s) ≡ true
   pub view : Some (items_in s) ≡ as_array (item_of b)
@@ -230,7 +230,7 @@ no_array b one other = elim (is_array (item_of b)) [
   | inr a ↦ sym a.0
 ]
 
--- an item is some bytes
+-- An encoding is not empty.
 no_empty : (v : Item) (f rest : List ℕ) → [] ≡ f ++ rest → IsEncoding v f → ⊥
 no_empty v f rest e is =
     let g = IsEncoding-begins v f is in
@@ -241,7 +241,7 @@ pub no_item_in_none : (s : List ℕ) → length s ≡ 0 → (v : Item) (f rest :
 no_item_in_none [] none v f rest e is = no_empty v f rest e is.0
 no_item_in_none (x ∷ s) none v f rest e is = omega arith
 
--- the first item, and the others
+-- The first item left, and the other items.
 pub record FirstItem (b rest : List ℕ) (v : Item) : Type 0 where
   pub others : is_one_item (array_around rest) ≡ true
   pub view : items_in b ≡ item v (items_in rest)
@@ -263,13 +263,13 @@ none_of : (b : List ℕ) (vs : Items) → AreEncodings vs b → items_depth vs <
 none_of b no_items encodings low none = refl
 none_of b (item w ws) encodings low none = absurd (none w encodings.0 encodings.1 encodings.4 (encodings.2, omega arith))
 
--- where no item is at the front, none is left
+-- If no item is at the start, no item is left.
 pub no_first_item : (b : List ℕ) → is_one_item (array_around b) ≡ true → ((v : Item) (f rest : List ℕ) → b ≡ f ++ rest → IsItem f v → ⊥) → items_in b ≡ no_items
 no_first_item b one none = let a = are_items b one in a.view ∙ none_of b a.items a.encodings a.low none
 
 -- ---- maps
 
--- bytes that are pairs, one after the other
+-- b encodes pairs, one after the other.
 record ArePairs (b : List ℕ) : Type 0 where
   pairs : Pairs
   encodings : ArePairEncodings pairs b
@@ -309,7 +309,7 @@ are_pairs b one = elim (is_map (item_of (map_around b))) [
   | inr a ↦ absurd (a.1 (one_item_major_type (map_around b) (head_of 5 places.Indefinite, b ++ 255 ∷ []) one (opening_again 5 (b ++ 255 ∷ []))))
 ]
 
--- the pairs of a map that is one item follow its head
+-- b is a map that is one item, and s is the bytes of its pairs.
 pub record HoldsPairs (b s : List ℕ) : Type 0 where
   pub one : is_one_item (map_around s) ≡ true
   pub view : Some (pairs_in s) ≡ as_map (item_of b)
@@ -337,7 +337,7 @@ no_map b one other = elim (is_map (item_of b)) [
   | inr a ↦ sym a.0
 ]
 
--- the first pair, and the others
+-- The first pair left, and the other pairs.
 pub record FirstPair (b rest : List ℕ) (k v : Item) : Type 0 where
   pub others : is_one_item (map_around rest) ≡ true
   pub view : pairs_in b ≡ pair k v (pairs_in rest)
@@ -367,7 +367,7 @@ none_key : (b : List ℕ) (ps : Pairs) → ArePairEncodings ps b → pairs_depth
 none_key b no_pairs encodings low none = refl
 none_key b (pair x y ps) (c, i, j, key, value, more, parts) low none = absurd (none x c (i ++ j) parts (key, omega arith))
 
--- where no key is at the front, no pair is left
+-- If no key is at the start, no pair is left.
 pub no_first_key : (b : List ℕ) → is_one_item (map_around b) ≡ true → ((v : Item) (f rest : List ℕ) → b ≡ f ++ rest → IsItem f v → ⊥) → pairs_in b ≡ no_pairs
 no_first_key b one none = let a = are_pairs b one in a.view ∙ none_key b a.pairs a.encodings a.low none
 
@@ -379,12 +379,12 @@ value_of b f mid k (pair x y ps) (c, i, j, key, value, more, parts) low e is non
     let after : i ++ j ≡ mid = append_cancel_left f (i ++ j) mid (ap (λ (s : List ℕ). s ++ (i ++ j)) first.1 ∙ sym parts ∙ e) in
     none y i j (sym after) (value, omega arith)
 
--- a value follows each key
+-- A value follows each key.
 pub has_value : (b f mid : List ℕ) (k : Item) → is_one_item (map_around b) ≡ true → b ≡ f ++ mid → IsItem f k
     → ((v : Item) (g rest : List ℕ) → mid ≡ g ++ rest → IsItem g v → ⊥) → ⊥
 has_value b f mid k one e is none = let a = are_pairs b one in value_of b f mid k a.pairs a.encodings a.low e is none
 
--- ---- bytes are encodings of these elements alone
+-- ---- bytes encode these elements and no others
 
 only_items : (vs ws : Items) (b : List ℕ) → AreEncodings vs b → AreEncodings ws b → vs ≡ ws
 only_items no_items no_items b h k = refl
@@ -420,7 +420,7 @@ pairs_alone b one =
     let here = subst (λ (ps : Pairs). ArePairEncodings ps b) (sym a.view) a.encodings in
     (here, λ ps h. only_pairs ps (pairs_in b) b h here)
 
--- ---- bytes that are left begin with an item
+-- ---- bytes left begin with an item
 
 items_begin : (b : List ℕ) (vs : Items) → AreEncodings vs b → items_depth vs < 256 → 0 < length b → BeginsItem b
 items_begin b no_items encodings low some = let none = ap length encodings in absurd (omega arith)

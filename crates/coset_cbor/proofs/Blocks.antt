@@ -1,4 +1,4 @@
--- Where there is a fault, nothing is read.
+-- If a fault is in bytes, nothing is read from them.
 use Rattle.std.proofs.Common.{◌≡◌, ℕ, zero, suc, ◌+◌, ◌*◌, ◌/◌, ◌%◌, ◌^◌, ◌<◌, ◌≤◌, Bool, true, false, ltb, List, [], ◌∷◌, ◌++◌, length, Option, Result, Ok}
 use Rattle.std.proofs.Common.{refl, sym, ap, subst, ◌∙◌, append_assoc, add-zero, add-one, arith, inl, inr, ◌⊎◌}
 use Rattle.std.specs.Prelude.{not, pos, negsuc}
@@ -19,7 +19,7 @@ use Rattle.coset_cbor.proofs.Again.{Begins, begins_append, IsHead-begins, IsEnco
 use Rattle.coset_cbor.proofs.Again.{no_break, regroup, encodings_differ, item_again}
 use Rattle.coset_cbor.proofs.Takes.{IsBytes, bind_ok, ok_is, guard_ok, some_ok, chosen, item_takes}
 
--- nothing is read
+-- No item is read from s.
 abbrev pub NoRead : ℕ → List ℕ → Type 0
 NoRead d s = (x : Item × List ℕ) → item_at d s ≡ Ok x → ⊥
 
@@ -27,14 +27,14 @@ pub IsBytes-append : (c t : List ℕ) → IsBytes (c ++ t) → IsBytes t
 IsBytes-append [] t h = h
 IsBytes-append (x ∷ c) t h = IsBytes-append c t (λ i. h (suc i))
 
--- an encoding at the front is read as its item, where anything is read
+-- If an item is read from bytes that begin with an encoding, the reader consumes exactly that encoding.
 encoding_read : (d : ℕ) (v : Item) (c rest : List ℕ) (x : Item × List ℕ) → IsBytes (c ++ rest) → IsEncoding v c → item_at d (c ++ rest) ≡ Ok x → x.1 ≡ rest
 encoding_read d v c rest x fits h e =
     let t = item_takes d (c ++ rest) x fits e in
     let same = encodings_differ v x.0 c t.front rest x.1 h t.encoding.0 t.parts in
     sym (append_cancel_left c rest x.1 (t.parts ∙ ap (λ (y : List ℕ). y ++ x.1) (sym same.1)))
 
--- ---- one after the other
+-- ---- repetition
 
 until_blocked : (d turns : ℕ) (vs : Items) (c t : List ℕ) (x : List Item × List ℕ) → IsBytes (c ++ t) → AreEncodings vs c → NoRead d t → begins_break t ≡ false
     → until_at (item_at d) turns (c ++ t) ≡ Ok x → ⊥
@@ -78,7 +78,7 @@ times_blocked d (suc n) (item v vs) c t x fits h lt never e =
     let rest = encoding_read d v h.0 (h.1 ++ t) r.0 fits' h.2 r.1 in
     times_blocked d n vs h.1 t q.0 (IsBytes-append h.0 (h.1 ++ t) fits') h.3 (omega arith) never (ap (times_at (item_at d) n) (sym rest) ∙ q.1)
 
--- a pair that can't be read: no key, or a key and then no value
+-- A pair that cannot be read: the key is missing, or the value after the key.
 no_key : (d : ℕ) (t : List ℕ) (x : (Item × Item) × List ℕ) → NoRead d t → pair_at (item_at d) t ≡ Ok x → ⊥
 no_key d t x never e = let r = bind_ok (item_at d t) (λ k. item_at d k.1 >>= λ v. Ok ((k.0, v.0), v.1)) x e in never r.0 r.1
 
@@ -156,9 +156,9 @@ pairs_until_blocked d (suc turns) (item v (item w vs)) c t x fits h never goes e
           (λ even. goes (ap (λ (b : Bool). not (not b)) even)) (ap (until_at (pair_at (item_at d)) turns) (sym rest) ∙ q.1)
     ]
 
--- ---- what opens
+-- ---- openings of arrays, maps and tags
 
--- what follows an opening and can't be there
+-- No item is read from t, and t does not begin with a break that may be there.
 abbrev pub IsBlocked : Bool → ℕ → List ℕ → Type 0
 IsBlocked e d t = NoRead d t × (e ≡ true → begins_break t ≡ false)
 
@@ -206,7 +206,7 @@ opens_blocked o e (in_open_map vs c encodings) d t fits never x is =
     let w = bind_ok (until_at (pair_at (item_at d)) (length (c ++ t)) (c ++ t)) (λ y. Ok (dict (pairs_of y.0), y.1)) x whole in
     pairs_until_blocked d (length (c ++ t)) vs c t w.0 (λ i. fits (suc i)) encodings never.0 never.1 w.1
 
--- ---- inside what is open
+-- ---- inside open arrays, maps and tags
 
 begins_no_break : (c t : List ℕ) → Begins c → begins_break (c ++ t) ≡ false
 begins_no_break c t g = no_break c t g
@@ -223,7 +223,7 @@ Due-begins c k e at_start lt = absurd (omega arith)
 Due-begins c k e (innermost o f p) lt = Opens-begins o f p
 Due-begins c k e (outer o q j f g p r) lt = begins_append o q (o ++ q) refl (Opens-begins o g p)
 
--- where nothing is read of what is due, nothing is read of the whole
+-- If nothing is read where an item is due, nothing is read from the whole.
 pub due_blocked : (c : List ℕ) (k : ℕ) (e : Bool) → Due c k e → (d : ℕ) (t : List ℕ) → IsBytes (c ++ t) → IsBlocked e d t → NoRead (d + k) (c ++ t)
 due_blocked c k e at_start d t fits h = subst (λ (n : ℕ). NoRead n t) (sym (add-zero d)) h.0
 due_blocked c k e (innermost o f p) d t fits h = subst (λ (n : ℕ). NoRead n (o ++ t)) (sym (add-one d)) (opens_blocked o f p d t fits h)
@@ -236,7 +236,7 @@ due_blocked c k e (outer o q j f g p r) d t fits h =
     let depth_is : suc (d + suc j) ≡ d + suc (suc j) = omega arith in
     subst (λ (n : ℕ). NoRead n ((o ++ q) ++ t)) depth_is (subst (λ (s : List ℕ). NoRead (suc (d + suc j)) s) (sym parts) whole)
 
--- what isn't read at a depth isn't at a smaller one
+-- If nothing is read at a depth, nothing is read at a smaller depth.
 pub no_read_below : (d k : ℕ) (s : List ℕ) → IsBytes s → NoRead (d + k) s → NoRead d s
 no_read_below d k s fits never x e =
     let t = item_takes d s x fits e in
@@ -245,7 +245,7 @@ no_read_below d k s fits never x e =
 
 -- ---- the first byte of an encoding
 
--- the first byte of an item, and how many follow it at least
+-- The initial byte of an item, and the least number of bytes after it.
 pub record IsFirst (v : Item) (x : ℕ) (more : List ℕ) : Type 0 where
   pub major_type : ((x / 32 ≤ 6) × (x % 32 ≤ 27)) ⊎ (((2 ≤ x / 32) × (x / 32 ≤ 5) × (x % 32 ≡ 31)) ⊎ (((244 ≤ x) × (x ≤ 246)) ⊎ ((249 ≤ x) × (x ≤ 251))))
   pub argument : (j : ℕ) → j < 4 → x % 32 ≡ 24 + j → 2 ^ j ≤ length more
@@ -257,7 +257,7 @@ record Starts (v : Item) (b : List ℕ) : Type 0 where
   parts : b ≡ first ∷ more
   is_first : IsFirst v first more
 
--- a head's first byte
+-- The initial byte of a head.
 pub record HeadStarts (m : ℕ) (h : List ℕ) : Type 0 where
   pub info : ℕ
   pub more : List ℕ
@@ -317,7 +317,7 @@ headed_starts m n s b is =
       argument = λ j lt e. let long = h.argument j lt e in omega (arith, length-append h.more s);
     }
 
--- an item that begins with a head of type m
+-- An item that begins with a head of major type m.
 from_head : (v : Item) (m : ℕ) (b : List ℕ) → m ≤ 6 → HeadStarts m b → (4 ≤ m → 0 < depth v) → Starts v b
 from_head v m b le h deep =
     let low = h.low in
@@ -334,7 +334,7 @@ from_head v m b le h deep =
       };
     }
 
--- an item between an opening and a break
+-- An item of indefinite length.
 from_opening : (v : Item) (m : ℕ) (s b : List ℕ) → 2 ≤ m → m ≤ 5 → b ≡ (32 * m + 31) ∷ (s ++ 255 ∷ []) → (4 ≤ m → 0 < depth v) → Starts v b
 from_opening v m s b ge le e deep =
     let quotient : (32 * m + 31) / 32 ≡ m = omega arith in
@@ -424,7 +424,7 @@ encoding_starts (array vs) b (c, h, inr e) = from_opening (array vs) 4 c b (omeg
 encoding_starts (dict ps) b (c, h, inl e) = from_head (dict ps) 5 b (omega arith) (headed_starts 5 (pairs_count ps) c b e) (λ ge. omega arith)
 encoding_starts (dict ps) b (c, h, inr e) = from_opening (dict ps) 5 c b (omega arith) (omega arith) e (λ ge. omega arith)
 
--- what is read begins so
+-- If an item is read from t, t begins with an initial byte of that item.
 pub read_starts : (d : ℕ) (t : List ℕ) (y : Item × List ℕ) → IsBytes t → item_at d t ≡ Ok y → (x : ℕ) × (more : List ℕ) × (t ≡ x ∷ more) × IsFirst y.0 x more
     × (depth y.0 ≤ d)
 read_starts d t y fits e =

@@ -1,4 +1,4 @@
--- Chunks of a string, one after the other.
+-- The chunks of a string, one after the other.
 use Rattle.std.proofs.Common.{◌≡◌, ℕ, zero, suc, ◌+◌, ◌*◌, ◌≤◌, Bool, true, false, List, [], ◌∷◌, ◌++◌, length, take, Some, None, Result, Ok, Err, refl, sym}
 use Rattle.std.proofs.Common.{ap, ap₂, subst, ◌∙◌, append_assoc, eqb, ltb, arith, inl, inr}
 use Rattle.std.proofs.lemmas.List.{append-nil, append_cancel_right, length-append, take_at}
@@ -23,7 +23,7 @@ use Rattle.coset_cbor.proofs.Takes.{chunk_type, chunk_takes, until_take}
 use Rattle.coset_cbor.proofs.Heads.{one_item_by}
 use Rattle.coset_cbor.proofs.Whole.{both, are_bytes_is, are_bytes_from, one_item_bytes}
 
--- ---- what the test says
+-- ---- the meaning of the test `are_chunks`
 
 all_read : (r : Result (List (List ℕ) × List ℕ) Fault) → is_all_read r ≡ true → r ≡ done (contents_or_none r, [])
 all_read (Ok (ss, [])) e = refl
@@ -39,7 +39,7 @@ break_fits : IsBytes (255 ∷ [])
 break_fits zero = omega arith
 break_fits (suc i) = omega arith
 
--- bytes that are chunks, with these contents
+-- b consists of chunks with these contents.
 pub record Chunked (is_text : Bool) (b : List ℕ) : Type 0 where
   pub fits : IsBytes b
   pub each : EachInOrder (IsDefinite is_text) (chunk_contents is_text b) b
@@ -68,7 +68,7 @@ pub chunks_from : (is_text : Bool) (ss : List (List ℕ)) (b : List ℕ) → IsB
 unfolding are_chunks
 chunks_from is_text ss b fits h = rw (are_bytes_from b fits) (ap is_all_read (read_chunks is_text ss b h))
 
--- each takes at least a byte
+-- Each chunk takes at least one byte.
 chunks_long : (is_text : Bool) (ss : List (List ℕ)) (b : List ℕ) → EachInOrder (IsDefinite is_text) ss b → length (chunk_contents is_text b) ≤ length b
 chunks_long is_text ss b h =
     let long = EachInOrder-long (IsDefinite is_text) (chunk_reads is_text).begins ss b h in
@@ -97,7 +97,7 @@ pub record NextChunk (is_text : Bool) (b s rest : List ℕ) : Type 0 where
   pub contents : chunk_contents is_text b ≡ s ∷ chunk_contents is_text rest
   pub headed : IsHeaded (string_type is_text) (length s) (s ++ rest) b
 
--- the chunk behind its head, and the bytes that follow it
+-- A chunk after its head, and the bytes that follow.
 headed_on : (m n : ℕ) (x s c d b : List ℕ) → b ≡ c ++ d → x ≡ s → IsHeaded m n x c → IsHeaded m n (s ++ d) b
 headed_on m n x s c d b parts same h = record {
   head = h.head;
@@ -133,17 +133,17 @@ end_of : (is_text : Bool) (ss : List (List ℕ)) (b : List ℕ) (f : Fault) → 
 end_of is_text [] b f h e = refl
 end_of is_text (x ∷ xs) b f h e = absurd (apart (x, h.1) f (sym (first_read is_text x xs b h) ∙ e))
 
--- it is read unless nothing is left
+-- If no chunk is read, no chunk is left.
 pub no_chunk : (is_text : Bool) (b : List ℕ) (f : Fault) → are_chunks is_text b ≡ true → chunk_at is_text b ≡ Err f → chunk_contents is_text b ≡ []
 no_chunk is_text b f are e = end_of is_text (chunk_contents is_text b) b f (chunks_are is_text b are).each e
 
--- bytes are these chunks alone
+-- The bytes are these chunks and no others.
 pub chunks_alone : (is_text : Bool) (b : List ℕ) → are_chunks is_text b ≡ true
     → EachInOrder (IsDefinite is_text) (chunk_contents is_text b) b
     × ((ss : List (List ℕ)) → EachInOrder (IsDefinite is_text) ss b → ss ≡ chunk_contents is_text b)
 chunks_alone is_text b are = ((chunks_are is_text b are).each, λ ss h. sym (contents_are is_text ss b h))
 
--- ---- the item that follows a head
+-- ---- the item after a head
 
 abbrev unread : Fault → Result (Item × List ℕ) Fault
 unread f = Err f
@@ -223,7 +223,7 @@ simple_read is_text left (places.Four n) s v rest e = other_is is_text (float (s
 simple_read is_text left (places.Eight n) s v rest e = other_is is_text (float (double n)) v s rest (not_string is_text (float (double n)) refl refl) e
 simple_read is_text left places.Indefinite s v rest e = absurd (item_apart (v, rest) (Syntax left) (sym e))
 
--- behind a head of another kind is no string of this one
+-- A head of another major type begins no string of this type.
 pub other_read : (is_text : Bool) (inside : Inside) (left : ℕ) (a : Argument) (k : MajorType) (s : List ℕ) (v : Item) (rest : List ℕ)
     → begins_chunk is_text k ≡ false → item_by inside left a k s ≡ Ok (v, rest) → as_string is_text v ≡ None
 other_read is_text inside left a major_types.Unsigned s v rest is e =
@@ -259,7 +259,7 @@ no_string is_text b h is e major_type = other_read is_text (things (item_at 255)
 
 -- ---- the chunks of a string
 
--- a string behind its length is its only chunk
+-- A definite-length string is its own only chunk.
 pub whole_chunk : (is_text : Bool) (b : List ℕ) (h : HeadView × List ℕ) (n : ℕ) → is_one_item b ≡ true → head_at b ≡ Ok h
     → begins_chunk is_text h.0.major_type ≡ true → number_of h.0.argument ≡ Some n → AreChunksOf is_text b b
 unfolding chunk_at
@@ -281,7 +281,7 @@ whole_chunk is_text b h n is e major_type number =
       whole = r.is ∙ ap Some (sym (append-nil r.content) ∙ ap joined_chunks (sym contents));
     }
 
--- without the last one
+-- Equal lists are equal without their last elements.
 fronts_same : (s c : List ℕ) (x y : ℕ) → s ++ x ∷ [] ≡ c ++ y ∷ [] → s ≡ c
 fronts_same s c x y e =
     let len : length c ≡ length s = omega (arith, ap length e, length-append s (x ∷ []), length-append c (y ∷ [])) in
@@ -290,7 +290,7 @@ fronts_same s c x y e =
 IsBytes-front : (s : List ℕ) (x : ℕ) → IsBytes (s ++ x ∷ []) → IsBytes s
 IsBytes-front s x fits = subst (λ (c : List ℕ). IsBytes c) (take_at s (x ∷ []) (length s) refl) (IsBytes-take (length s) (s ++ x ∷ []) fits)
 
--- what is between an opening without a length and the break
+-- b is an indefinite-length string, and s is the bytes after its initial byte: the chunks and the break.
 record Between (is_text : Bool) (b s : List ℕ) : Type 0 where
   contents : List (List ℕ)
   chunks : List ℕ
@@ -344,7 +344,7 @@ broken_chunks is_text b h s last is e major_type number parts =
       whole = t.whole ∙ ap Some (ap joined_chunks (sym contents));
     }
 
--- a break follows
+-- A break follows the chunks.
 pub has_break : (is_text : Bool) (b : List ℕ) (h : HeadView × List ℕ) → is_one_item b ≡ true → head_at b ≡ Ok h → begins_chunk is_text h.0.major_type ≡ true
     → number_of h.0.argument ≡ None → length h.1 ≡ 0 → ⊥
 has_break is_text b h is e major_type number none =

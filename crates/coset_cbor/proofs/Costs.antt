@@ -1,4 +1,4 @@
--- A check of an encoding takes the steps that it costs.
+-- A check of an encoding takes as many steps as the encoding costs.
 use Rattle.std.proofs.Common.{◌≡◌, ℕ, zero, suc, ◌+◌, ◌*◌, ◌/◌, ◌<◌, ◌≤◌, Bool, true, false, ltb, List, [], ◌∷◌, ◌++◌, replicate, length, Some, None, Ok, refl}
 use Rattle.std.proofs.Common.{sym, ap, subst, ◌∙◌, append_assoc, arith, inl, inr}
 use Rattle.std.specs.Prelude.{pos, negsuc}
@@ -20,7 +20,7 @@ use Rattle.coset_cbor.proofs.Again.{Begins, no_break, regroup, IsEncoding-begins
 use Rattle.coset_cbor.proofs.Again.{length-pair_list_of, IsEncodingBelow, IsPairEncodingBelow, encodings_differ, pair_reads, things_again, item_again}
 use Rattle.coset_cbor.proofs.Takes.{guard_ok}
 
--- ---- every encoding has a cost, and what has a cost is an encoding
+-- ---- every encoding has a cost, and bytes with a cost are an encoding
 
 string_has_cost : (is_text : Bool) (s b : List ℕ) → IsStringEncoding is_text s b → (k : ℕ) × IsStringCost is_text s b k
 string_has_cost is_text s b (inl h) = (suc (content_cost is_text s), inl (h, refl))
@@ -101,9 +101,9 @@ chunk_exact is_text s c rest h =
           (string_again is_text (length (c ++ rest)) s rest h.0),
     ) refl
 
--- ---- one after the other
+-- ---- repetition
 
--- R x c k: c is an encoding of x that takes k steps
+-- R x c k says: c is an encoding of x and takes k steps.
 abbrev pub EachCost : {A : Type 0} → (A → List ℕ → ℕ → Type 0) → List A → List ℕ → ℕ → Type 0
 EachCost R [] b k = (b ≡ []) × (k ≡ 0)
 EachCost R (x ∷ xs) b k = (c : List ℕ) × (d : List ℕ) × (i : ℕ) × (j : ℕ) × R x c i × EachCost R xs d j × (b ≡ c ++ d) × (k ≡ i + j)
@@ -163,7 +163,7 @@ chunks_each is_text (s ∷ ss) c h = (
   omega arith,
 )
 
--- what a check of a string takes
+-- A check of a string takes k steps.
 record StringExact (is_text : Bool) (left : ℕ) (k : ℕ) (b : List ℕ) : Type 0 where
   argument : Argument
   more : List ℕ
@@ -190,9 +190,9 @@ string_exact is_text left s b rest k (inr h) =
       steps = ap suc all ∙ let is = h.5 in omega arith;
     }
 
--- ---- what nests
+-- ---- enclosed items
 
--- items less than d deep
+-- An item less than d deep, with its cost.
 abbrev CostBelow : ℕ → Item → List ℕ → ℕ → Type 0
 CostBelow d v c k = IsCost v c k × (depth v < d)
 
@@ -317,7 +317,7 @@ from_exact d st inner (dict ps) b rest k (c, j, h, inl e) le =
 from_exact d st inner (dict ps) b rest k (c, j, h, inr e) le =
     ap (steps_from st) (broken_is 5 c b rest e.0) ∙ rw (opening_again 5 (c ++ 255 ∷ rest), inner.pairs_until ps c rest j h (omega arith)) (two_more j k e.1)
 
--- A check of an encoding of an item that is at most d deep takes the steps that it costs, whatever follows.
+-- A check of an encoding of an item at most d deep takes as many steps as the encoding costs, whatever follows.
 pub item_exact : (d : ℕ) (v : Item) (b rest : List ℕ) (k : ℕ) → IsCost v b k → depth v ≤ d → item_steps d (b ++ rest) ≡ k
 unfolding item_steps
 item_exact zero v b rest k h le = from_exact 0 no_steps nothing_exact v b rest k h le
@@ -327,7 +327,7 @@ item_exact (suc d) v b rest k h le = from_exact (suc d) (steps_of (item_at d) (i
 pub one_cost_lem : (v : Item) (b : List ℕ) (j k : ℕ) → IsCost v b j → IsCost v b k → j ≡ k
 one_cost_lem v b j k h i = sym (item_exact (depth v) v b [] j h (omega arith)) ∙ item_exact (depth v) v b [] k i (omega arith)
 
--- ---- arrays of one element inside one another
+-- ---- nested arrays of one element
 
 abbrev nest : ℕ → Item
 nest zero = array no_items

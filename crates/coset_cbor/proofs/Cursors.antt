@@ -1,4 +1,4 @@
--- Items at the front, and the elements of an array behind its head.
+-- Items at the start of the input, and the elements of an array or map after its head.
 use Rattle.std.proofs.Common.{◌≡◌, ◌≢◌, ℕ, zero, suc, ◌+◌, ◌<◌, ◌≤◌, true, false, ltb, List, [], ◌∷◌, ◌++◌, length, drop, ◌-◌, inl, inr, ◌⊎◌, Option, Some}
 use Rattle.std.proofs.Common.{None, Result, Ok, Err, option_map, refl, sym, ap, subst, ◌∙◌, arith}
 use Rattle.std.proofs.lemmas.List.{length-append}
@@ -31,7 +31,7 @@ one_of x = x.0
 abbrev rest_of : {A : Type 0} → A × List ℕ → List ℕ
 rest_of x = x.1
 
--- ---- an item at the front
+-- ---- an item at the start
 
 pub stands_read : (v : Item) (s a : List ℕ) → ItemAt v s a → item_at 256 s ≡ Ok (v, a)
 unfolding ItemAt
@@ -44,11 +44,11 @@ stands_item v f s a is e = (f, e, is)
 pub stands_same : (v w : Item) (s a b : List ℕ) → ItemAt v s a → ItemAt w s b → a ≡ b
 stands_same v w s a b e f = ap rest_of (ok_is (v, a) (w, b) (sym (stands_read v s a e) ∙ stands_read w s b f))
 
--- one item is at the front
+-- At most one item is at the start.
 pub stands_is : (v w : Item) (s a b : List ℕ) → ItemAt v s a → ItemAt w s b → v ≡ w
 stands_is v w s a b e f = ap one_of (ok_is (v, a) (w, b) (sym (stands_read v s a e) ∙ stands_read w s b f))
 
--- an item takes bytes
+-- An item takes at least one byte.
 pub stands_shorter : (v : Item) (s a : List ℕ) → ItemAt v s a → length a < length s
 unfolding ItemAt
 stands_shorter v s a (f, parts, is) =
@@ -140,7 +140,7 @@ within_by (Some n) s y fits e =
       indefinite = λ is. absurd (none_some n (sym is));
     }
 
--- the elements of the array begin behind its head
+-- The elements of the array begin after its head.
 pub record Entered (v : Item) (o : Option ℕ) (s a : List ℕ) : Type 0 where
   pub elements : Items
   pub is_array : as_array v ≡ Some elements
@@ -197,7 +197,7 @@ head_shorter s h fits e =
 abbrev Entry : Type 0
 Entry = Item × Item
 
--- a key, and then its value
+-- A key and then its value are at the start of s.
 record PairAt (s : List ℕ) (y : Entry × List ℕ) : Type 0 where
   pub mid : List ℕ
   pub key : item_at 255 s ≡ Ok (y.0.0, mid)
@@ -210,7 +210,7 @@ pair_parts s y e =
     let made : Entry × List ℕ = ((a.0.0, b.0.0), b.0.1) in
     subst (λ (z : Entry × List ℕ). PairAt s z) (ok_is made y b.2) (record { mid = a.0.1; key = a.1; value = b.1 })
 
--- what follows an item are bytes too
+-- The input after an item is bytes too.
 rest_fits : (s : List ℕ) (x : Item × List ℕ) → IsBytes s → item_at 255 s ≡ Ok x → IsBytes x.1
 rest_fits s x fits e = (item_takes 255 s x fits e).rest_fits
 
@@ -254,7 +254,7 @@ pairs_until (suc turns) s x fits e = elim (chosen (begins_break s) _ _ _ e) [
       (pair_stands s a.0 (keys_and_values (pairs_of b.0.0)) (255 ∷ b.0.1) fits p (pairs_until turns a.0.1 b.0 (pair_fits s a.0 fits p) b.1))
 ]
 
--- as many pairs as half the bytes that are left are no more items than bytes
+-- If m pairs are at most half the n bytes left, their items are at most n.
 few_pairs : (n m : ℕ) → ltb (n / 2) m ≡ false → m + m ≤ n
 few_pairs n m e = let h = ltb-false (n / 2) m e in omega (arith, h)
 
@@ -281,7 +281,7 @@ pairs_within (Some n) (Some d) s y fits least_encoding twice e =
       indefinite = λ is. absurd (none_some d (sym is));
     }
 
--- the keys and values of the map begin behind its head
+-- The keys and values of the map begin after its head.
 pub record EnteredMap (v : Item) (o : Option ℕ) (s a : List ℕ) : Type 0 where
   pub elements : Items
   pub is_map : map_items v ≡ Some elements
@@ -324,7 +324,7 @@ no_map v s a h whole e k = elim (is_map v) [
 
 -- ---- the next element
 
--- no item begins with a break
+-- No item begins with the break.
 pub no_item_at_break : (v : Item) (s a : List ℕ) → ItemAt v s a → begins_break s ≡ true → ⊥
 unfolding item_at head_at
 no_item_at_break v s a whole e =
@@ -407,7 +407,7 @@ close_dropped p s a is w = ap (drop 1) (close_broken p s a is w)
 pub close_no_break : (p : Remaining) (s a : List ℕ) → p.left ≡ None → begins_break s ≡ false → AreWithin p no_items s a → ⊥
 close_no_break p s a is e w = true≢false (sym (ap begins_break (close_broken p s a is w)) ∙ e)
 
--- nothing is in no bytes
+-- No item is in an empty input.
 nothing_there : (v : Item) (t b : List ℕ) → length t ≡ 0 → ItemAt v t b → ⊥
 nothing_there v t b e stands = let some = stands_shorter v t b stands in omega (arith, e, some)
 
@@ -426,7 +426,7 @@ close_empty vs p s a e w = elim (left_by p.left) [
   | inr is ↦ no_element_there vs s a e (w.definite is.0 is.1).1
 ]
 
--- no items remain where nothing does
+-- If `left` is zero, no items remain.
 pub none_within : (s : List ℕ) → AreWithin (record { left = Some 0 }) no_items s s
 unfolding AreAt
 none_within s = record { definite = λ n e. (sym (one_of e), refl); indefinite = λ e. absurd (cc) }

@@ -1,4 +1,4 @@
--- Bytes that are an encoding, whatever its item's depth.
+-- Bytes that are an encoding of an item of any depth.
 use Rattle.std.proofs.Common.{◌≡◌, ℕ, suc, ◌+◌, ◌<◌, ◌≤◌, List, [], ◌∷◌, ◌++◌, length, Result, Ok, Err, refl, sym, ap, subst, ◌∙◌, inl, inr, arith}
 use Rattle.std.proofs.lemmas.List.{length-append, append-nil}
 use Rattle.coset_value.specs.Item.{Item, integer, bytes, float, text, boolean, null, tag, array, dict, Items, no_items, item, Pairs, no_pairs, pair}
@@ -9,7 +9,7 @@ use Rattle.coset_cbor.specs.Reading.{item_at}
 use Rattle.coset_cbor.proofs.Again.{IsHead-begins, item_again}
 use Rattle.coset_cbor.proofs.Takes.{IsBytes, ok_is, item_takes}
 
--- what follows a head is shorter
+-- The bytes after a head are fewer.
 headed_longer : (m n : ℕ) (s b : List ℕ) → m < 7 → IsHeaded m n s b → length s < length b
 headed_longer m n s b low h =
     let first = IsHead-begins m n h.head low h.is_head in
@@ -23,7 +23,7 @@ held_longer m n s b low (inr h) =
     let all : length b ≡ suc (length s + 1) = ap length h ∙ ap suc (length-append s (255 ∷ [])) in
     omega arith
 
--- an encoding has as many bytes as its item has levels, at least
+-- An encoding has at least as many bytes as its item has levels.
 mutual
   depth_within : (v : Item) (b : List ℕ) → IsEncoding v b → depth v ≤ length b
   depth_within (integer n) b h = omega arith
@@ -54,7 +54,7 @@ mutual
       let all : length b ≡ length h.0 + length (h.1 ++ h.2) = ap length h.6 ∙ length-append h.0 (h.1 ++ h.2) in
       omega arith
 
--- so it is read within that depth
+-- So a reader with that depth reads the encoding.
 read_whole : (v : Item) (b : List ℕ) → IsEncoding v b → item_at (length b) b ≡ Ok (v, [])
 read_whole v b h = ap (item_at (length b)) (sym (append-nil b)) ∙ item_again (length b) v b [] h (depth_within v b h)
 
@@ -67,15 +67,15 @@ failed f = Err f
 apart : (x : Item × List ℕ) (f : Fault) → done x ≡ failed f → ⊥
 apart x f e = cc
 
--- what isn't read is no encoding
+-- If reading fails, the bytes are no encoding.
 pub no_encoding : (b : List ℕ) (f : Fault) → item_at (length b) b ≡ Err f → (v : Item) → IsEncoding v b → ⊥
 no_encoding b f e v is = apart (v, []) f (sym (read_whole v b is) ∙ e)
 
--- nor is what is read with bytes behind it
+-- If bytes are left after reading, the whole is no encoding.
 pub no_whole_encoding : (b rest : List ℕ) (x : Item) → item_at (length b) b ≡ Ok (x, rest) → (length rest ≡ 0 → ⊥) → (v : Item) → IsEncoding v b → ⊥
 no_whole_encoding b rest x e some v is = some (ap (λ (y : Item × List ℕ). length y.1) (sym (ok_is (v, []) (x, rest) (sym (read_whole v b is) ∙ e))))
 
--- what is read to the end is an encoding of what was read
+-- Bytes that are read to the end are an encoding of the resulting item.
 pub encoding_read : (b rest : List ℕ) (x : Item) → IsBytes b → item_at (length b) b ≡ Ok (x, rest) → length rest ≡ 0 → IsEncoding x b
 encoding_read b rest x fits e none =
     let t = item_takes (length b) b (x, rest) fits e in

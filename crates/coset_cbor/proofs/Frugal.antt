@@ -1,4 +1,4 @@
--- A check takes at most as many steps as there are bytes, also where it refuses.
+-- A check takes at most as many steps as there are bytes, even if it fails.
 use Rattle.std.proofs.Common.{◌≡◌, ℕ, zero, suc, ◌+◌, ◌/◌, ◌%◌, ◌≤◌, Bool, true, false, cond, ltb, eqb, List, [], ◌∷◌, take, drop, length, Option, Some, None}
 use Rattle.std.proofs.Common.{Result, Ok, Err, refl, ap, arith}
 use Rattle.std.specs.Prelude.{pos, negsuc}
@@ -22,7 +22,7 @@ use Rattle.coset_cbor.specs.Counting.{after, where_some, content_steps, chunk_st
 use Rattle.coset_cbor.specs.Counting.{StepsInside, no_steps, steps_of, body_steps, steps_from, item_steps}
 use Rattle.coset_cbor.proofs.Takes.{break_is}
 
--- k steps are no more than the bytes that were passed, or, where reading failed, than those that were there
+-- k is at most the number of bytes that were read, or, if reading failed, the number of all bytes.
 abbrev pub IsWithin : {A : Type 0} → ℕ → List ℕ → Result (A × List ℕ) Fault → Type 0
 IsWithin k s (Ok x) = k + length x.1 ≤ length s
 IsWithin k s (Err f) = k ≤ length s
@@ -45,7 +45,7 @@ within_choice : {A : Type 0} (b : Bool) (j k : ℕ) (s : List ℕ) (x y : Result
 within_choice true j k s x y p q = p refl
 within_choice false j k s x y p q = q refl
 
--- reading with its steps
+-- A reader takes at most as many steps as it reads bytes.
 abbrev pub IsFrugal : {A : Type 0} → Parse A → (List ℕ → ℕ) → Type 0
 IsFrugal one st = (s : List ℕ) → IsWithin (st s) s (one s)
 
@@ -72,7 +72,7 @@ by_shorter info left s =
     shorter_choice (eqb info 27) s _ _ (argument_shorter places.Eight w64 8 s) (
     shorter_choice (eqb info 31) s (Ok (places.Indefinite, s)) (Err (Syntax left)) (omega arith) tt)))))
 
--- a head takes a byte at least
+-- A head takes at least one byte.
 abbrev IsHeadShorter : List ℕ → Result (HeadView × List ℕ) Fault → Type 0
 IsHeadShorter s (Ok h) = suc (length h.1) ≤ length s
 IsHeadShorter s (Err f) = Unit {0}
@@ -131,7 +131,7 @@ chunk_frugal is_text s =
     (λ h. within_choice (begins_chunk is_text h.0.major_type) _ _ h.1 _ _
     (λ e. where_within (length s) (number_of h.0.argument) _ _ h.1 (λ n. string_frugal is_text (length s) n h.1)) (λ e. omega arith))
 
--- ---- one after the other
+-- ---- repetition
 
 times_frugal : {A : Type 0} (one : Parse A) (st : List ℕ → ℕ) → IsFrugal one st → (n : ℕ) → IsFrugal (times_at one n) (times_steps one st n)
 unfolding times_at times_steps
@@ -229,13 +229,13 @@ from_frugal inside st h s =
     (head_shorter s)
     (λ x. body_frugal inside st h (length s) x.0.argument x.0.major_type x.1)
 
--- A check of any bytes.
+-- This holds for a check of any bytes.
 pub item_frugal : (d : ℕ) → IsFrugal (item_at d) (item_steps d)
 unfolding item_at item_steps
 item_frugal zero s = from_frugal nothing no_steps nothing_frugal s
 item_frugal (suc d) s = from_frugal (things (item_at d)) (steps_of (item_at d) (item_steps d)) (things_frugal (item_at d) (item_steps d) (item_frugal d)) s
 
--- no more steps than bytes
+-- A check takes at most as many steps as there are bytes.
 pub steps_bound : (d : ℕ) (s : List ℕ) → item_steps d s ≤ length s
 steps_bound d s = bound (item_at d s) (item_frugal d s)
   where

@@ -1,4 +1,4 @@
--- What the head of a lent item says of the item.
+-- What the head of a borrowed item says about the item.
 use Rattle.std.proofs.Common.{◌≡◌, ℕ, ◌≤◌, Bool, true, false, eqb, ltb, List, [], ◌++◌, length, Option, Some, None, Result, Ok, Err, refl, sym, ap, subst, ◌∙◌}
 use Rattle.std.proofs.Common.{arith, inl, inr}
 use Rattle.std.proofs.lemmas.List.{append-nil}
@@ -26,7 +26,7 @@ use Rattle.coset_cbor.proofs.Whole.{one_item_bytes, one_item_read, one_item_from
 abbrev done : Item × List ℕ → Result (Item × List ℕ) Fault
 done x = Ok x
 
--- one item is what its head says
+-- An item is read from its head.
 pub one_item_by : (b : List ℕ) (h : HeadView × List ℕ) → is_one_item b ≡ true → head_at b ≡ Ok h
     → item_by (things (item_at 255)) (length b) h.0.argument h.0.major_type h.1 ≡ Ok (item_of b, [])
 unfolding item_at
@@ -34,7 +34,7 @@ one_item_by b h one e =
     let whole : item_from (things (item_at 255)) b ≡ Ok (item_of b, []) = one_item_read b one in
     sym (ap (λ (r : Result (HeadView × List ℕ) Fault). r >>= λ x. item_by (things (item_at 255)) (length b) x.0.argument x.0.major_type x.1) e) ∙ whole
 
--- one item has a head
+-- An item has a head.
 pub one_item_head : (b : List ℕ) (f : Fault) → is_one_item b ≡ true → head_at b ≡ Err f → ⊥
 unfolding item_at
 one_item_head b f one e =
@@ -44,7 +44,7 @@ one_item_head b f one e =
     differ : ◌≡◌ {A = Result (Item × List ℕ) Fault} (Err f) (Ok (item_of b, [])) → ⊥
     differ e = cc
 
--- ---- items that hold no other bytes
+-- ---- items that a head encodes alone
 
 number_scalar : (left : ℕ) (o : Option ℕ) (f : ℕ → Item) (s : List ℕ) (x : Item × List ℕ) → ((n : ℕ) → as_scalar (f n) ≡ Some (f n))
     → unless_none left o (λ n. Ok (f n, s)) ≡ Ok x → option_map f o ≡ as_scalar x.0
@@ -73,7 +73,7 @@ simple_scalar left a s x e = ap read_of e ∙ sym (is left a s x e)
     is left (places.Eight n) s x e = found (float (double n)) s x refl e
     is left places.Indefinite s x e = absurd cc
 
--- what was made of what was read is an f
+-- If f makes the item from a reading, the item is f of something.
 made_is : {A : Type 0} (r : Result (A × List ℕ) Fault) (f : A → Item) (x : Item × List ℕ) → (r >>= λ y. Ok (f y.0, y.1)) ≡ Ok x → (y : A) × (x.0 ≡ f y)
 made_is r f x e =
     let y = bind_ok r (λ y. Ok (f y.0, y.1)) x e in
@@ -151,7 +151,7 @@ string_by is_text inside left a major_types.Map s x k e = absurd cc
 string_by is_text inside left a major_types.Tag s x k e = absurd cc
 string_by is_text inside left a major_types.Simple s x k e = absurd cc
 
--- the string that a lent item is, read again, is its content
+-- The string read from a borrowed item is the content of that item.
 pub string_read : (is_text : Bool) (b : List ℕ) (h : HeadView × List ℕ) (o : Option ℕ) (y : List ℕ × List ℕ) → is_one_item b ≡ true → head_at b ≡ Ok h
     → begins_chunk is_text h.0.major_type ≡ true → o ≡ number_of h.0.argument
     → any_string_by is_text (length b) o h.1 ≡ Ok y → Some y.0 ≡ as_string is_text (item_of b)
@@ -171,7 +171,7 @@ string_no_fault is_text b h o f one e k number is =
 
 -- ---- tags
 
--- what a head that is no tag's says
+-- A head of no tag gives an item that is no tag.
 pub no_tag : (inside : Inside) (left : ℕ) (a : Argument) (k : MajorType) (s : List ℕ) (x : Item × List ℕ) → tag_by a k ≡ None → item_by inside left a k s ≡ Ok x
     → None ≡ as_tag x.0
 no_tag inside left a major_types.Unsigned s x t e = let n = some_ok left (number_of a) (λ n. Ok (integer (pos n), s)) x e in
@@ -201,7 +201,7 @@ no_tag inside left a major_types.Simple s x t e = as_scalar_tag x.0 (sym (simple
     as_scalar_tag (array vs) h = refl
     as_scalar_tag (dict ps) h = refl
 
--- what a tag's head says: what is read inside
+-- A tag's head gives a tag of the item that is read inside.
 tag_inside : (inside : Inside) (left : ℕ) (a : Argument) (k : MajorType) (s : List ℕ) (x : Item × List ℕ) (n : ℕ) → tag_by a k ≡ Some n
     → item_by inside left a k s ≡ Ok x → (w : Item × List ℕ) × (inside.one s ≡ Ok w) × (x ≡ (tag n w.0, w.1))
 tag_inside inside left a major_types.Unsigned s x n t e = absurd cc
@@ -220,7 +220,7 @@ tag_inside inside left a major_types.Tag s x n t e =
     some_same m n e = cc
 tag_inside inside left a major_types.Simple s x n t e = absurd cc
 
--- the head of a tag
+-- A tag's head is a head of major type 6.
 tag_head : (a : Argument) (k : MajorType) (f : List ℕ) (n : ℕ) → IsArgumentEncoding (major_type_number k) a f → tag_by a k ≡ Some n → IsHead 6 n f
 tag_head a major_types.Unsigned f n h e = absurd cc
 tag_head a major_types.Negative f n h e = absurd cc
@@ -231,7 +231,7 @@ tag_head a major_types.Map f n h e = absurd cc
 tag_head a major_types.Tag f n h e = number_head 6 n a f h e
 tag_head a major_types.Simple f n h e = absurd cc
 
--- the bytes after a tag's head are one item, which the tag encloses
+-- The bytes after a tag's head are one item, which the tag encloses.
 pub record IsEnclosed (n : ℕ) (b s : List ℕ) : Type 0 where
   pub headed : IsHeaded 6 n s b
   pub one : is_one_item s ≡ true

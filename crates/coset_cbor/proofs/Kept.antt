@@ -1,4 +1,4 @@
--- What grows at its end.
+-- Lists and encodings that grow at their end.
 use Rattle.std.proofs.Common.{◌≡◌, ℕ, suc, Box, ◌+◌, ◌<◌, Vec, Global, Result, rules, List, [], ◌∷◌, ◌++◌, map, take, length, get_or, refl, sym, ap, subst, ◌∙◌}
 use Rattle.std.proofs.Common.{append_assoc}
 use Rattle.std.proofs.lemmas.List.{append-nil, take_more, map_push}
@@ -20,7 +20,7 @@ pub least_pair_encodings-push : (ps : List (Item × Item)) (p : Item × Item)
 least_pair_encodings-push [] p = ap (λ (x : List ℕ). least_encoding p.0 ++ x) (append-nil (least_encoding p.1))
 least_pair_encodings-push (q ∷ ps) p = ap (λ (x : List ℕ). least_encoding q.0 ++ (least_encoding q.1 ++ x)) (least_pair_encodings-push ps p) ∙ simp append_assoc
 
--- one more is taken from the front of what is left
+-- Moves the first element of the rest to the end of the elements before it.
 pub moved : {A : Type 0} (ys : List A) (x : A) (old new all : List A) → ys ++ old ≡ all → old ≡ x ∷ new → (ys ++ x ∷ []) ++ new ≡ all
 moved ys x old new all p q = append_assoc ys (x ∷ []) new ∙ (ap (λ zs. ys ++ zs) (sym q) ∙ p)
 
@@ -46,7 +46,7 @@ pair_pushed xs x old middle half new so_far key put =
     all ∙ ap (λ (s : List ℕ). s ++ both) so_far ∙ append_assoc old (least_pair_encodings (value_pairs xs)) both
     ∙ ap (λ (s : List ℕ). old ++ s) (sym total)
 
--- the next one of a list
+-- Takes one more element of a list.
 one_more : {A : Type 0} (xs : List A) (i : ℕ) (x : A) → i < length xs → x ≡ get_or xs i x → take i xs ++ x ∷ [] ≡ take (i + 1) xs
 one_more xs i x lt is = sym (take_more xs i x lt ∙ ap (λ y. take i xs ++ y ∷ []) (sym is))
 

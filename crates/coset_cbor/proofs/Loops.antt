@@ -1,4 +1,4 @@
--- Reading one thing after the other, as a loop does.
+-- Repeated reading, as a loop does it.
 use Rattle.std.proofs.Common.{◌≡◌, ℕ, suc, ◌-◌, ◌+◌, ◌≤◌, ◌<◌, true, false, List, [], ◌∷◌, ◌++◌, drop, Result, Ok, Err, refl, sym, ap, ◌∙◌, append_assoc, arith}
 use Rattle.std.proofs.lemmas.List.{append-nil}
 use Rattle.coset_cbor.specs.declared.fault.Fault.{Fault}
@@ -8,7 +8,7 @@ use Rattle.coset_cbor.specs.declared.fault.ReadError.TheVariants as errors
 use Rattle.coset_cbor.specs.Reading.{◌>>=◌, FailsAs, Parse, begins_break, times_at, until_at}
 use Rattle.coset_cbor.specs.Grammar.{joined_chunks}
 
--- what was read before, and what is still read
+-- The elements already read, and then those that are still to be read.
 abbrev pub with_front : {A : Type 0} → List A → Result (List A × List ℕ) Fault → Result (List A × List ℕ) Fault
 with_front front read = read >>= λ x. Ok (front ++ x.0, x.1)
 

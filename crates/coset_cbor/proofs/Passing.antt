@@ -1,4 +1,4 @@
--- Skipping one thing after the other, as a loop does, with its steps.
+-- Repeated skipping, as a loop does it, with its steps.
 use Rattle.std.proofs.Common.{◌≡◌, ℕ, zero, suc, ◌-◌, ◌+◌, ◌≤◌, ◌<◌, Bool, true, false, List, ◌∷◌, drop, length, Option, Result, Ok, Err, refl, sym, ap, subst}
 use Rattle.std.proofs.Common.{◌∙◌, arith}
 use Rattle.coset_cbor.specs.declared.fault.Fault.{Fault}
@@ -15,7 +15,7 @@ use Rattle.std.specs.Borrow.{Bor}
 use Rattle.coset_cbor.specs.Cost.{content_cost}
 use Rattle.coset_cbor.specs.Counting.{left_of, Passes, after, content_steps, pair_steps, times_steps, until_steps}
 
--- what is made of what was read leaves the same
+-- Mapping the value of a reading leaves the same bytes.
 pub left_of-made : {A B : Type 0} (r : Result (A × List ℕ) Fault) (f : A → B) → left_of (r >>= λ x. Ok (f x.0, x.1)) ≡ left_of r
 left_of-made (Ok x) f = refl
 left_of-made (Err e) f = refl
@@ -26,7 +26,7 @@ rest_is s = Ok s
 abbrev pub fault_is : Fault → Result (List ℕ) Fault
 fault_is f = Err f
 
--- after a reading that leaves a
+-- The bytes left by two readings in turn, if the first leaves a.
 pub then_left : {A B : Type 0} (r : Result (A × List ℕ) Fault) (f : A × List ℕ → Result (B × List ℕ) Fault) (g : List ℕ → Result (List ℕ) Fault) (a : List ℕ)
     → left_of r ≡ Ok a → ((x : A × List ℕ) → left_of (f x) ≡ g x.1) → left_of (r >>= f) ≡ g a
 then_left (Ok x) f g a e h = let same : x.1 ≡ a = rest_same x.1 a e in h x ∙ ap g same
@@ -63,7 +63,7 @@ after_fault (Ok x) g d e = absurd (apart d x.1 e)
     apart d a e = cc
 after_fault (Err c) g d e = refl
 
--- one more in front of a list leaves the same
+-- Putting one more element in front of a list leaves the same bytes.
 times_left : {A : Type 0} (one : Parse A) (n : ℕ) (s a : List ℕ) → left_of (one s) ≡ Ok a → left_of (times_at one (suc n) s) ≡ left_of (times_at one n a)
 unfolding times_at
 times_left {A} one n s a e = then_left (one s) (λ x. times_at one n x.1 >>= λ xs. Ok (x.0 ∷ xs.0, xs.1)) (λ (t : List ℕ). left_of (times_at one n t)) a e
@@ -112,7 +112,8 @@ until_steps_break : {A : Type 0} (one : Parse A) (st : List ℕ → ℕ) (n : �
 unfolding until_steps
 until_steps_break one st n s stops = rw stops refl
 
--- Of a loop that is to leave `total` after `whole` steps: what is still to be read, and its steps.
+-- A loop must leave `total` after `whole` steps. `rest` is what the readings still to come leave, and `more` is their
+-- steps.
 pub record IsPassed (total : Result (List ℕ) Fault) (whole now : ℕ) (rest : Result (List ℕ) Fault) (more : ℕ) : Type 0 where
   pub left : rest ≡ total
   pub steps : now + more ≡ whole
@@ -197,7 +198,7 @@ until_ends one st total whole now turns i s le h =
     let done : left_of (until_at one (turns - i) s) ≡ Err End = rw k refl in
     (sym h.left ∙ done, omega arith)
 
--- the bytes of a byte string take no steps
+-- The content of a byte string takes no steps.
 pub no_content : (is_text : Bool) (left n : ℕ) (s : List ℕ) → is_text ≡ false → content_steps is_text left n s ≡ 0
 unfolding content_steps
 no_content true left n s e = absurd cc
@@ -207,7 +208,7 @@ no_content false left n s e = none (string_at false left n s)
     none (Ok x) = refl
     none (Err f) = refl
 
--- chunks that are joined leave the same
+-- Joining chunks leaves the same bytes.
 pub chunks_left : (is_text : Bool) (s : List ℕ) → left_of (chunks_at is_text s) ≡ left_of (until_at (chunk_at is_text) (length s) s)
 unfolding chunks_at
 chunks_left is_text s = left_of-made (until_at (chunk_at is_text) (length s) s) joined_chunks
@@ -227,9 +228,9 @@ pub pair_steps_left : (one : Parse Item) (st : List ℕ → ℕ) (old half new :
 unfolding pair_steps
 pair_steps_left one st old half new s a e more rest = let then = after_left (one s) st a e in omega arith
 
--- ---- an item by its head
+-- ---- an item after its head
 
--- an array whose elements are passed is passed
+-- Skipping the elements of an array skips the array.
 pub array_passes : (r : Result (Bor (List ℕ)) Fault) (depth : ℕ) (s : List ℕ) (h : HeadView × List ℕ) (count : Option ℕ) → 0 < depth → head_at s ≡ Ok h
     → h.0.major_type ≡ major_types.Array → count ≡ number_of h.0.argument
     → Passes r (array_by (item_at (depth - 1)) count h.1) → Passes r (item_at depth s)
@@ -244,7 +245,7 @@ array_passes r (suc d) s h count lt e major_type number is =
     ∙ left_of-made (array_by (item_at d) count h.1) (λ (vs : List Item). array (items_of vs)))
     (subst (λ (n : ℕ). Passes r (array_by (item_at n) count h.1)) back is)
 
--- what is made of what was read of a map leaves the same
+-- Skipping the pairs of a map skips the map.
 pub map_passes : (r : Result (Bor (List ℕ)) Fault) (depth : ℕ) (s : List ℕ) (h : HeadView × List ℕ) (count : Option ℕ) → 0 < depth → head_at s ≡ Ok h
     → h.0.major_type ≡ major_types.Map → count ≡ number_of h.0.argument
     → Passes r (map_by (item_at (depth - 1)) count h.1) → Passes r (item_at depth s)

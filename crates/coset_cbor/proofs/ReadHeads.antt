@@ -1,4 +1,4 @@
--- A head that was read, or wasn't, by the grammar.
+-- The grammar agrees with reading a head, whether that succeeds or fails.
 use Rattle.std.proofs.Common.{◌≡◌, ℕ, ◌+◌, ◌*◌, ◌<◌, ltb, eqb, List, [], ◌∷◌, ◌++◌, length, Ok, Err, refl, sym, ap, subst, ◌∙◌, arith, inl, inr, ◌⊎◌}
 use Rattle.std.proofs.lemmas.Bool.{ltb-true, ltb-false, eqb-true, eqb-false, ne_eqb}
 use Rattle.coset_cbor.specs.declared.fault.Fault.{Fault}
@@ -21,7 +21,7 @@ head_of_argument m (places.Four n) f h = record { width = four; holds = h.0; spe
 head_of_argument m (places.Eight n) f h = record { width = eight; holds = h.0; spelled = h.1 }
 head_of_argument m places.Indefinite f h = h
 
--- f is an initial byte with that additional information, and the bytes that it announces
+-- f is an initial byte with that additional information, and the announced bytes.
 record Spelled (m info : ℕ) (f : List ℕ) : Type 0 where
   argument : List ℕ
   parts : f ≡ (32 * m + info) ∷ argument

@@ -1,4 +1,4 @@
--- What an item holds that is at the front, by its head.
+-- The content of the item at the start, by its head.
 use Rattle.std.proofs.Common.{◌≡◌, ◌≢◌, ℕ, ℤ, ◌<◌, List, ◌∷◌, ◌++◌, length, Bool, true, false, eqb, ltb, Option, Some, None, Result, Ok, Err, sym, subst, ap}
 use Rattle.std.proofs.Common.{◌∙◌, inl, inr}
 use Rattle.std.specs.Prelude.{pos, negsuc}
@@ -25,7 +25,7 @@ done x = Ok x
 abbrev rest_of : {A : Type 0} → A × List ℕ → List ℕ
 rest_of x = x.1
 
--- ---- scalars: nothing of them follows their head
+-- ---- scalars: their head is the whole item
 
 behind : (v : Item) (s : List ℕ) (x : Item × List ℕ) → done (v, s) ≡ done x → s ≡ x.1
 behind v s x e = ap rest_of (ok_is (v, s) x e)
@@ -119,7 +119,7 @@ no_null v s a rest x whole e other is = other (first x 246 rest a (sym e ∙ nul
 
 -- ---- strings
 
--- a string that was read is what the item holds, and what follows it is what follows the item
+-- A string that was read is the content of the item, and the bytes left follow the item.
 pub string_there :
     (is_text : Bool) (v : Item) (s a : List ℕ) (h : HeadView × List ℕ) (o : Option ℕ) (y : List ℕ × List ℕ) → ItemAt v s a → head_at s ≡ Ok h
     → begins_chunk is_text h.0.major_type ≡ true → o ≡ number_of h.0.argument
@@ -146,7 +146,7 @@ pub no_string_there : (is_text : Bool) (v : Item) (s a : List ℕ) (h : HeadView
 no_string_there is_text v s a h whole e k = other_read is_text (things (item_at 255)) (length s) h.0.argument h.0.major_type h.1 v a k
     (stands_by v s a h whole e)
 
--- ---- an item as it is
+-- ---- an item as a whole
 
 pub item_there : (v : Item) (s a : List ℕ) (w : Item) (rest : List ℕ) → ItemAt v s a → item_at 256 s ≡ Ok (w, rest) → (w ≡ v) × (rest ≡ a)
 item_there v s a w rest whole e =

@@ -1,4 +1,4 @@
--- Where nothing is read, there is that fault.
+-- If reading fails, the fault that it gives is in the bytes.
 use Rattle.std.proofs.Common.{◌≡◌, ℕ, zero, suc, ◌+◌, ◌*◌, ◌/◌, ◌%◌, ◌^◌, ◌<◌, ◌≤◌, Bool, true, false, cond, ltb, eqb, List, [], ◌∷◌, ◌++◌, length, take}
 use Rattle.std.proofs.Common.{Option, Some, None, Result, Ok, Err, refl, sym, ap, subst, ◌∙◌, append_assoc, arith, inl, inr, ◌⊎◌}
 use Rattle.std.specs.Prelude.{pos, negsuc, not}
@@ -95,7 +95,7 @@ head_fault [] f e = inl (sym (fault_is {A = HeadView × List ℕ} End f e), inl 
 head_fault (x ∷ s) f e = argument_fault x s f (bind_made (argument_by (x % 32) (suc (length s)) s)
     (λ a. (record { major_type = major_type_of (x / 32); argument = a.0 }, a.1)) f e)
 
--- ---- a fault inside what opens
+-- ---- a fault inside an open array, map or tag
 
 record Nested (o c : List ℕ) (d : ℕ) (e f : Bool) : Type 0 where
   flag : Bool
@@ -128,7 +128,7 @@ is_due_nest o f p c (inr h) = inr (h.0, chunk_nest o f p h.0 c h.1)
 moved : (o c t s : List ℕ) → s ≡ c ++ t → o ++ s ≡ (o ++ c) ++ t
 moved o c t s e = ap (λ (x : List ℕ). o ++ x) e ∙ sym (append_assoc o c t)
 
--- no break is where one may be
+-- s does not begin with a break that may be there.
 abbrev pub NoBreakAt : Bool → List ℕ → Type 0
 NoBreakAt f s = (f ≡ false) ⊎ (begins_break s ≡ false)
 
@@ -170,7 +170,7 @@ not_sound : (is_text : Bool) (s : List ℕ) → is_string_content is_text s ≡ 
 not_sound false s e = absurd cc
 not_sound true s e = (refl, λ u. false≢true (sym e ∙ is_utf8-from_IsUtf8 s u))
 
--- a definite string, h and what follows it, at t
+-- A definite-length string at t: its head h, and then r.
 string_fault : (d : ℕ) (is_text : Bool) (s c t h r : List ℕ) (n : ℕ) (f : Fault) → s ≡ c ++ t → IsDue c → t ≡ h ++ r → IsHead (string_type is_text) n h
     → string_at is_text (length t) n r ≡ Err f → FaultAt d s f
 unfolding string_at
@@ -278,9 +278,9 @@ chunk_fault d is_text s c t f parts due fits goes e =
           ]
     ]
 
--- ---- one after the other
+-- ---- repetition
 
--- where reading them one after the other failed
+-- Repeated reading failed at `left`, after the elements `passed`.
 pub record Stopped {A : Type 0} (R : A → List ℕ → Type 0) (s : List ℕ) : Type 0 where
   pub passed : List A
   pub front : List ℕ
@@ -336,7 +336,7 @@ until_fault {A} R read sound begins (suc turns) s f fits le e =
       ]
     ]
 
--- ---- what nests
+-- ---- enclosed items
 
 abbrev pub Faults : ℕ → Parse Item → Type 0
 Faults d read = (s : List ℕ) (f : Fault) → IsBytes s → read s ≡ Err f → FaultAt d s f
@@ -410,7 +410,7 @@ flat_even (p ∷ ps) tail = twice (is_even (items_count (flat ps tail))) ∙ fla
 opened : (h c : List ℕ) (m n : ℕ) → IsHead m n h → IsHeaded m n c (h ++ c)
 opened h c m n is = record { head = h; is_head = is; parts = refl }
 
--- a fault behind an opening and what was read after it
+-- A fault after an opening and the elements that were read.
 behind : (d : ℕ) (h s c t : List ℕ) (e : Bool) (f : Fault) → Opens (h ++ c) e → s ≡ c ++ t → NoBreakAt e t → FaultAt d t f → FaultAt (suc d) (h ++ s) f
 behind d h s c t e f opens parts nb stands = subst (λ (x : List ℕ). FaultAt (suc d) x f) (sym (moved h c t s parts)) (nest d (h ++ c) e opens t nb f stands)
 
@@ -423,7 +423,7 @@ lacking : (d m n : ℕ) (h s : List ℕ) (f : Fault) → IsHead m n h → ((2 �
 lacking d m n h s f is lack e = subst (λ (g : Fault). FaultAt d (h ++ s) g) e
     ([], h ++ s, refl, (inl (0, false, at_start), inr (inr (record { m = m; n = n; rest = s; headed = opened h s m n is; lacks = lack }))))
 
--- a key or a value that isn't read, behind pairs
+-- After some pairs, a key or a value cannot be read.
 pair_fault : (d : ℕ) (read : Parse Item) → IsSoundReader (IsEncodingBelow (suc d)) read → Faults d read
     → (h s : List ℕ) (f : Fault) (p : Stopped (IsPairEncodingBelow (suc d)) s) (e : Bool)
     → ((vs : Items) (c : List ℕ) → AreEncodings vs c → items_count vs ≡ 2 * length p.passed → Opens (h ++ c) e) → NoBreakAt e p.left
@@ -658,7 +658,7 @@ sound_below d s x fits e =
     let le = t.encoding.1 in
     record { front = t.front; encoding = (t.encoding.0, omega arith); parts = t.parts; rest_fits = t.rest_fits }
 
--- Where nothing is read, there is that fault.
+-- If reading an item fails, the fault that it gives is in the bytes.
 pub item_fault : (d : ℕ) → Faults d (item_at d)
 unfolding item_at
 item_fault zero s f fits e = from_fault 0 nothing nothing_faults s f fits e

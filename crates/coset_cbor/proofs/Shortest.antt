@@ -1,4 +1,4 @@
--- The encoding with the least heads is the one shortest definite encoding.
+-- The encoding with the least heads is the only shortest definite encoding.
 use Rattle.std.proofs.Common.{◌≡◌, ℕ, ◌^◌, ◌+◌, ◌<◌, ◌≤◌, true, false, ltb, List, [], ◌++◌, length, refl, sym, ap, ap₂, subst, ◌∙◌, arith, inl, inr, ◌⊎◌}
 use Rattle.std.specs.Prelude.{pos, negsuc}
 use Rattle.std.proofs.lemmas.Bool.{lt-ltb, le-ltb, cases_lt, ltb-true, cond_both}
@@ -11,7 +11,7 @@ use Rattle.coset_cbor.specs.Definite.{IsDefiniteEncoding, AreDefiniteEncodings, 
 use Rattle.coset_cbor.specs.Shortest.{IsShortest, AppendsShortest}
 use Rattle.coset_cbor.specs.Least.{least_width, least_head, least_encoding, least_encodings, least_pair_encodings}
 
--- ---- which place is the least
+-- ---- the least width
 
 abbrev size : HeadWidth → ℕ
 size within = 1
@@ -94,7 +94,7 @@ least_of_width eight n h = elim (cases_lt n 24) [
 
 -- ---- no encoding is shorter
 
--- s is no longer than c, and where c is no longer, it is s
+-- s is at most as long as c, and the two are equal if they are equally long.
 record IsLeast (s c : List ℕ) : Type 0 where
   shorter : length s ≤ length c
   same : length c ≤ length s → c ≡ s
@@ -160,7 +160,7 @@ mutual
       (least_append (least_encoding v) (least_pair_encodings ps) h.1 h.2 (h.1 ++ h.2) (least_encoding_least v h.1 h.4)
       (least_pair_encodings_least ps h.2 h.5) refl) h.6
 
--- ---- it is a definite encoding
+-- ---- the encoding with the least heads is a definite encoding
 
 least_holds : (n : ℕ) → n < 2 ^ 64 → Holds (least_width n) n
 least_holds n lt =
@@ -249,7 +249,7 @@ mutual
     h.6,
   )
 
--- ---- it is of an item in range
+-- ---- an item with a definite encoding is in range
 
 holds_in_range : (p : HeadWidth) (n : ℕ) → Holds p n → n < 2 ^ 64
 holds_in_range within n h = omega arith

@@ -1,4 +1,4 @@
--- Skipping an item that is known to be there, its parts not tested again.
+-- Skipping an item that is known to be there, without testing its parts again.
 use Rattle.std.proofs.Common.{◌≡◌, ℕ, zero, suc, ◌+◌, ◌-◌, ◌/◌, ◌<◌, Bool, true, false, cond, eqb, ltb, List, [], ◌∷◌, ◌++◌, length, take, drop, Option, Some}
 use Rattle.std.proofs.Common.{Result, Ok, Err, refl, sym, ap, subst, ◌∙◌, arith, inl, inr}
 use Rattle.std.specs.Prelude.{pos, negsuc}
@@ -23,7 +23,7 @@ use Rattle.std.proofs.lemmas.List.{length-append, take_at, take-append-drop}
 abbrev rest_of : {A : Type 0} → A × List ℕ → List ℕ
 rest_of x = x.1
 
--- ---- items one after the other
+-- ---- repetition
 
 pub past_one : (s : List ℕ) (x : Item × List ℕ) → item_at 256 s ≡ Ok x → IsPast 1 s x.1
 unfolding IsPast
@@ -38,7 +38,7 @@ past_append (suc m) n k s t a e (x, r, p) q =
     let same : suc (m + n) ≡ k = omega arith in
     subst (λ (i : ℕ). IsPast i s a) same (x, r, past_append m n (m + n) x.1 t a refl p q)
 
--- the first of them is passed, but for what is behind its head
+-- Skips the head and content of the first item, so that its enclosed items are to be skipped next.
 pub past_step : (todo more : ℕ) (s t a : List ℕ) → 0 < todo → ((x : Item × List ℕ) → item_at 256 s ≡ Ok x → IsPast more t x.1) → IsPast todo s a
     → IsPast (todo - 1 + more) t a
 unfolding IsPast
@@ -50,7 +50,7 @@ unfolding IsPast
 past_all zero s a e p = p
 past_all (suc n) s a e p = absurd (omega arith)
 
--- ---- what is inside nests one level less deep
+-- ---- enclosed items nest one level less
 
 deeper : (s : List ℕ) (x : Item × List ℕ) → IsBytes s → item_at 255 s ≡ Ok x → item_at 256 s ≡ Ok x
 deeper s x fits e =
@@ -87,7 +87,7 @@ past_pairs (suc n) k s x two fits e =
     let count : suc (suc (n + n)) ≡ k = omega arith in
     subst (λ (i : ℕ). IsPast i s x.1) count (key.0, deeper s key.0 fits key.1, (value.0, deeper key.0.1 value.0 t.rest_fits value.1, more))
 
--- ---- behind a head
+-- ---- after a head
 
 number_rest : (left : ℕ) (o : Option ℕ) (f : ℕ → Item) (s : List ℕ) (x : Item × List ℕ) → unless_none left o (λ n. Ok (f n, s)) ≡ Ok x → s ≡ x.1
 number_rest left o f s x e = let n = some_ok left o (λ n. Ok (f n, s)) x e in ap rest_of (ok_is (f n.0, s) x n.2)
@@ -114,7 +114,7 @@ simple_rest left (places.Four n) s x e = ap rest_of (ok_is (float (single n), s)
 simple_rest left (places.Eight n) s x e = ap rest_of (ok_is (float (double n), s) x e)
 simple_rest left places.Indefinite s x e = absurd cc
 
--- what was made of what was read leaves the same
+-- Mapping the value of a reading leaves the same bytes.
 made_rest : {A : Type 0} (r : Result (A × List ℕ) Fault) (f : A → Item) (x : Item × List ℕ) → (r >>= λ y. Ok (f y.0, y.1)) ≡ Ok x → (y : A × List ℕ)
     × (r ≡ Ok y) × (y.1 ≡ x.1)
 made_rest r f x e =
@@ -159,9 +159,9 @@ behind_head s h n t x fits e number rest whole =
     subst (λ (r : List ℕ). IsPast (items_behind h.0.major_type n) r x.1) (sym rest)
     (behind_by h.0.major_type (length s) n h.0.argument h.1 x (head_takes s h fits e).rest_fits number by)
 
--- ---- the item known to be at the front
+-- ---- the item known to be at the start
 
--- b is split where the item ends
+-- b is split at the end of its item.
 pub record IsSplit (b f rest : List ℕ) : Type 0 where
   pub one : is_one_item f ≡ true
   pub parts : b ≡ f ++ rest

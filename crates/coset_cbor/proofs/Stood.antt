@@ -1,4 +1,4 @@
--- Where there is a fault, no front is an item; in a proper front of an item the end is the only fault.
+-- If a fault is in bytes, no prefix of them is an item. In a proper prefix of an item, the only fault is the early end.
 use Rattle.std.proofs.Common.{◌≡◌, ◌≢◌, ℕ, zero, suc, ◌+◌, ◌*◌, ◌/◌, ◌%◌, ◌^◌, ◌<◌, ◌≤◌, Bool, true, false, cond, ltb, List, [], ◌∷◌, ◌++◌, length, take, drop}
 use Rattle.std.proofs.Common.{Option, Some, None, Result, Ok, Err, refl, sym, ap, subst, ◌∙◌, append_assoc, arith, inl, inr, ◌⊎◌}
 use Rattle.std.specs.Str.{IsUtf8}
@@ -25,7 +25,7 @@ use Rattle.coset_cbor.proofs.Again.{IsHeaded-begins, IsHead-again, opening_again
 use Rattle.coset_cbor.proofs.Takes.{IsBytes, bind_ok, ok_is, guard_ok, guard_else, some_ok, chosen, chunk_takes}
 use Rattle.coset_cbor.proofs.Blocks.{NoRead, IsBlocked, IsBytes-append, due_blocked, no_read_below, read_starts, IsFirst, HeadStarts, headed_starts}
 
--- ---- what is left, where an item is due
+-- ---- the bytes from a fault on, if an item is due
 
 abbrev rest_of : List ℕ → List ℕ
 rest_of [] = []
@@ -35,7 +35,7 @@ abbrev first_of : List ℕ → ℕ
 first_of [] = 0
 first_of (x ∷ s) = x
 
--- no item begins with this byte, whatever follows
+-- No item begins with this byte, whatever follows.
 first_blocked : (e : Bool) (x : ℕ) (t : List ℕ) → IsBytes (x ∷ t) → x ≢ 255 → ((d : ℕ) (v : Item) → IsFirst v x t → depth v ≤ d → ⊥) → (d : ℕ)
     → IsBlocked e d (x ∷ t)
 first_blocked e x t fits other bad d = (
@@ -128,7 +128,7 @@ argument_blocked e (x ∷ t) fits h d =
     let least_encoding = h.3 in
     first_blocked e x t fits (λ is. omega arith) (λ d v f le. let long = f.argument k low info in omega arith) d
 
--- a definite string whose content isn't there, or isn't UTF-8
+-- A definite-length string whose content is missing or is not UTF-8.
 abbrev NoString : Bool → ℕ → List ℕ → Type 0
 NoString is_text n r = (left : ℕ) (x : List ℕ × List ℕ) → string_at is_text left n r ≡ Ok x → ⊥
 
@@ -146,7 +146,7 @@ bad_string n r bad left x e =
     let h = guard_else (is_string_content true (take n r)) (Syntax left) (Ok (take n r, drop n r)) x g.1 in
     bad (IsUtf8-from_is_utf8 (take n r) h.0)
 
--- a head, and what it is read as
+-- A head, and the result of reading it.
 record HeadIs (m n : ℕ) (t rest : List ℕ) : Type 0 where
   argument : Argument
   reads : head_at t ≡ Ok (head_of m argument, rest)
@@ -163,7 +163,7 @@ string_by_blocked is_text left n o s f y num never e =
     let r = bind_ok (any_string_by is_text left o s) (λ x. Ok (f x.0, x.1)) y e in
     never left r.0 (ap (λ (k : Option ℕ). any_string_by is_text left k s) (sym num) ∙ r.1)
 
--- elements that can't be there
+-- An array's elements or a map's pairs that the bytes cannot contain.
 record NoElements (n : ℕ) (s : List ℕ) (inside : Inside) : Type 0 where
   items : length s < n → (x : List Item × List ℕ) → inside.items (Some n) s ≡ Ok x → ⊥
   pairs : length s < 2 * n → (x : List (Item × Item) × List ℕ) → inside.pairs (Some n) s ≡ Ok x → ⊥
@@ -201,7 +201,7 @@ lacks_by inside left m n a s y none num (inr h) e =
     let r = bind_ok (inside.pairs (number_of a) s) (λ x. Ok (dict (pairs_of x.0), x.1)) y whole in
     none.pairs h.1 r.0 (ap (λ (k : Option ℕ). inside.pairs k s) (sym num) ∙ r.1)
 
--- what reading an item does with its head
+-- Reading an item reads its head and then the rest.
 with_head : (d : ℕ) (t : List ℕ) (h : HeadView × List ℕ) (y : Item × List ℕ) → head_at t ≡ Ok h → item_at d t ≡ Ok y
     → ((item_by nothing (length t) h.0.argument h.0.major_type h.1 ≡ Ok y)
     ⊎ ((c : ℕ) × (item_by (things (item_at c)) (length t) h.0.argument h.0.major_type h.1 ≡ Ok y)))
@@ -252,13 +252,13 @@ ends_blocked e t fits (inl h) d = subst (λ (s : List ℕ). IsBlocked e d s) (sy
 ends_blocked e t fits (inr (inl h)) d = argument_blocked e t fits h d
 ends_blocked e t fits (inr (inr h)) d = content_blocked e t h d
 
--- ---- what is left, where a chunk is due
+-- ---- the bytes from a fault on, if a chunk is due
 
--- no chunk is read, and no break is there
+-- No chunk is read from t, and t does not begin with the break.
 abbrev NoChunkRead : Bool → List ℕ → Type 0
 NoChunkRead is_text t = ((x : List ℕ × List ℕ) → chunk_at is_text t ≡ Ok x → ⊥) × (begins_break t ≡ false)
 
--- what reading a chunk does with its head
+-- Reading a chunk reads its head and then the string.
 chunk_with : (is_text : Bool) (t : List ℕ) (h : HeadView × List ℕ) (x : List ℕ × List ℕ) → head_at t ≡ Ok h → chunk_at is_text t ≡ Ok x
     → (begins_chunk is_text h.0.major_type ≡ true) × (n : ℕ) × (number_of h.0.argument ≡ Some n) × (string_at is_text (length t) n h.1 ≡ Ok x)
 unfolding chunk_at
@@ -269,7 +269,7 @@ chunk_with is_text t h x e is =
     let n = some_ok (length t) (number_of h.0.argument) (λ n. string_at is_text (length t) n h.1) x g.1 in
     (g.0, n.0, n.1, n.2)
 
--- what a chunk begins with
+-- A chunk begins with a head of the string's type.
 chunk_first : (is_text : Bool) (t : List ℕ) (x : List ℕ × List ℕ) → IsBytes t → chunk_at is_text t ≡ Ok x → HeadStarts (string_type is_text) t
 chunk_first is_text t x fits e =
     let k = chunk_takes is_text t x fits e in
@@ -365,7 +365,7 @@ ends_chunk is_text t fits (inl h) = subst (λ (s : List ℕ). NoChunkRead is_tex
 ends_chunk is_text t fits (inr (inl h)) = argument_chunk is_text t fits h
 ends_chunk is_text t fits (inr (inr h)) = content_chunk is_text t h
 
--- chunks, and then no chunk
+-- After some chunks, no chunk can be read.
 chunks_blocked : (is_text : Bool) (turns : ℕ) (ss : List (List ℕ)) (c t : List ℕ) (x : List (List ℕ) × List ℕ) → EachInOrder (IsDefinite is_text) ss c
     → NoChunkRead is_text t → until_at (chunk_at is_text) turns (c ++ t) ≡ Ok x → ⊥
 unfolding until_at
@@ -392,7 +392,7 @@ chunks_blocked is_text (suc turns) (s ∷ ss) c t x h never e =
 abbrev made : (List ℕ → Item) → List ℕ × List ℕ → Result (Item × List ℕ) Fault
 made f x = Ok (f x.0, x.1)
 
--- an indefinite string whose next chunk can't be there
+-- An indefinite-length string whose next chunk cannot be read.
 opening_blocked : (is_text : Bool) (e : Bool) (ss : List (List ℕ)) (c t : List ℕ) → EachInOrder (IsDefinite is_text) ss c → NoChunkRead is_text t → (d : ℕ)
     → IsBlocked e d ((32 * string_type is_text + 31) ∷ (c ++ t))
 unfolding chunks_at
@@ -419,7 +419,7 @@ opening_blocked is_text e ss c t h never d = (by_type is_text h never, λ even. 
       | inr w ↦ joins true Item.text y h never w.1
     ]
 
--- ---- the whole
+-- ---- the whole input
 
 stood_item : (s c t : List ℕ) (k : ℕ) (e : Bool) → IsBytes s → s ≡ c ++ t → Due c k e → IsBlocked e 256 t → NoRead 256 s
 stood_item s c t k e fits parts due h =
@@ -455,11 +455,11 @@ stood s errors.RecursionLimitExceeded fits other (c, t, parts, h) =
     (nests_blocked h.0 t (tail_fits s c t fits parts) h.2))
 stood s errors.OutOfMemory fits other h = absurd (other tt)
 
--- Where there is a fault, no front is an item.
+-- If a fault is in bytes, no prefix of them is an item.
 pub no_item_stood : (s : List ℕ) (e : Error EndOfFile) → IsBytes s → (IsMemory e → ⊥) → FaultIn s e → HasNoItem s
 no_item_stood s e fits other h v b rest parts is = stood s e fits other h (v, rest) (ap (item_at 256) parts ∙ item_again 256 v b rest is.0 is.1)
 
--- ---- in a front
+-- ---- in a prefix of an item
 
 no_item_on : (e : Bool) (t d : List ℕ) → NoItem e t → NoItem e (t ++ d)
 no_item_on e [] d (inl h) = absurd h
@@ -498,7 +498,7 @@ nests_on (x ∷ t) d h = h
 on : (b s d c t : List ℕ) → b ≡ s ++ d → s ≡ c ++ t → b ≡ c ++ (t ++ d)
 on b s d c t whole parts = whole ∙ ap (λ (z : List ℕ). z ++ d) parts ∙ append_assoc c t d
 
--- a fault other than the end remains where more bytes follow
+-- A fault other than the early end remains if more bytes follow.
 stands_on : (b s d : List ℕ) (e : Error EndOfFile) → b ≡ s ++ d → FaultIn s e → IsEndOfInput e ⊎ FaultIn b e
 stands_on b s d (errors.Io x) whole h = inl tt
 stands_on b s d (errors.Syntax i) whole (c, t, parts, at, inl h) = inr (c, t ++ d, on b s d c t whole parts, at, inl (h.0, h.1, h.2, no_item_on h.1 t d h.3))
@@ -512,7 +512,7 @@ stands_on b s d (errors.Semantic (Some i) told) whole (is, c, t, parts, at, h) =
 stands_on b s d errors.RecursionLimitExceeded whole (c, t, parts, h) = inr (c, t ++ d, on b s d c t whole parts, (h.0, h.1, nests_on t d h.2))
 stands_on b s d errors.OutOfMemory whole h = inr tt
 
--- In a front of an item the end is the only fault.
+-- In a prefix of an item, the only fault is the early end.
 pub end_in_front : (v : Item) (b s d : List ℕ) (e : Error EndOfFile) → IsBytes b → IsItem b v → b ≡ s ++ d → (IsMemory e → ⊥) → FaultIn s e → IsEndOfInput e
 end_in_front v b s d e fits is whole other h = elim (stands_on b s d e whole h) [
   | inl end ↦ end

@@ -1,4 +1,4 @@
--- What is read is an encoding of the value that was read.
+-- Bytes that are read as a value are an encoding of it.
 use Rattle.std.proofs.Common.{◌≡◌, ℕ, zero, suc, ◌+◌, ◌*◌, ◌/◌, ◌%◌, ◌^◌, ◌<◌, ◌≤◌, Bool, true, false, cond, ltb, eqb, List, [], ◌∷◌, ◌++◌, length, get_or}
 use Rattle.std.proofs.Common.{take, drop, Option, Some, None, Result, Ok, Err, refl, sym, ap, subst, ◌∙◌, append_assoc, arith, inl, inr, ◌⊎◌}
 use Rattle.std.specs.Prelude.{pos, negsuc}
@@ -39,7 +39,7 @@ IsBytes-take n bs h i =
 pub IsBytes-rest : (b : ℕ) (bs : List ℕ) → IsBytes (b ∷ bs) → IsBytes bs
 IsBytes-rest b bs h i = h (suc i)
 
--- ---- steps that did not fail
+-- ---- readings that succeeded
 
 pub bind_ok : {A B : Type 0} (r : Result A Fault) (f : A → Result B Fault) (y : B) → (r >>= f) ≡ Ok y → (x : A) × (r ≡ Ok x) × (f x ≡ Ok y)
 bind_ok (Ok x) f y e = (x, refl, e)
@@ -85,7 +85,7 @@ major_type_number-major_type_of (suc (suc (suc (suc (suc (suc zero)))))) lt = re
 major_type_number-major_type_of (suc (suc (suc (suc (suc (suc (suc zero))))))) lt = refl
 major_type_number-major_type_of (suc (suc (suc (suc (suc (suc (suc (suc m)))))))) lt = absurd (omega arith)
 
--- f is a head of type m with this argument
+-- f is a head of major type m with this argument.
 abbrev pub IsArgumentEncoding : ℕ → Argument → List ℕ → Type 0
 IsArgumentEncoding m (places.Within n) f = (n < 24) × (f ≡ head_in within m n)
 IsArgumentEncoding m (places.One n) f = (n < 2 ^ 8) × (f ≡ head_in one m n)
@@ -140,7 +140,7 @@ back64 = record {
       λ bs fits. omega (arith, fits 0, fits 1, fits 2, fits 3, fits 4, fits 5, fits 6, fits 7);
 }
 
--- what an argument takes behind the first byte of type m with low bits k
+-- The bytes that an argument takes after an initial byte with low bits k.
 record ArgumentTakes (k : ℕ) (s : List ℕ) (x : Argument × List ℕ) : Type 0 where
   more : List ℕ
   encoding : (m : ℕ) → IsArgumentEncoding m x.0 ((32 * m + k) ∷ more)
@@ -197,7 +197,7 @@ argument_by_takes info left s x fits e =
     plain : (m : ℕ) → ◌≡◌ {A = List ℕ} ((32 * m + info) ∷ []) ((32 * m + info) ∷ [])
     plain m = refl
 
--- what a head takes
+-- The bytes that a head takes.
 pub record HeadTakes (s : List ℕ) (x : HeadView × List ℕ) : Type 0 where
   pub front : List ℕ
   pub encoding : IsArgumentEncoding (major_type_number x.0.major_type) x.0.argument front
@@ -256,7 +256,7 @@ string_takes is_text left n s x fits e =
       rest_fits = IsBytes-drop n s fits;
     })
 
--- a head, and a string of its length
+-- A head with the string's length, and then the string.
 definite_takes : (is_text : Bool) (n : ℕ) (f s : List ℕ) (x : List ℕ × List ℕ) → IsHead (string_type is_text) n f → StringTakes is_text n s x
     → IsDefinite is_text x.0 (f ++ x.0)
 definite_takes is_text n f s x h t = (t.sound, record { head = f; is_head = subst (λ (k : ℕ). IsHead (string_type is_text) k f) (sym t.len) h; parts = refl })
@@ -313,7 +313,7 @@ times_take {A} R read sound (suc n) s x fits e =
       ap suc u.1,
     )
 
--- what is before the break
+-- The bytes that are read before the break.
 pub record TakesBroken {A : Type 0} (R : A → List ℕ → Type 0) (s : List ℕ) (x : List A × List ℕ) : Type 0 where
   pub front : List ℕ
   pub encoding : EachInOrder R x.0 front
@@ -346,7 +346,7 @@ until_take {A} R read sound (suc turns) s x fits e =
           })
     ]
 
--- ---- what nests
+-- ---- enclosed items
 
 pub pair_takes : (d : ℕ) (read : Parse Item) → IsSoundReader (IsEncodingBelow d) read → IsSoundReader (IsPairEncodingBelow d) (pair_at read)
 pair_takes d read sound s x fits e =
@@ -426,7 +426,7 @@ things_take d read sound =
 
 -- ---- items
 
--- what an item takes behind its head f
+-- The bytes that an item takes after its head f.
 record Behind {A : Type 0} (R : A → List ℕ → Type 0) (f s : List ℕ) (x : A × List ℕ) : Type 0 where
   more : List ℕ
   body : R x.0 (f ++ more)
@@ -616,7 +616,7 @@ from_takes d inside inner s x fits e =
       rest_fits = u.rest_fits;
     }
 
--- What is read is an encoding of the value, which is at most d deep.
+-- Bytes that are read as a value are an encoding of it, and the value is at most d deep.
 pub item_takes : (d : ℕ) → IsSoundReader (IsEncodingUpTo d) (item_at d)
 unfolding item_at
 item_takes zero s x fits e = from_takes 0 nothing nothing_takes s x fits e

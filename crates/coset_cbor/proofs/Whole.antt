@@ -1,4 +1,4 @@
--- What a read of a whole input gives.
+-- The results of reading a whole input.
 use Rattle.std.proofs.Common.{◌≡◌, ℕ, ◌-◌, ◌≤◌, zero, suc, Bool, true, false, ltb, List, [], ◌∷◌, ◌++◌, length, take, Result, Ok, Err, refl, sym, ap, subst}
 use Rattle.std.proofs.Common.{◌∙◌, arith}
 use Rattle.std.specs.Prelude.{◌&&◌}
@@ -50,7 +50,7 @@ rest_is s = Ok s
 abbrev fault_is : Fault → Result (List ℕ) Fault
 fault_is f = Err f
 
--- what was skipped was read
+-- If skipping succeeds, reading succeeds and leaves the same bytes.
 pub passed_is_read : (r : Result (Item × List ℕ) Fault) (rest : List ℕ) → left_of r ≡ Ok rest → (v : Item) × (r ≡ Ok (v, rest))
 passed_is_read (Ok x) rest e = (x.0, ap (λ (s : List ℕ). done (x.0, s)) (rest_same x.1 rest e))
   where
@@ -71,7 +71,7 @@ refused_is_fault (Err g) f e = ap failed (same g f e)
     same : (f g : Fault) → fault_is f ≡ fault_is g → f ≡ g
     same f g e = cc
 
--- what a check finds at the front
+-- The result of a check: an item of n bytes at the start, and its cost.
 pub record IsChecked (s : List ℕ) (n steps : ℕ) : Type 0 where
   pub within : n ≤ length s
   pub item : Item
@@ -118,7 +118,7 @@ pub one_item_bytes : (b : List ℕ) → is_one_item b ≡ true → IsBytes b
 unfolding is_one_item
 one_item_bytes b e = are_bytes_is b (both (are_bytes b) (is_all (item_at 256 b)) e).0
 
--- what one item is read as
+-- One item is read as `item_of` its bytes.
 pub one_item_read : (b : List ℕ) → is_one_item b ≡ true → item_at 256 b ≡ Ok (item_of b, [])
 unfolding is_one_item item_of
 one_item_read b e = whole_read (item_at 256 b) (both (are_bytes b) (is_all (item_at 256 b)) e).1
@@ -129,7 +129,7 @@ one_item_is b e =
     let is : t.front ≡ b = sym (append-nil t.front) ∙ sym t.parts in
     subst (λ (c : List ℕ). IsItem c (item_of b)) is t.encoding
 
--- and of no other item, however deep
+-- One item's bytes encode no other item, of any depth.
 pub item_alone : (b : List ℕ) → is_one_item b ≡ true → IsItem b (item_of b) × ((v : Item) → IsEncoding v b → v ≡ item_of b)
 item_alone b one =
     let is = one_item_is b one in
@@ -146,7 +146,7 @@ pub item_of_one : (b : List ℕ) (v : Item) → IsItem b v → item_of b ≡ v
 unfolding item_of
 item_of_one b v is = ap item_or_null (item_read b v is)
 
--- a front that is one item
+-- A prefix that is an item passes the test `is_one_item`.
 pub front_one_item : (s : List ℕ) (n : ℕ) (v : Item) (b : List ℕ) → IsBytes s → IsItem (take n s) v → b ≡ take n s → is_one_item b ≡ true
 front_one_item s n v b fits is e = ap is_one_item e ∙ one_item_from (take n s) v (IsBytes-take n s fits) is
 

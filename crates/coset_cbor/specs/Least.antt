@@ -1,5 +1,5 @@
--- The definite encoding of an item in which every head has the least width that holds its argument, as a function.
--- That it is the shortest encoding is a law of the crate (`laws::least_heads_are_shortest`).
+-- The definite encoding of an item, with heads of the least width for their arguments, as a function. This is the
+-- shortest encoding (the law `laws::least_heads_are_shortest`).
 use Rattle.std.specs.Prelude.{◌≡◌, ℕ, ◌^◌, ℤ, pos, negsuc, Bool, true, false, List, [], ◌∷◌, ◌++◌, length, nat_lt, if◌then◌else◌}
 use Rattle.std.specs.Int.{w16, w32, w64, to_be_bytes}
 use Rattle.coset_value.specs.Item.{Bits, half, single, double, Item, integer, bytes, float, text, boolean, null, tag, array, dict, Items, no_items, item, Pairs}
@@ -10,7 +10,7 @@ abbrev pub least_width : ℕ → HeadWidth
 least_width n = if nat_lt n 24 then within else (if nat_lt n (2 ^ 8) then one
     else (if nat_lt n (2 ^ 16) then two else (if nat_lt n (2 ^ 32) then four else eight)))
 
--- the head of least width with this major type and argument
+-- The head of least width with this major type and argument.
 unfoldable pub least_head : ℕ → ℕ → List ℕ
 least_head m n = head_in (least_width n) m n
 
@@ -47,6 +47,6 @@ abbrev mutual
   least_pair_encodings no_pairs = []
   least_pair_encodings (pair k v ps) = least_encoding k ++ (least_encoding v ++ least_pair_encodings ps)
 
--- new is old with something at its end
+-- new is old with something appended.
 abbrev pub Extends : List ℕ → List ℕ → Type 0
 Extends old new = (more : List ℕ) × (new ≡ old ++ more)

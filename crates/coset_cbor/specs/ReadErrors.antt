@@ -1,11 +1,11 @@
--- What a refusal says of the bytes that were to be read.
+-- What an error says about the bytes that were to be read.
 use Rattle.std.specs.Prelude.{◌≡◌, ⊤, ℕ, List, ◌++◌, length, Some, None, codes}
 use Rattle.coset_cbor.specs.Faults.{EndAt, SyntaxAt, SimpleAt, DeepAt}
 use Rattle.coset_cbor.specs.declared.de.EndOfFile.{EndOfFile}
 use Rattle.coset_cbor.specs.declared.de.Error.{Error}
 use Rattle.coset_cbor.specs.declared.de.Error.TheVariants as errors
 
--- a request for memory was refused
+-- An allocation failed.
 abbrev pub IsMemory : Error EndOfFile → Type 0
 IsMemory (errors.Io x) = ⊥
 IsMemory (errors.Syntax n) = ⊥
@@ -13,7 +13,7 @@ IsMemory (errors.Semantic n t) = ⊥
 IsMemory errors.RecursionLimitExceeded = ⊥
 IsMemory errors.OutOfMemory = ⊤
 
--- the fault is in s, at the offset that it carries
+-- The fault is in s, at the error's offset if it has one.
 abbrev pub FaultIn : List ℕ → Error EndOfFile → Type 0
 FaultIn s (errors.Io x) = (c : List ℕ) × (t : List ℕ) × (s ≡ c ++ t) × EndAt c t
 FaultIn s (errors.Syntax i) = (c : List ℕ) × (t : List ℕ) × (s ≡ c ++ t) × (i ≡ length c) × SyntaxAt c t

@@ -1,5 +1,5 @@
--- What reading from left to right gives, as a function on lists: the value and what is left, or the first fault.
--- Only contracts of private functions cite it. That it agrees with the grammar is proved in proofs/.
+-- Reading from left to right, as a function on lists. It gives the value and the bytes left, or the first fault. Only
+-- contracts of private functions cite this file. It agrees with the grammar, as proofs/ proves.
 use Rattle.std.specs.Prelude.{◌≡◌, ℕ, zero, suc, ◌/◌, ◌%◌, List, [], ◌∷◌, length, take, drop, Bool, true, false, not, Option, Some, None, Result, Ok, Err}
 use Rattle.std.specs.Prelude.{nat_lt, ◌==◌, if◌then◌else◌, pos, negsuc}
 use Rattle.std.specs.Int.{Width, w8, w16, w32, w64, from_be_bytes}
@@ -22,16 +22,17 @@ abbrev pub ◌>>=◌ : {A B : Type 0} → Result A Fault → (A → Result B Fau
 (Ok x) >>= f = f x
 (Err e) >>= f = Err e
 
--- What a function returned, seen by view, is what reading gives, unless memory ran out.
+-- The error is the fault of `read`, unless an allocation failed.
 abbrev pub FailsAs : {Y : Type 0} → ReadError → Result Y Fault → Type 0
 FailsAs errors.Memory read = Unit {0}
 FailsAs (errors.Fault f) read = read ≡ Err f
 
+-- A function returns, seen through `view`, the result of `read`, unless an allocation failed.
 abbrev pub Gives : {X Y : Type 0} → (X → Y) → Result X ReadError → Result Y Fault → Type 0
 Gives view (Ok x) read = read ≡ Ok (view x)
 Gives view (Err e) read = FailsAs e read
 
--- What a function that takes no memory returned, seen by view, is what reading gives.
+-- A function that allocates nothing returns, seen through `view`, the result of `read`.
 abbrev pub Answers : {X Y : Type 0} → (X → Y) → Result X Fault → Result Y Fault → Type 0
 Answers view (Ok x) read = read ≡ Ok (view x)
 Answers view (Err f) read = read ≡ Err f
@@ -39,14 +40,14 @@ Answers view (Err f) read = read ≡ Err f
 abbrev pub Parse : Type 0 → Type 0
 Parse A = List ℕ → Result (A × List ℕ) Fault
 
--- the major type of a number from 0 to 7
+-- The major type with a number from 0 to 7.
 abbrev pub major_type_of : ℕ → MajorType
 major_type_of n = if n == 0 then major_types.Unsigned else
     (if n == 1 then major_types.Negative else (if n == 2 then major_types.Bytes
     else (if n == 3 then major_types.Text else (if n == 4 then major_types.Array
     else (if n == 5 then major_types.Map else (if n == 6 then major_types.Tag else major_types.Simple))))))
 
--- the number of an argument, where there is one
+-- The number of an argument, or `None` if there is none.
 abbrev pub number_of : Argument → Option ℕ
 number_of (places.Within n) = Some n
 number_of (places.One n) = Some n
@@ -55,7 +56,7 @@ number_of (places.Four n) = Some n
 number_of (places.Eight n) = Some n
 number_of places.Indefinite = None
 
--- the argument whose number is n, by the low five bits of the first byte
+-- The argument whose number is n, by the additional information.
 abbrev pub argument_from : ℕ → ℕ → Argument
 argument_from info n =
     if nat_lt info 24 then places.Within n else
@@ -68,7 +69,7 @@ argument_from info n =
 abbrev pub head_from : Head → HeadView
 head_from s = record { major_type = s.major_type; argument = argument_from s.info s.number }
 
--- a number in k bytes
+-- An argument of k bytes.
 abbrev pub argument_at : (ℕ → Argument) → Width → ℕ → Parse Argument
 argument_at place w k s = if nat_lt (length s) k then Err End else Ok (place (from_be_bytes w (take k s)), drop k s)
 
@@ -96,7 +97,7 @@ abbrev pub unless_none : {A : Type 0} → ℕ → Option ℕ → (ℕ → Result
 unless_none left None read = Err (Syntax left)
 unless_none left (Some n) read = read n
 
--- n bytes, which are text where is_text says so; left is what was left at the head
+-- The next n bytes, which must be UTF-8 if `is_text` is true. `left` counts the bytes from the start of the head.
 unfoldable pub string_at : Bool → ℕ → ℕ → Parse (List ℕ)
 string_at is_text left n s = if nat_lt (length s) n then Err End
     else (if is_string_content is_text (take n s) then Ok (take n s, drop n s) else Err (Syntax left))
@@ -114,24 +115,24 @@ begins_chunk is_text major_types.Simple = false
 abbrev pub unless_indefinite : {A : Type 0} → ℕ → Argument → (ℕ → Result A Fault) → Result A Fault
 unless_indefinite left a read = unless_none left (number_of a) read
 
--- a definite string of the type that the flag says
+-- A definite-length string of the type that `is_text` selects.
 unfoldable pub chunk_at : Bool → Parse (List ℕ)
 chunk_at is_text s = head_at s >>= λ h.
     if begins_chunk is_text h.0.major_type then unless_indefinite (length s) h.0.argument (λ n. string_at is_text (length s) n h.1) else Err (Syntax (length s))
 
--- ---- one after the other
+-- ---- repetition
 
--- the break is at the front
+-- The break is at the start.
 abbrev pub begins_break : List ℕ → Bool
 begins_break [] = false
 begins_break (x ∷ s) = x == 255
 
--- n of them
+-- Reads n times.
 unfoldable pub times_at : {A : Type 0} → Parse A → ℕ → Parse (List A)
 times_at one zero s = Ok ([], s)
 times_at one (suc n) s = one s >>= λ x. times_at one n x.1 >>= λ xs. Ok (x.0 ∷ xs.0, xs.1)
 
--- Up to the break. The number bounds the turns; the count of the bytes is always enough.
+-- Reads up to the break. `turns` bounds the repetitions. The number of bytes is always enough.
 unfoldable pub until_at : {A : Type 0} → Parse A → ℕ → Parse (List A)
 until_at one zero s = Err End
 until_at one (suc turns) s = if begins_break s then Ok ([], drop 1 s) else
@@ -144,7 +145,7 @@ abbrev pub any_string_by : Bool → ℕ → Option ℕ → Parse (List ℕ)
 any_string_by is_text left None s = chunks_at is_text s
 any_string_by is_text left (Some n) s = string_at is_text left n s
 
--- ---- what nests
+-- ---- enclosed items
 
 abbrev pub pair_at : Parse Item → Parse (Item × Item)
 pair_at one s = one s >>= λ k. one k.1 >>= λ v. Ok ((k.0, v.0), v.1)
@@ -168,7 +169,7 @@ simple_at left (places.Four n) s = Ok (float (single n), s)
 simple_at left (places.Eight n) s = Ok (float (double n), s)
 simple_at left places.Indefinite s = Err (Syntax left)
 
--- readers of what is inside
+-- Readers of enclosed items: an array's elements, a map's pairs, or a tag's item.
 pub record Inside : Type 0 where
   pub items : Option ℕ → Parse (List Item)
   pub pairs : Option ℕ → Parse (List (Item × Item))
@@ -180,7 +181,7 @@ nothing = record { items = λ n s. Err Deep; pairs = λ n s. Err Deep; one = λ 
 unfoldable pub things : Parse Item → Inside
 things one = record { items = array_by one; pairs = map_by one; one = one }
 
--- by the major type; left is what was left at the head
+-- Reads an item after its head, by the major type. `left` counts the bytes from the start of the head.
 abbrev pub item_by : Inside → ℕ → Argument → MajorType → Parse Item
 item_by inside left a major_types.Unsigned s = unless_indefinite left a (λ n. Ok (integer (pos n), s))
 item_by inside left a major_types.Negative s = unless_indefinite left a (λ n. Ok (integer (negsuc n), s))
@@ -194,7 +195,7 @@ item_by inside left a major_types.Simple s = simple_at left a s
 abbrev pub item_from : Inside → Parse Item
 item_from inside s = head_at s >>= λ h. item_by inside (length s) h.0.argument h.0.major_type h.1
 
--- an item in which arrays, maps and tags nest no deeper than the number
+-- Reads an item in which arrays, maps and tags nest at most that many levels deep.
 unfoldable pub item_at : ℕ → Parse Item
 item_at zero s = item_from nothing s
 item_at (suc d) s = item_from (things (item_at d)) s

@@ -1,4 +1,4 @@
--- Items that hold no other bytes: integers, floats and simple values.
+-- Items that a head encodes alone: integers, floats and simple values.
 use Rattle.std.specs.Prelude.{ℕ, ℤ, List, Option, Some, None, Result, Ok, Err, option_map, pos, negsuc}
 use Rattle.coset_value.specs.Item.{Bits, Item, integer, bytes, float, text, boolean, null, tag, array, dict}
 use Rattle.coset_cbor.specs.declared.fault.Fault.{Fault}
@@ -7,7 +7,7 @@ use Rattle.coset_cbor.specs.declared.head.MajorType.TheVariants as major_types
 use Rattle.coset_cbor.specs.Heads.{Argument}
 use Rattle.coset_cbor.specs.Reading.{number_of, simple_at}
 
--- the item, where it is such
+-- The item, if it is one of these.
 abbrev pub as_scalar : Item → Option Item
 as_scalar (integer n) = Some (integer n)
 as_scalar (bytes s) = None
@@ -19,18 +19,18 @@ as_scalar (tag t v) = None
 as_scalar (array vs) = None
 as_scalar (dict ps) = None
 
--- the width and the bits of a float
+-- The width and the bits of a float.
 abbrev pub as_float : Item → Option Bits
 as_float (float x) = Some x
 as_float v = None
 
--- Only contracts of private functions cite what follows.
+-- Only contracts of private functions cite the rest of this file.
 
 abbrev pub read_of : Result (Item × List ℕ) Fault → Option Item
 read_of (Ok x) = Some x.0
 read_of (Err f) = None
 
--- what a head says of such an item
+-- The integer, float or simple value that a head encodes, or `None`.
 abbrev pub scalar_by : ℕ → Argument → MajorType → List ℕ → Option Item
 scalar_by left a major_types.Unsigned s = option_map (λ n. integer (pos n)) (number_of a)
 scalar_by left a major_types.Negative s = option_map (λ n. integer (negsuc n)) (number_of a)
@@ -41,7 +41,7 @@ scalar_by left a major_types.Map s = None
 scalar_by left a major_types.Tag s = None
 scalar_by left a major_types.Simple s = read_of (simple_at left a s)
 
--- the number of an integer's head
+-- The number of an integer, from its head.
 abbrev pub integer_by : Option ℕ → MajorType → Option ℤ
 integer_by o major_types.Unsigned = option_map (λ n. pos n) o
 integer_by o major_types.Negative = option_map (λ n. negsuc n) o
@@ -52,7 +52,7 @@ integer_by o major_types.Map = None
 integer_by o major_types.Tag = None
 integer_by o major_types.Simple = None
 
--- the number of a tag's head
+-- The number of a tag, from its head.
 abbrev pub tag_by : Argument → MajorType → Option ℕ
 tag_by a major_types.Unsigned = None
 tag_by a major_types.Negative = None

@@ -1,4 +1,4 @@
--- Skipping items that are known to be there. Only contracts of private functions cite it.
+-- Skipping items that are known to be there. Only contracts of private functions cite this file.
 use Rattle.std.specs.Prelude.{◌≡◌, ℕ, zero, suc, ◌+◌, List, ◌++◌, Ok, pos, negsuc}
 use Rattle.coset_value.specs.Item.{Item, integer, bytes, float, text, boolean, null, tag, array, dict}
 use Rattle.coset_cbor.specs.declared.head.MajorType.{MajorType}
@@ -6,12 +6,12 @@ use Rattle.coset_cbor.specs.declared.head.MajorType.TheVariants as major_types
 use Rattle.coset_cbor.specs.Grammar.{IsItem}
 use Rattle.coset_cbor.specs.Reading.{item_at}
 
--- n items are at the front of s, and a is what follows them
+-- n items are at the start of s, and a follows them.
 unfoldable pub IsPast : ℕ → List ℕ → List ℕ → Type 0
 IsPast zero s a = s ≡ a
 IsPast (suc n) s a = (x : Item × List ℕ) × (item_at 256 s ≡ Ok x) × IsPast n x.1 a
 
--- how many items a head of that major type with that number announces
+-- How many items a head of that major type and number announces.
 abbrev pub items_behind : MajorType → ℕ → ℕ
 items_behind major_types.Unsigned n = 0
 items_behind major_types.Negative n = 0
@@ -22,7 +22,7 @@ items_behind major_types.Map n = n + n
 items_behind major_types.Tag n = 1
 items_behind major_types.Simple n = 0
 
--- how many bytes of content
+-- How many bytes of content a head of that major type and number announces.
 abbrev pub bytes_behind : MajorType → ℕ → ℕ
 bytes_behind major_types.Unsigned n = 0
 bytes_behind major_types.Negative n = 0
@@ -33,7 +33,7 @@ bytes_behind major_types.Map n = 0
 bytes_behind major_types.Tag n = 0
 bytes_behind major_types.Simple n = 0
 
--- an item is at the front
+-- An item is at the start of b.
 pub record BeginsItem (b : List ℕ) : Type 0 where
   pub item : Item
   pub front : List ℕ
@@ -41,7 +41,7 @@ pub record BeginsItem (b : List ℕ) : Type 0 where
   pub parts : b ≡ front ++ rest
   pub is_item : IsItem front item
 
--- the kind of head that an item begins with
+-- The major type of the head with which an item begins.
 abbrev pub item_major_type : Item → MajorType
 item_major_type (integer (pos n)) = major_types.Unsigned
 item_major_type (integer (negsuc n)) = major_types.Negative

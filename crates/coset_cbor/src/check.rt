@@ -1,4 +1,4 @@
-//! Skipping items without making values of them: the check.
+//! The check: skips an item without making a value of it.
 
 ghost use Rattle.std.specs.Prelude.{◌≡◌, ◌+◌, length, drop, true, false, MatchOption};
 ghost use Rattle.coset_cbor.specs.Reading.{Answers, head_at, begins_break, string_at, chunk_at, begins_chunk, any_string_by, simple_at, argument_from, head_from, times_at, until_at, pair_at, array_by, map_by, item_at};
@@ -10,7 +10,7 @@ use crate::steps::Steps;
 use crate::string::{after_break, bytes_at, is_text};
 use std::sync::ledger::Ledger;
 
-/// The head at the front and the bytes after it. It is a step.
+/// Reads the head at the start and counts one step. Returns the head and the bytes after it.
 #[inline(always)]
 fn start<'a, L: Ledger>(bytes: &'a [u8], steps: &mut Steps<L>) -> Result<(Head, &'a [u8]), Fault>
     ensures head { Answers (λ x. (head_from x.0, x.1.now)) result (head_at bytes.now) }
@@ -21,7 +21,8 @@ fn start<'a, L: Ledger>(bytes: &'a [u8], steps: &mut Steps<L>) -> Result<(Head, 
     Ok(found)
 }
 
-/// What follows the break, where it is at the front. It is a step.
+/// Returns the bytes after the break and counts one step, or returns `None` if the break is not at
+/// the start.
 #[inline(always)]
 fn past_break<'a, L: Ledger>(bytes: &'a [u8], steps: &mut Steps<L>) -> Option<&'a [u8]>
     ensures { MatchOption result ((begins_break bytes.now ≡ false) × (steps.new ≡ steps.old))
@@ -33,7 +34,7 @@ fn past_break<'a, L: Ledger>(bytes: &'a [u8], steps: &mut Steps<L>) -> Option<&'
     Some(rest)
 }
 
-/// Passes the content of a definite byte string.
+/// Skips the content of a definite-length byte string.
 #[tactic(auto, unfolding(crate::specs::Reading::string_at))]
 #[inline(always)]
 fn byte_content(left: usize, count: u64, bytes: &[u8]) -> Result<&[u8], Fault>
@@ -43,7 +44,7 @@ fn byte_content(left: usize, count: u64, bytes: &[u8]) -> Result<&[u8], Fault>
     Ok(rest)
 }
 
-/// Passes the content of a definite text string, a step for each byte.
+/// Checks and skips the content of a definite-length text string. Each byte is a step.
 #[tactic(auto, unfolding(crate::specs::Reading::string_at, crate::specs::Counting::content_steps))]
 #[inline(always)]
 fn text_content<'a, L: Ledger>(
@@ -68,7 +69,7 @@ fn text_content<'a, L: Ledger>(
     Ok(rest)
 }
 
-/// Passes the content of a definite string.
+/// Skips the content of a definite-length string.
 #[inline(always)]
 fn content<'a, L: Ledger>(
     is_text: bool,
@@ -87,7 +88,7 @@ fn content<'a, L: Ledger>(
     }
 }
 
-/// Whether a head of this major type begins a chunk of the string.
+/// Returns true if a head of this major type begins a chunk of the string.
 #[inline(always)]
 pub(crate) fn begins_chunk(is_text: bool, major_type: MajorType) -> bool
     ensures { result ≡ begins_chunk is_text major_type }
@@ -99,7 +100,7 @@ pub(crate) fn begins_chunk(is_text: bool, major_type: MajorType) -> bool
     }
 }
 
-/// Passes a chunk: a definite string.
+/// Skips a chunk, which is a definite-length string.
 #[tactic(auto, unfolding(crate::specs::Reading::chunk_at, crate::specs::Counting::chunk_steps))]
 fn chunk<'a, L: Ledger>(
     is_text: bool,
@@ -119,7 +120,7 @@ fn chunk<'a, L: Ledger>(
     }
 }
 
-/// Passes chunks up to the break.
+/// Skips chunks and the break after them.
 #[inline(always)]
 fn chunks_here<'a, L: Ledger>(
     is_text: bool,
@@ -140,8 +141,8 @@ fn chunks_here<'a, L: Ledger>(
     Err(Fault::End)
 }
 
-/// Passes chunks up to the break, by a function apart: it returns in registers, and says by `fault` whether what it
-/// answers is to be used.
+/// Skips chunks and the break after them, out of line. A fault goes into `fault`, so the result
+/// fits in registers. The returned bytes are valid only if `fault` is `None`.
 #[inline(never)]
 fn chunks_apart<'a, L: Ledger>(
     is_text: bool,
@@ -166,7 +167,7 @@ fn chunks_apart<'a, L: Ledger>(
     }
 }
 
-/// Passes chunks up to the break.
+/// Skips chunks and the break after them.
 #[inline(always)]
 fn chunks<'a, L: Ledger>(
     is_text: bool,
@@ -185,7 +186,7 @@ fn chunks<'a, L: Ledger>(
     }
 }
 
-/// Passes a string of that many bytes, or in chunks where no length is announced.
+/// Skips the content of a string: `count` bytes, or chunks if `count` is `None`.
 #[inline(always)]
 fn string<'a, L: Ledger>(
     is_text: bool,
@@ -203,7 +204,8 @@ fn string<'a, L: Ledger>(
     }
 }
 
-/// Passes what follows the head of a simple value or a float.
+/// Returns the bytes after `false`, `true`, `null` or a float. Any other simple value is a fault,
+/// and so is the break.
 #[inline(always)]
 fn simple_value(left: usize, info: u8, number: u64, bytes: &[u8]) -> Result<&[u8], Fault>
     ensures { Passes result (simple_at left (argument_from info number) bytes.now) }
@@ -271,8 +273,8 @@ pub(crate) fn item<'a, L: Ledger>(
     }
 }
 
-/// Skips the item that a tag encloses, by a function apart: it returns in registers, and says by `fault` whether
-/// what it answers is to be used.
+/// Skips the item that a tag encloses, out of line. A fault goes into `fault`, so the result fits
+/// in registers. The returned bytes are valid only if `fault` is `None`.
 #[cycle(check)]
 #[inline(never)]
 fn enclosed_item_apart<'a, L: Ledger>(
@@ -315,8 +317,9 @@ fn enclosed_item<'a, L: Ledger>(
     }
 }
 
-/// Skips the elements of an array of that many, or up to the break where no number is announced, by a function
-/// apart: it returns in registers, and says by `fault` whether what it answers is to be used.
+/// Skips the elements of an array, out of line: `count` of them, or those up to the break if
+/// `count` is `None`. A fault goes into `fault`, so the result fits in registers. The returned
+/// bytes are valid only if `fault` is `None`.
 #[cycle(check)]
 #[inline(never)]
 fn array_apart<'a, L: Ledger>(
@@ -342,7 +345,7 @@ fn array_apart<'a, L: Ledger>(
     }
 }
 
-/// Skips the elements of an array of that many, or up to the break where no number is announced.
+/// Skips the elements of an array: `count` of them, or those up to the break if `count` is `None`.
 #[cycle(check)]
 #[inline(always)]
 fn array<'a, L: Ledger>(
@@ -363,8 +366,9 @@ fn array<'a, L: Ledger>(
     }
 }
 
-/// Passes the pairs of a map of that many, or up to the break where no number is announced, by a function apart: it
-/// returns in registers, and says by `fault` whether what it answers is to be used.
+/// Skips the pairs of a map, out of line: `count` of them, or those up to the break if `count` is
+/// `None`. A fault goes into `fault`, so the result fits in registers. The returned bytes are valid
+/// only if `fault` is `None`.
 #[cycle(check)]
 #[inline(never)]
 fn map_apart<'a, L: Ledger>(
@@ -390,7 +394,7 @@ fn map_apart<'a, L: Ledger>(
     }
 }
 
-/// Passes the pairs of a map of that many, or up to the break where no number is announced.
+/// Skips the pairs of a map: `count` of them, or those up to the break if `count` is `None`.
 #[cycle(check)]
 #[inline(always)]
 fn map<'a, L: Ledger>(
@@ -411,7 +415,7 @@ fn map<'a, L: Ledger>(
     }
 }
 
-/// Skips the elements of an array of that many, or up to the break where no number is announced.
+/// Skips the elements of an array: `count` of them, or those up to the break if `count` is `None`.
 #[cycle(check)]
 #[inline(always)]
 fn array_here<'a, L: Ledger>(
@@ -431,7 +435,7 @@ fn array_here<'a, L: Ledger>(
     }
 }
 
-/// Passes the pairs of a map of that many, or up to the break where no number is announced.
+/// Skips the pairs of a map: `count` of them, or those up to the break if `count` is `None`.
 #[cycle(check)]
 #[inline(always)]
 fn map_here<'a, L: Ledger>(
@@ -451,7 +455,7 @@ fn map_here<'a, L: Ledger>(
     }
 }
 
-/// Passes that many items.
+/// Skips `count` items.
 #[cycle(check)]
 #[inline(always)]
 fn items<'a, L: Ledger>(
@@ -471,7 +475,7 @@ fn items<'a, L: Ledger>(
     Ok(rest)
 }
 
-/// Passes items up to the break.
+/// Skips items and the break after them.
 #[cycle(check)]
 #[inline(never)]
 fn items_until<'a, L: Ledger>(
@@ -493,7 +497,7 @@ fn items_until<'a, L: Ledger>(
     Err(Fault::End)
 }
 
-/// Passes a key and its value.
+/// Skips a key and its value.
 #[cycle(check)]
 #[inline(always)]
 fn pair<'a, L: Ledger>(bytes: &'a [u8], depth: u32, steps: &mut Steps<L>) -> Result<&'a [u8], Fault>
@@ -505,7 +509,7 @@ fn pair<'a, L: Ledger>(bytes: &'a [u8], depth: u32, steps: &mut Steps<L>) -> Res
     item(rest, depth, steps)
 }
 
-/// Passes that many pairs.
+/// Skips `count` pairs.
 #[cycle(check)]
 #[inline(always)]
 fn pairs<'a, L: Ledger>(
@@ -526,7 +530,7 @@ fn pairs<'a, L: Ledger>(
     Ok(rest)
 }
 
-/// Passes pairs up to the break.
+/// Skips pairs and the break after them.
 #[cycle(check)]
 #[inline(never)]
 fn pairs_until<'a, L: Ledger>(

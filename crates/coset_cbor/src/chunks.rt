@@ -1,4 +1,4 @@
-//! The chunks of a lent string (RFC 8949, section 3.2.3).
+//! The chunks of a borrowed string (RFC 8949, section 3.2.3).
 
 ghost use Rattle.std.specs.Prelude.{◌≡◌, ◌≤◌, true, false, length, None, MatchOption};
 ghost use Rattle.coset_cbor.specs.Grammar.{joined_chunks};
@@ -10,7 +10,8 @@ use crate::head::head_of;
 use crate::pull::Pull;
 use crate::string::{byte_chunk, text_chunk};
 
-/// The contents of the chunks of a lent byte string, in order (RFC 8949, section 3.2.3). It takes no memory.
+/// An iterator over the contents of a byte string's chunks, in order (RFC 8949, section 3.2.3).
+/// Each is borrowed, and iterating allocates nothing.
 #[derive(Clone, Copy, Debug)]
 pub struct ByteChunks<'a> {
     bytes: &'a [u8],
@@ -18,8 +19,8 @@ pub struct ByteChunks<'a> {
     ghost counted: { length (chunk_contents false bytes.now) ≤ length bytes.now },
 }
 
-/// The contents of the chunks of a lent text string, in order: each is UTF-8 by itself (RFC 8949, section 3.2.3). It
-/// takes no memory.
+/// An iterator over the contents of a text string's chunks, in order (RFC 8949, section 3.2.3).
+/// Each is borrowed and is UTF-8 by itself. Iterating allocates nothing.
 #[derive(Clone, Copy, Debug)]
 pub struct TextChunks<'a> {
     bytes: &'a [u8],
@@ -27,8 +28,8 @@ pub struct TextChunks<'a> {
     ghost counted: { length (chunk_contents true bytes.now) ≤ length bytes.now },
 }
 
-/// The chunks of the string that these bytes are, if they are one of the type that the flag says. Where its length is
-/// announced, the string is itself a chunk.
+/// Returns the bytes of a string's chunks, or `None` if the item is no string of the type that
+/// `is_text` selects. A definite-length string is its own only chunk.
 fn chunks_of(is_text: bool, bytes: &[u8]) -> Option<&[u8]>
     requires { is_one_item bytes.now ≡ true }
     ensures { MatchOption result (as_string is_text (item_of bytes.now) ≡ None)
@@ -56,8 +57,8 @@ impl<'a> Pull<'a> {
     ghost use Rattle.coset_cbor.specs.Pulls.{pull_bytes, pull_item};
     ghost use Rattle.coset_cbor.specs.Chunks.{chunks_bytes, chunks_left, text_chunks_bytes, text_chunks_left};
 
-    /// The chunks of a byte string; `None` of any other item. A string whose length is announced is one chunk, also
-    /// an empty one.
+    /// Returns the chunks of a byte string, or `None` for any other item. A definite-length string
+    /// is one chunk, even if it is empty.
     pub fn bytes_chunks(&self) -> Option<ByteChunks<'a>>
         ensures whole { option_map (λ c. joined_chunks (chunks_left c)) result
             ≡ as_bytes (pull_item self.now) }
@@ -70,8 +71,8 @@ impl<'a> Pull<'a> {
         Some(ByteChunks { bytes })
     }
 
-    /// The chunks of a text string; `None` of any other item. A text string whose length is announced is one chunk,
-    /// also an empty one.
+    /// Returns the chunks of a text string, or `None` for any other item. A definite-length string
+    /// is one chunk, even if it is empty.
     pub fn text_chunks(&self) -> Option<TextChunks<'a>>
         ensures whole { option_map (λ c. joined_chunks (text_chunks_left c)) result
             ≡ as_text (pull_item self.now) }
@@ -95,7 +96,7 @@ impl<'a> Iterator for ByteChunks<'a> {
 
     ghost remaining = { item_count chunks_left };
 
-    /// The content of the next chunk.
+    /// Returns the content of the next chunk, or `None` after the last.
     fn next(&mut self) -> Option<&'a [u8]> {
         let Ok((chunk, rest)) = byte_chunk(self.bytes) else {
             return None;
@@ -115,7 +116,7 @@ impl<'a> Iterator for TextChunks<'a> {
 
     ghost remaining = { item_count text_chunks_left };
 
-    /// The content of the next chunk.
+    /// Returns the content of the next chunk, or `None` after the last.
     fn next(&mut self) -> Option<&'a str> {
         let Ok((chunk, rest)) = text_chunk(self.bytes) else {
             return None;

@@ -1,6 +1,6 @@
-//! Reading forward: a place in bytes of which an item is known to be at the front. Whoever reads that item
-//! leaves the
-//! place just behind it, so that nobody has to skip it to find its end.
+//! Reading forward: a cursor in bytes, at the start of an item that was checked. Each call that
+//! reads the item leaves the cursor just after it. So no caller has to skip the item to find its
+//! end.
 
 ghost use Rattle.std.specs.Prelude.{◌≡◌, ◌≤◌, ◌<◌, [], List, ℕ, is_some, Some, length, IfErr, IfOk, IfSome, IsOkAnd, IsTrue, OnErr, OnOk, MatchOption};
 ghost use Rattle.coset_value.specs.Item.{Item, Items, no_items};
@@ -18,20 +18,23 @@ use crate::pull::Pull;
 use crate::skip::skip_checked;
 use crate::string::after_break;
 
-/// A place in bytes.
+/// A position in bytes.
+///
+/// Most calls promise their result only if an item within 256 levels is at the position, as in
+/// bytes that were checked.
 #[derive(Clone, Copy, Debug)]
 pub struct Cursor<'a> {
     pub(crate) rest: &'a [u8],
 }
 
-/// The items that an array or a map has still to give, of a map each key and then its value: how many, or those up to
-/// the break.
+/// The items of an array or map that are still to be read. In a map, each key and each value is one
+/// item. Either the number of items is known, or they end at the break.
 #[derive(Clone, Copy, Debug)]
 pub struct Remaining {
     left: Option<u64>,
 }
 
-/// What follows the item known to be at the front.
+/// Returns the bytes after the item known to be at the start.
 fn past(bytes: &[u8]) -> &[u8]
     ensures { (v : Item) (a : List ℕ) → ItemAt v bytes.now a
         → (result.now ≡ a) × (length a < length bytes.now) }
@@ -45,7 +48,7 @@ fn past(bytes: &[u8]) -> &[u8]
     }
 }
 
-/// The item known to be at the front, lent, and what follows it.
+/// Checks the item at the start. Returns it, borrowed, and the bytes after it.
 fn front(bytes: &[u8]) -> Result<(Pull<'_>, &[u8]), Error<EndOfFile>>
     ensures strictly { IfOk result (λ x. length x.1.now < length bytes.now) }
     ensures lends { IfOk result (λ x. BeginsWith bytes.now x.0 x.1.now) }
@@ -61,7 +64,8 @@ fn front(bytes: &[u8]) -> Result<(Pull<'_>, &[u8]), Error<EndOfFile>>
     }
 }
 
-/// Where the elements of the array begin that is at the front; `None` of another item.
+/// Returns the elements of the array at the start, and the bytes after its head. Returns `None` for
+/// any other item.
 fn array_item(bytes: &[u8]) -> Option<(Remaining, &[u8])>
     ensures strictly { IfSome result (λ x. length x.1.now < length bytes.now) }
     ensures enters { (v : Item) (a : List ℕ) → ItemAt v bytes.now a
@@ -79,7 +83,7 @@ fn array_item(bytes: &[u8]) -> Option<(Remaining, &[u8])>
     }
 }
 
-/// The major type of the item known to be at the front.
+/// Returns the major type of the item known to be at the start.
 fn major_type_of(bytes: &[u8]) -> Option<MajorType>
     ensures { (v : Item) (a : List ℕ) → ItemAt v bytes.now a → result ≡ Some (item_major_type v) }
 {
@@ -89,7 +93,7 @@ fn major_type_of(bytes: &[u8]) -> Option<MajorType>
     }
 }
 
-/// How many items as many pairs are.
+/// Returns the number of items in that many pairs, or `u64::MAX` if there are more.
 fn doubled(pairs: Option<u64>) -> Option<u64>
     ensures { Doubles pairs result }
 {
@@ -99,7 +103,8 @@ fn doubled(pairs: Option<u64>) -> Option<u64>
     }
 }
 
-/// Where the keys and values of the map begin that is at the front; `None` of another item.
+/// Returns the keys and values of the map at the start, and the bytes after its head. Returns
+/// `None` for any other item.
 fn map_item(bytes: &[u8]) -> Option<(Remaining, &[u8])>
     ensures strictly { IfSome result (λ x. length x.1.now < length bytes.now) }
     ensures enters { (v : Item) (a : List ℕ) → ItemAt v bytes.now a
@@ -118,7 +123,7 @@ fn map_item(bytes: &[u8]) -> Option<(Remaining, &[u8])>
 }
 
 impl<'a> Cursor<'a> {
-    /// The front of the bytes.
+    /// Returns a cursor at the start of `bytes`.
     pub fn new(bytes: &'a [u8]) -> Cursor<'a>
         ensures left { bytes_left result ≡ bytes.now }
         ensures whole { (v : Item) → IsItem bytes.now v → ItemAt v (bytes_left result) [] }
@@ -126,7 +131,7 @@ impl<'a> Cursor<'a> {
         Cursor { rest: bytes }
     }
 
-    /// Whether the item is a byte string, by its head alone.
+    /// Returns true if the item is a byte string. Only its head is read.
     pub fn is_bytes(&self) -> bool
         ensures { (v : Item) (a : List ℕ) → ItemAt v (bytes_left self.now) a
             → result ≡ is_some (as_bytes v) }
@@ -134,7 +139,7 @@ impl<'a> Cursor<'a> {
         major_type_of(self.rest) == Some(MajorType::Bytes)
     }
 
-    /// Whether the item is an array, by its head alone.
+    /// Returns true if the item is an array. Only its head is read.
     pub fn is_array(&self) -> bool
         ensures { (v : Item) (a : List ℕ) → ItemAt v (bytes_left self.now) a
             → result ≡ is_some (as_array v) }
@@ -142,7 +147,7 @@ impl<'a> Cursor<'a> {
         major_type_of(self.rest) == Some(MajorType::Array)
     }
 
-    /// Goes there, if that is farther on.
+    /// Moves to `rest` if that is shorter than the remaining input.
     fn go(&mut self, rest: &'a [u8])
         ensures shrinks { length (bytes_left self.new) ≤ length (bytes_left self.old) }
         ensures there { length rest.now < length (bytes_left self.old)
@@ -153,7 +158,7 @@ impl<'a> Cursor<'a> {
         }
     }
 
-    /// Skips the item. It takes no memory.
+    /// Skips the item. Allocates nothing.
     pub fn skip(&mut self)
         ensures shrinks { length (bytes_left self.new) ≤ length (bytes_left self.old) }
         ensures passes { (v : Item) (a : List ℕ) → ItemAt v (bytes_left self.old) a
@@ -162,21 +167,22 @@ impl<'a> Cursor<'a> {
         self.go(past(self.rest));
     }
 
-    /// The item, lent, and goes behind it. It takes no memory.
+    /// Returns the item, borrowed, and moves just after it. Allocates nothing.
     ///
     /// # Errors
-    /// The same as [`check`](crate::de::check), where no item is there; the place is then as before.
+    /// The errors of [`check`](crate::de::check) if no item is at the position, which is then
+    /// unchanged.
     pub fn take(&mut self) -> Result<Pull<'a>, Error<EndOfFile>>
         ensures shrinks { length (bytes_left self.new) ≤ length (bytes_left self.old) }
         ensures strictly { OnOk result (length (bytes_left self.new)
             < length (bytes_left self.old)) }
-        // What is lent are the bytes up to the new place.
+        // The returned item is the bytes up to the new position.
         ensures lends { IfOk result (λ p. BeginsWith (bytes_left self.old) p
             (bytes_left self.new)) }
         ensures stays { OnErr result (bytes_left self.new ≡ bytes_left self.old) }
         ensures refused { IfErr result (λ e. HasNoItem (bytes_left self.old)) }
         ensures memory { IfErr result (λ e. IsMemory e → ⊥) }
-        // The fault is in the bytes from the place on, at the offset that it carries.
+        // The fault is in the remaining input, at the error's offset if it has one.
         ensures fault { IfErr result (λ e. FaultIn (bytes_left self.old) e) }
         ensures passes { (v : Item) (a : List ℕ) → ItemAt v (bytes_left self.old) a
             → (bytes_left self.new ≡ a) × IsOkAnd result (λ p. pull_item p ≡ v) }
@@ -186,7 +192,8 @@ impl<'a> Cursor<'a> {
         Ok(pull)
     }
 
-    /// Goes to the first element of an array; at another item it stays.
+    /// Enters an array: moves to its first element and returns the elements to be read. Returns
+    /// `None` for any other item; the position is then unchanged.
     pub fn array(&mut self) -> Option<Remaining>
         ensures shrinks { length (bytes_left self.new) ≤ length (bytes_left self.old) }
         ensures strictly { IfSome result (λ _. length (bytes_left self.new)
@@ -200,7 +207,8 @@ impl<'a> Cursor<'a> {
         Some(places)
     }
 
-    /// Goes to the first key of a map; at another item it stays.
+    /// Enters a map: moves to its first key and returns the keys and values to be read. Returns
+    /// `None` for any other item; the position is then unchanged.
     pub fn map(&mut self) -> Option<Remaining>
         ensures shrinks { length (bytes_left self.new) ≤ length (bytes_left self.old) }
         ensures strictly { IfSome result (λ _. length (bytes_left self.new)
@@ -215,7 +223,7 @@ impl<'a> Cursor<'a> {
         Some(places)
     }
 
-    /// Skips the break, where no length was announced.
+    /// Skips the break if the length is indefinite.
     fn close(&mut self, places: Remaining)
         ensures shrinks { length (bytes_left self.new) ≤ length (bytes_left self.old) }
         ensures passes { (a : List ℕ) → AreWithin places no_items (bytes_left self.old) a
@@ -233,7 +241,7 @@ impl<'a> Cursor<'a> {
 }
 
 impl Remaining {
-    /// Whether one more item is at the place, which is to be read next.
+    /// Returns true if another item is at `cursor`. The caller must read or skip that item next.
     pub fn next(&mut self, cursor: &Cursor<'_>) -> bool
         ensures { (vs : Items) (a : List ℕ) → AreWithin self.old vs (bytes_left cursor.now) a
             → Nexts vs (bytes_left cursor.now) a self.new result }
@@ -251,14 +259,14 @@ impl Remaining {
         }
     }
 
-    /// Nothing remains.
+    /// Returns a `Remaining` without items.
     pub fn none() -> Remaining
         ensures { (s : List ℕ) → AreWithin result no_items s s }
     {
         Remaining { left: Some(0) }
     }
 
-    /// Skips the items that are left, and the break.
+    /// Skips the items that are left, and the break if there is one.
     pub fn finish(self, cursor: &mut Cursor<'_>)
         ensures shrinks { length (bytes_left cursor.new) ≤ length (bytes_left cursor.old) }
         ensures passes { (vs : Items) (a : List ℕ) → AreWithin self vs (bytes_left cursor.old) a

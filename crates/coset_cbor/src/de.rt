@@ -1,4 +1,4 @@
-//! Reading a value from bytes (RFC 8949, section 3 and appendix C).
+//! Decodes values from bytes (RFC 8949, section 3 and appendix C).
 
 ghost use Rattle.std.specs.Prelude.{◌≡◌, ◌≤◌, ◌+◌, ◌++◌, List, Some, ℕ, codes, take, length, IfOk, IfErr, MatchOption};
 ghost use Rattle.coset_value.specs.Item.{Item};
@@ -23,10 +23,10 @@ use std::marker::Brand;
 use std::sync::ledger::{Blank, Ledger};
 use std::{error, fmt};
 
-/// How deep arrays, maps and tags may nest in what is read.
+/// How many levels of arrays, maps and tags the input may nest.
 pub(crate) const MAX_DEPTH: u32 = 256;
 
-/// The input ends where more is due.
+/// The input ends before the item does.
 #[derive(Clone, Copy, Debug, PartialEq, Eq)]
 pub struct EndOfFile;
 
@@ -40,18 +40,19 @@ impl fmt::Display for EndOfFile {
 
 impl error::Error for EndOfFile {}
 
-/// Why bytes were not read. A number is the offset of the first byte of the head that is at fault.
+/// Why bytes could not be decoded. A number is the offset of the faulty head's first byte.
 #[derive(Debug, Drop)]
 pub enum Error<T> {
-    /// The input ends too early, or a head announces more than is left.
+    /// The input ends too early, or a head announces more than the remaining input can contain.
     Io(T),
     /// The bytes are not well-formed (RFC 8949, section 5.3), or a text string is not UTF-8.
     Syntax(usize),
-    /// The item is well-formed and has no place in `Value`: a simple value other than false, true and null.
+    /// The item is well-formed, but `Value` has no variant for it: a simple value other than false,
+    /// true and null.
     Semantic(Option<usize>, &'static str),
     /// Arrays, maps and tags nest more than 256 levels deep.
     RecursionLimitExceeded,
-    /// A request for memory was refused.
+    /// An allocation failed.
     OutOfMemory,
 }
 
@@ -73,7 +74,7 @@ impl<T> From<OutOfMemory> for Error<T> {
     }
 }
 
-/// The error that a fault is in an input of `len` bytes.
+/// Returns the error for a fault in an input of `len` bytes.
 pub(crate) fn error_of(fault: Fault, len: usize) -> Error<EndOfFile>
     ensures other { IsMemory result → ⊥ }
     ensures stands { (s : List ℕ) → length s ≡ len → FaultAt 256 s fault → FaultIn s result }
@@ -88,24 +89,26 @@ pub(crate) fn error_of(fault: Fault, len: usize) -> Error<EndOfFile>
     }
 }
 
-/// Checks that an item is at the front of the bytes, and returns its length. It makes no value and takes no
-/// memory, and goes over the bytes once; those of a byte string it skips.
+/// Checks the item at the start of `bytes` and returns its length.
 ///
-/// The steps go up by what the item costs: one for each head of an item or a chunk and each closing break, and one
-/// for each byte of the content of a text string. Refused or not, they go up by no more than there are bytes.
+/// Makes no value and allocates nothing. Passes over the bytes once, and skips those of byte
+/// strings.
+///
+/// `steps` grows by the item's cost. Each head of an item or a chunk is one step, and so is each
+/// closing break. Each byte of a text string's content is one more. Even after an error, `steps`
+/// grows by at most the number of bytes.
 ///
 /// # Errors
-/// Bytes are refused only where no front of them is an item within 256 levels, and the error is a fault that is
-/// in them; never for memory.
+/// A fault in the bytes. No prefix of them is then an item within 256 levels. Never `OutOfMemory`.
 pub fn check<L: Ledger>(bytes: &[u8], steps: &mut Steps<L>) -> Result<usize, Error<EndOfFile>>
     ensures length { IfOk result (λ n. n ≤ length bytes.now) }
-    // An item is there, and the steps are its cost.
+    // That many bytes are an item, and the steps grow by its cost.
     ensures found { IfOk result (λ n. (v : Item) × (k : ℕ) × IsItem (take n bytes.now) v
         × IsCost v (take n bytes.now) k × (steps.new ≡ steps.old + k)) }
-    // No front of what is refused is an item.
+    // If there is an error, no prefix of the bytes is an item.
     ensures refused { IfErr result (λ e. HasNoItem bytes.now) }
     ensures memory { IfErr result (λ e. IsMemory e → ⊥) }
-    // The fault is in the bytes, at the offset that it carries.
+    // The fault is in the bytes, at the error's offset if it has one.
     ensures stands { IfErr result (λ e. FaultIn bytes.now e) }
     ensures bound { steps.new ≤ steps.old + length bytes.now }
 {
@@ -115,24 +118,25 @@ pub fn check<L: Ledger>(bytes: &[u8], steps: &mut Steps<L>) -> Result<usize, Err
     }
 }
 
-/// Returns the length of the item at the front of the bytes: [`check`] without a counter of steps. It takes no memory.
+/// Returns the length of the item at the start of `bytes`. This is [`check`] without a step
+/// counter. Allocates nothing.
 ///
 /// # Errors
 /// The same as [`check`].
 pub fn front_length(bytes: &[u8]) -> Result<usize, Error<EndOfFile>>
     ensures length { IfOk result (λ n. n ≤ length bytes.now) }
-    // So many bytes are an item.
+    // That many bytes are an item.
     ensures found { IfOk result (λ n. (v : Item) × IsItem (take n bytes.now) v) }
-    // No front of what is refused is an item.
+    // If there is an error, no prefix of the bytes is an item.
     ensures refused { IfErr result (λ e. HasNoItem bytes.now) }
     ensures memory { IfErr result (λ e. IsMemory e → ⊥) }
-    // The fault is in the bytes, at the offset that it carries.
+    // The fault is in the bytes, at the error's offset if it has one.
     ensures stands { IfErr result (λ e. FaultIn bytes.now e) }
 {
     counted_length::<Brand>(bytes, Blank::new(1))
 }
 
-/// The length of the item at the front, by a check with a counter of its own.
+/// Returns the length of the item at the start, by a check with its own step counter.
 fn counted_length<L: Ledger>(bytes: &[u8], blank: Blank) -> Result<usize, Error<EndOfFile>>
     requires name { blank.name ≡ L.name }
     requires parts { blank.parts ≡ L.parts }
@@ -147,27 +151,31 @@ fn counted_length<L: Ledger>(bytes: &[u8], blank: Blank) -> Result<usize, Error<
     check(bytes, &mut steps)
 }
 
-/// Reads the item at the front of the bytes: its value, and how many bytes it takes. Bytes may follow it.
+/// Reads the item at the start of `bytes`. Returns its value and its length. More bytes may follow
+/// the item.
 ///
-/// Every spelling is accepted (RFC 8949, section 3): a head of any width that holds its argument, definite and
-/// indefinite lengths; in a map, keys may repeat. Arrays, maps and tags nest at most 256 deep. Nothing is
-/// reserved because a head announces it.
+/// Accepts every encoding (RFC 8949, section 3): heads of any width that holds the argument, and
+/// definite and indefinite lengths. The keys of a map may repeat. Arrays, maps and tags may nest
+/// 256 levels deep. No memory is reserved for announced content that is missing.
 ///
 /// # Errors
-/// Bytes are refused for memory only where an item is at their front, since they are checked first, without
-/// memory. Else they are refused only where no front of them is an item within 256 levels, and the error is a fault
-/// that is in them. Of several faults it is the first in reading order: at a head its form,
-/// then its argument, then the depth, then an announced length that can't be there, then what the head holds.
+/// - `OutOfMemory` if an allocation fails. The bytes are checked first, without memory, so an item
+///   is then at their start.
+/// - A fault in the bytes. No prefix of them is then an item within 256 levels.
+///
+/// If there are several faults, the first in reading order is returned. At one head, the order is:
+/// the head's form, its argument, the depth, an announced length that cannot fit in the remaining
+/// input, the content.
 pub fn read_value(alloc: Global, bytes: &[u8]) -> Result<(Value, usize), Error<EndOfFile>>
     ensures length { IfOk result (λ x. x.1 ≤ length bytes.now) }
-    // What is read is the item at the front.
+    // The value is that of the item at the start.
     ensures found { IfOk result (λ x. IsItem (take x.1 bytes.now) (value_item x.0)) }
-    // No front of what is refused is an item, unless memory ran out.
+    // If there is an error other than `OutOfMemory`, no prefix of the bytes is an item.
     ensures refused { IfErr result (λ e. (IsMemory e → ⊥) → HasNoItem bytes.now) }
-    // Memory runs out only where a front is an item.
+    // If the error is `OutOfMemory`, a prefix of the bytes is an item.
     ensures memory { IfErr result (λ e. IsMemory e
         → (v : Item) × (b : List ℕ) × (rest : List ℕ) × (bytes.now ≡ b ++ rest) × IsItem b v) }
-    // The fault is in the bytes, at the offset that it carries.
+    // The fault is in the bytes, at the error's offset if it has one.
     ensures stands { IfErr result (λ e. FaultIn bytes.now e) }
 {
     let (pull, _) = Pull::new(bytes)?;
@@ -175,11 +183,13 @@ pub fn read_value(alloc: Global, bytes: &[u8]) -> Result<(Value, usize), Error<E
     Ok((value, pull.slice().len()))
 }
 
-/// The value of the item that the bytes are, however deep it is, and `None` where they are no item. It is for bytes that
-/// were written: of bytes that were received, the sender chooses how deep they nest, and so how much stack this takes.
+/// Decodes `bytes` as one item of any depth. Returns `None` if they are not one item.
+///
+/// Use this for bytes that were written locally. The sender of received bytes chooses how deep they
+/// nest, and so how much stack this call takes.
 ///
 /// # Errors
-/// `OutOfMemory` alone.
+/// `OutOfMemory` if an allocation fails.
 pub fn decode_unbounded(alloc: Global, bytes: &[u8]) -> Result<Option<Value>, OutOfMemory>
     ensures { IfOk result (λ o. MatchOption o ((v : Item) → IsEncoding v bytes.now → ⊥)
         (λ x. IsEncoding (value_item x) bytes.now)) }

@@ -1,4 +1,4 @@
-//! The elements of a lent array or map, one after the other (RFC 8949, section 3.2.2).
+//! The elements of a borrowed array or map, one after the other (RFC 8949, section 3.2.2).
 
 ghost use Rattle.std.specs.Prelude.{◌≡◌, ◌≢◌, ◌<◌, ◌++◌, ◌∷◌, [], List, ℕ, true, length, MatchOption};
 ghost use Rattle.coset_cbor.specs.Heads.{HeadView};
@@ -14,21 +14,21 @@ use crate::head::{MajorType, head_of};
 use crate::pull::Pull;
 use crate::skip::skip_checked;
 
-/// The elements of a lent array that are still to come, each lent.
+/// An iterator over the elements of an array, each borrowed.
 #[derive(Clone, Copy, Debug)]
 pub struct Items<'a> {
     rest: &'a [u8],
     ghost checked: { is_one_item (array_around rest.now) ≡ true },
 }
 
-/// The pairs of a lent map that are still to come, each key with its value, both lent.
+/// An iterator over the pairs of a map. Each pair is a key and its value, both borrowed.
 #[derive(Clone, Copy, Debug)]
 pub struct Pairs<'a> {
     rest: &'a [u8],
     ghost checked: { is_one_item (map_around rest.now) ≡ true },
 }
 
-/// What follows a head, without the break where the head announces no number.
+/// Returns the bytes after a head, without the final break if the head announces no number.
 fn without_break(number: Option<u64>, bytes: &[u8]) -> &[u8]
     ensures definite { (n : ℕ) → number ≡ Some n → result.now ≡ bytes.now }
     ensures indefinite { number ≡ None → (s : List ℕ) → bytes.now ≡ s ++ 255 ∷ [] → result.now ≡ s }
@@ -39,7 +39,7 @@ fn without_break(number: Option<u64>, bytes: &[u8]) -> &[u8]
     }
 }
 
-/// The bytes of the elements, where the head is of that major type.
+/// Returns the bytes of the elements, or `None` if the head is of another major type.
 fn content(major_type: MajorType, bytes: &[u8]) -> Option<&[u8]>
     ensures { MatchOption result
         ((h : HeadView × List ℕ) → head_at bytes.now ≡ Ok h → h.0.major_type ≢ major_type)
@@ -53,7 +53,8 @@ fn content(major_type: MajorType, bytes: &[u8]) -> Option<&[u8]>
     }
 }
 
-/// The item known to be at the front, and what follows it; `None` where nothing is left.
+/// Returns the item known to be at the start and the bytes after it, or `None` if no bytes are
+/// left.
 fn first(bytes: &[u8]) -> Option<(Pull<'_>, &[u8])>
     requires { 0 < length bytes.now → BeginsItem bytes.now }
     ensures { MatchOption result (HasNoItem bytes.now) (λ x. BeginsWith bytes.now x.0 x.1.now) }
@@ -76,11 +77,12 @@ impl<'a> Pull<'a> {
     ghost use Rattle.coset_value.specs.Parts.{as_array, as_map};
     ghost use Rattle.coset_cbor.specs.Elements.{items_bytes, items_left, pairs_bytes, pairs_left};
 
-    /// The elements of an array, of definite or indefinite length, in order; `None` of any other item. It takes no
-    /// memory (RFC 8949, sections 3.1 and 3.2.2).
+    /// Returns the elements of an array in order, or `None` for any other item (RFC 8949, sections
+    /// 3.1 and 3.2.2). The length may be definite or indefinite. Allocates nothing.
     pub fn items(&self) -> Option<Items<'a>>
         ensures items { option_map items_left result ≡ as_array (pull_item self.now) }
-        // Their bytes follow the array's head, or are between its opening and the break.
+        // The elements' bytes follow the array's head, or are between its initial byte and the
+        // break.
         ensures bytes { IfSome result
             (λ it. IsHeld 4 (items_count (items_left it)) (items_bytes it) (pull_bytes self.now)) }
     {
@@ -88,11 +90,11 @@ impl<'a> Pull<'a> {
         Some(Items { rest })
     }
 
-    /// The pairs of a map, of definite or indefinite length, in order; `None` of any other item. It takes no memory
-    /// (RFC 8949, sections 3.1 and 3.2.2).
+    /// Returns the pairs of a map in order, or `None` for any other item (RFC 8949, sections 3.1
+    /// and 3.2.2). The length may be definite or indefinite. Allocates nothing.
     pub fn pairs(&self) -> Option<Pairs<'a>>
         ensures pairs { option_map pairs_left result ≡ as_map (pull_item self.now) }
-        // Their bytes follow the map's head, or are between its opening and the break.
+        // The pairs' bytes follow the map's head, or are between its initial byte and the break.
         ensures bytes { IfSome result
             (λ it. IsHeld 5 (pairs_count (pairs_left it)) (pairs_bytes it) (pull_bytes self.now)) }
     {
@@ -112,7 +114,8 @@ impl<'a> Iterator for Items<'a> {
 
     ghost remaining = { λ it. at_most (items_count (items_left it)) };
 
-    /// The next element, or `None` where all were yielded. It skips that element once and takes no memory.
+    /// Returns the next element, or `None` after the last. Skips the element to find its end, and
+    /// allocates nothing.
     fn next(&mut self) -> Option<Pull<'a>> {
         let (element, rest) = first(self.rest)?;
         self.rest = rest;
@@ -131,8 +134,8 @@ impl<'a> Iterator for Pairs<'a> {
 
     ghost remaining = { λ it. at_most (pairs_count (pairs_left it)) };
 
-    /// The next key and its value, or `None` where all were yielded. It skips each of the two once and takes no
-    /// memory.
+    /// Returns the next key and its value, or `None` after the last pair. Skips both to find their
+    /// ends, and allocates nothing.
     fn next(&mut self) -> Option<(Pull<'a>, Pull<'a>)> {
         let (key, rest) = first(self.rest)?;
         let (value, rest) = first(rest)?;

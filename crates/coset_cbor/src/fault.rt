@@ -6,7 +6,8 @@ ghost use Rattle.coset_cbor.specs.declared.fault.ReadError.TheVariants.{Memory};
 
 use std::alloc::{AllocError, AllocFailed};
 
-/// What is wrong. A number is how many bytes were left, from the first byte of the head on.
+/// A fault in the bytes. A number counts the bytes from the start of the faulty head to the end of
+/// the input.
 #[derive(Clone, Copy, Debug, PartialEq, Eq)]
 pub(crate) enum Fault {
     End,
@@ -15,7 +16,7 @@ pub(crate) enum Fault {
     Deep,
 }
 
-/// The input ends, by a function apart: few bytes do.
+/// Returns `Fault::End`, out of line because few inputs end early.
 #[cold]
 #[inline(never)]
 pub(crate) fn end() -> Fault
@@ -24,7 +25,7 @@ pub(crate) fn end() -> Fault
     Fault::End
 }
 
-/// What is left is not well-formed, apart.
+/// Returns `Fault::Syntax`, out of line.
 #[cold]
 #[inline(never)]
 pub(crate) fn syntax(left: usize) -> Fault

@@ -1,5 +1,6 @@
-//! What an item holds, read where it is: each call reads the item that is known to be at a place, and goes just
-//! behind it; at an item of another kind it stays. Nothing that was checked is checked again but the UTF-8 of a text.
+//! Reading an item in place. Each call reads the checked item at a cursor and leaves the cursor
+//! just after it. If the item is of another kind, the cursor stays. The UTF-8 of a text string is
+//! checked again.
 
 ghost use Rattle.std.specs.Prelude.{◌≡◌, ◌≤◌, ◌<◌, List, ℕ, length, false, None, Some, IfErr, IfOk, IfSome, IsSome, IsTrue, MatchOption, MatchResult, OnOk, string_bytes};
 ghost use Rattle.coset_value.specs.Item.{Item};
@@ -22,10 +23,10 @@ use crate::string::{byte_string, text_string};
 use coset_value::{Float, Integer, Value};
 use std::alloc::Global;
 
-/// The one spelling of null (RFC 8949, section 3.3).
+/// The only encoding of null (RFC 8949, section 3.3).
 const NULL: u8 = 0xf6;
 
-/// The number of the integer at the front, and what follows it; `None` of another item.
+/// Returns the integer at the start and the bytes after it, or `None` for any other item.
 fn integer_at(bytes: &[u8]) -> Option<(Integer, &[u8])>
     ensures strictly { IfSome result (λ x. length x.1.now < length bytes.now) }
     ensures reads { (v : Item) (a : List ℕ) → ItemAt v bytes.now a
@@ -41,7 +42,8 @@ fn integer_at(bytes: &[u8]) -> Option<(Integer, &[u8])>
     }
 }
 
-/// The integer, float or simple value at the front, and what follows it; `None` of another item.
+/// Returns the integer, float or simple value at the start and the bytes after it, or `None` for
+/// any other item.
 fn scalar_at(bytes: &[u8]) -> Option<(Value, &[u8])>
     ensures strictly { IfSome result (λ x. length x.1.now < length bytes.now) }
     ensures reads { (v : Item) (a : List ℕ) → ItemAt v bytes.now a
@@ -57,7 +59,7 @@ fn scalar_at(bytes: &[u8]) -> Option<(Value, &[u8])>
     }
 }
 
-/// The float at the front, and what follows it; `None` of another item.
+/// Returns the float at the start and the bytes after it, or `None` for any other item.
 fn float_at(bytes: &[u8]) -> Option<(Float, &[u8])>
     ensures strictly { IfSome result (λ x. length x.1.now < length bytes.now) }
     ensures reads { (v : Item) (a : List ℕ) → ItemAt v bytes.now a
@@ -70,7 +72,7 @@ fn float_at(bytes: &[u8]) -> Option<(Float, &[u8])>
     }
 }
 
-/// The item at the front as a value of its own, and what follows it.
+/// Decodes the item at the start into an owned value, and returns it with the bytes after it.
 fn value_at(alloc: Global, bytes: &[u8]) -> Result<(Value, &[u8]), Error<EndOfFile>>
     ensures strictly { IfOk result (λ x. length x.1.now < length bytes.now) }
     ensures refused { IfErr result (λ e. (IsMemory e → ⊥) → HasNoItem bytes.now) }
@@ -86,7 +88,8 @@ fn value_at(alloc: Global, bytes: &[u8]) -> Result<(Value, &[u8]), Error<EndOfFi
 }
 
 impl<'a> Cursor<'a> {
-    /// The number of an integer (RFC 8949, section 3.1). It takes no memory.
+    /// Reads the number of an integer (RFC 8949, section 3.1). Returns `None` for any other item;
+    /// the position is then unchanged. Allocates nothing.
     pub fn integer(&mut self) -> Option<Integer>
         ensures shrinks { length (bytes_left self.new) ≤ length (bytes_left self.old) }
         ensures strictly { IfSome result (λ _. length (bytes_left self.new)
@@ -104,7 +107,8 @@ impl<'a> Cursor<'a> {
         }
     }
 
-    /// The width and the bits of a float (RFC 8949, section 3.3). It takes no memory.
+    /// Reads the width and bits of a float (RFC 8949, section 3.3). Returns `None` for any other
+    /// item; the position is then unchanged. Allocates nothing.
     pub fn float(&mut self) -> Option<Float>
         ensures shrinks { length (bytes_left self.new) ≤ length (bytes_left self.old) }
         ensures strictly { IfSome result (λ _. length (bytes_left self.new)
@@ -118,7 +122,8 @@ impl<'a> Cursor<'a> {
         Some(float)
     }
 
-    /// Whether this is `null`, which is then passed (RFC 8949, section 3.3). It takes no memory.
+    /// Skips the item and returns true if it is `null` (RFC 8949, section 3.3). Otherwise the
+    /// position is unchanged. Allocates nothing.
     pub fn null(&mut self) -> bool
         ensures shrinks { length (bytes_left self.new) ≤ length (bytes_left self.old) }
         ensures strictly { IsTrue result → length (bytes_left self.new)
@@ -137,10 +142,11 @@ impl<'a> Cursor<'a> {
         true
     }
 
-    /// The content of a byte string, copied; its chunks are joined (RFC 8949, sections 3.1 and 3.2.3).
+    /// Copies the content of a byte string and joins its chunks (RFC 8949, sections 3.1 and 3.2.3).
+    /// Returns `None` for any other item; the position is then unchanged.
     ///
     /// # Errors
-    /// `OutOfMemory` alone; the string is then skipped.
+    /// `OutOfMemory` if an allocation fails. The string is then skipped.
     pub fn bytes(&mut self, alloc: Global) -> Result<Option<Vec<u8>>, OutOfMemory>
         ensures shrinks { length (bytes_left self.new) ≤ length (bytes_left self.old) }
         ensures strictly { IfOk result (λ o. IsSome o → length (bytes_left self.new)
@@ -171,10 +177,11 @@ impl<'a> Cursor<'a> {
         }
     }
 
-    /// The content of a text string, copied; its chunks are joined (RFC 8949, sections 3.1 and 3.2.3).
+    /// Copies the content of a text string and joins its chunks (RFC 8949, sections 3.1 and 3.2.3).
+    /// Returns `None` for any other item; the position is then unchanged.
     ///
     /// # Errors
-    /// `OutOfMemory` alone; the string is then skipped.
+    /// `OutOfMemory` if an allocation fails. The string is then skipped.
     pub fn text(&mut self, alloc: Global) -> Result<Option<String>, OutOfMemory>
         ensures shrinks { length (bytes_left self.new) ≤ length (bytes_left self.old) }
         ensures strictly { IfOk result (λ o. IsSome o → length (bytes_left self.new)
@@ -205,17 +212,18 @@ impl<'a> Cursor<'a> {
         }
     }
 
-    /// The item as a value of its own.
+    /// Decodes the item into an owned value.
     ///
     /// # Errors
-    /// `OutOfMemory`; the item is then skipped. Or, where no item is there, the fault of
-    /// [`check`](crate::de::check); the place is then as before.
+    /// - `OutOfMemory` if an allocation fails. The item is then skipped.
+    /// - The errors of [`check`](crate::de::check) if no item is at the position, which is then
+    ///   unchanged.
     pub fn value(&mut self, alloc: Global) -> Result<Value, Error<EndOfFile>>
         ensures shrinks { length (bytes_left self.new) ≤ length (bytes_left self.old) }
         ensures strictly { OnOk result (length (bytes_left self.new)
             < length (bytes_left self.old)) }
         ensures refused { IfErr result (λ e. (IsMemory e → ⊥) → HasNoItem (bytes_left self.old)) }
-        // The fault is in the bytes from the place on, at the offset that it carries.
+        // The fault is in the remaining input, at the error's offset if it has one.
         ensures fault { IfErr result (λ e. FaultIn (bytes_left self.old) e) }
         ensures reads { (v : Item) (a : List ℕ) → ItemAt v (bytes_left self.old) a
             → (bytes_left self.new ≡ a) × MatchResult result (λ x. value_item x ≡ v) IsMemory }

@@ -1,4 +1,4 @@
-//! Heads: the first bytes of an item (RFC 8949, section 3).
+//! Heads: the first bytes of a data item (RFC 8949, section 3).
 
 ghost use Rattle.std.specs.Prelude.{◌≡◌, ◌≤◌, ◌<◌, ◌/◌, ◌+◌, ◌==◌, ◌↔◌, length, IfOk, IsTrue, MatchResult};
 ghost use Rattle.std.specs.Int.{w8, w16, w32, w64};
@@ -25,26 +25,28 @@ pub enum MajorType {
     Array,
     /// A map of as many pairs as the argument says.
     Map,
-    /// A tag with the argument as its number, which encloses one item.
+    /// A tag, with the argument as its number. It encloses one item.
     Tag,
     /// A simple value, a float, or the break that ends an indefinite length.
     Simple,
 }
 
-/// A head (RFC 8949, section 3).
+/// A head: the initial byte of an item and its argument (RFC 8949, section 3).
 #[derive(Clone, Copy, Debug)]
 pub struct Head {
     /// The high three bits of the initial byte.
     pub major_type: MajorType,
-    /// The additional information: the low five bits of the initial byte. Below 24 it is the argument, 24 to 27 announce
-    /// an argument of 1, 2, 4 or 8 bytes, and 31 is an indefinite length or the break.
+    /// The additional information: the low five bits of the initial byte. Below 24 it is the
+    /// argument itself. From 24 to 27 an argument of 1, 2, 4 or 8 bytes follows. 31 is an
+    /// indefinite length or the break.
     pub info: u8,
-    /// The argument, 0 where there is none.
+    /// The argument, or 0 if there is none.
     pub(crate) number: u64,
 }
 
 impl Head {
-    /// Returns the argument: a number, a length, or the bits of a float. `None` is an indefinite length or the break.
+    /// Returns the argument: a number, a length, or the bits of a float. Returns `None` for an
+    /// indefinite length and for the break.
     #[inline(always)]
     pub fn number(self) -> Option<u64>
         ensures { result ≡ head_number self }
@@ -56,7 +58,7 @@ impl Head {
         }
     }
 
-    /// Returns how many bytes the argument takes behind the initial byte: 0, 1, 2, 4 or 8.
+    /// Returns how many bytes the argument takes after the initial byte: 0, 1, 2, 4 or 8.
     pub fn width(self) -> u8
         ensures { result ≡ width_of self.info }
     {
@@ -76,28 +78,30 @@ impl Head {
         1 + usize::from(self.width())
     }
 
-    /// Returns whether the head has additional information 31: an indefinite length (RFC 8949, section 3.2), or the break.
+    /// Returns true if the additional information is 31: an indefinite length (RFC 8949, section
+    /// 3.2) or the break.
     pub fn is_indefinite(self) -> bool
         ensures { result ≡ (self.info == 31) }
     {
         self.info == 31
     }
 
-    /// Returns whether it is the break, which ends an indefinite length (RFC 8949, section 3.2.1).
+    /// Returns true if the head is the break, which ends an indefinite length (RFC 8949, section
+    /// 3.2.1).
     pub fn is_break(self) -> bool
         ensures { IsTrue result ↔ ((self.major_type ≡ major_types.Simple) × (self.info ≡ 31)) }
     {
         self.major_type == MajorType::Simple && self.info == 31
     }
 
-    /// Returns whether it is null (RFC 8949, section 3.3).
+    /// Returns true if the item is `null` (RFC 8949, section 3.3).
     pub fn is_null(self) -> bool
         ensures { IsTrue result ↔ ((self.major_type ≡ major_types.Simple) × (self.info ≡ 22)) }
     {
         self.major_type == MajorType::Simple && self.info == 22
     }
 
-    /// Returns whether it is a float, of 16, 32 or 64 bits (RFC 8949, section 3.3).
+    /// Returns true if the item is a float of 16, 32 or 64 bits (RFC 8949, section 3.3).
     pub fn is_float(self) -> bool
         ensures { IsTrue result ↔ ((self.major_type ≡ major_types.Simple)
             × (25 ≤ self.info) × (self.info ≤ 27)) }
@@ -176,7 +180,8 @@ fn eight_at(bytes: &[u8]) -> Result<(u64, &[u8]), Fault>
     Ok((number, rest))
 }
 
-/// The number that the low five bits of a first byte announce, 0 where there is none. `left` is the number of bytes from the head on.
+/// Returns the argument that the additional information announces, or 0 if there is none. `left`
+/// counts the bytes from the start of the head.
 #[inline(always)]
 fn number_at(info: u8, left: usize, bytes: &[u8]) -> Result<(u64, &[u8]), Fault>
     ensures number { Answers (λ x. (argument_from info x.0, x.1.now)) result
@@ -205,7 +210,7 @@ fn number_at(info: u8, left: usize, bytes: &[u8]) -> Result<(u64, &[u8]), Fault>
     }
 }
 
-/// The head at the front, and the bytes after it.
+/// Returns the head at the start, and the bytes after it.
 #[tactic(auto, unfolding(crate::specs::Reading::head_at))]
 #[inline(always)]
 pub(crate) fn head_of(bytes: &[u8]) -> Result<(Head, &[u8]), Fault>
@@ -228,11 +233,13 @@ pub(crate) fn head_of(bytes: &[u8]) -> Result<(Head, &[u8]), Fault>
     ))
 }
 
-/// Reads the head at the front of the bytes: the head, and the bytes behind it. It takes no memory.
+/// Reads the head at the start of `bytes`. Returns the head and the bytes after it. Allocates
+/// nothing.
 ///
 /// # Errors
-/// `Io` where the bytes end before the head does, and `Syntax(0)` where the additional information is 28, 29 or 30, which
-/// are reserved (RFC 8949, section 3).
+/// - `Io` if the bytes end before the head does.
+/// - `Syntax(0)` if the additional information is 28, 29 or 30, which are reserved (RFC 8949,
+///   section 3).
 pub fn read_head(bytes: &[u8]) -> Result<(Head, &[u8]), Error<EndOfFile>>
     ensures { MatchResult result (λ x. BeginsWithHead bytes.now x.0 x.1.now)
         (λ e. HasNoHead bytes.now e) }

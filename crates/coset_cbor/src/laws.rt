@@ -1,4 +1,5 @@
-//! Laws of the definitions, which callers may cite. Each is the contract of a function that does nothing.
+//! Laws about the definitions, which callers may cite. Each law is the contract of a function that
+//! does nothing.
 
 ghost use Rattle.std.specs.Prelude.{◌≡◌, ◌<◌, ℕ, ◌+◌, List, [], ◌∷◌, ◌++◌, replicate, true, false};
 ghost use Rattle.coset_value.specs.Item.{Item};
@@ -21,20 +22,21 @@ ghost use Rattle.coset_cbor.specs.declared.de.Error.{Error};
 ghost use Rattle.coset_cbor.specs.Least.{least_encoding};
 ghost use Rattle.coset_cbor.specs.Shortest.{IsShortest};
 
-/// Bytes are the encoding of at most one item, and no encoding is a proper front of another.
+/// Bytes encode at most one item, and no encoding is a proper prefix of another.
 pub fn one_item()
     ensures { (v w : Item) (b c x y : List ℕ) → IsEncoding v b → IsEncoding w c → b ++ x ≡ c ++ y
         → (v ≡ w) × (b ≡ c) }
 {}
 
-/// The bytes of a lent item are an encoding of the item that it is seen as, within 256 levels, and of no other.
+/// The bytes of a `Pull` encode the item that contracts see of it, within 256 levels, and no other
+/// item.
 pub fn lent_item()
     ensures { (p : Pull) → IsItem (pull_bytes p) (pull_item p)
         × ((v : Item) → IsEncoding v (pull_bytes p) → v ≡ pull_item p) }
 {}
 
-/// The bytes that are left of a lent array are encodings of the items that are left, one after the other, and of no
-/// others; those of a lent map are encodings of the keys and values.
+/// The bytes left of an array encode the elements that are left, in order, and no other items. The
+/// bytes left of a map encode the keys and values that are left, and no others.
 pub fn lent_elements()
     ensures items { (it : Items) → AreEncodings (items_left it) (items_bytes it)
         × ((vs : model.Items) → AreEncodings vs (items_bytes it) → vs ≡ items_left it) }
@@ -42,8 +44,8 @@ pub fn lent_elements()
         × ((ps : model.Pairs) → ArePairEncodings ps (pairs_bytes it) → ps ≡ pairs_left it) }
 {}
 
-/// The bytes that are left of a lent string are definite strings, one after the other, which hold the contents that are
-/// left, and no others (RFC 8949, section 3.2.3).
+/// The bytes left of a string are definite-length strings, one after the other. Their contents are
+/// those that are left, and no others (RFC 8949, section 3.2.3).
 pub fn lent_chunks()
     ensures bytes { (c : ByteChunks)
         → EachInOrder (IsDefinite false) (chunks_left c) (chunks_bytes c)
@@ -61,24 +63,25 @@ pub fn one_shortest()
         → (b : List ℕ) × IsShortest b v × ((c : List ℕ) → IsShortest c v → c ≡ b) }
 {}
 
-/// The shortest encoding of an item within CBOR's ranges is the one in which every head has the least width that holds
-/// its argument.
+/// In the shortest encoding of an item within CBOR's ranges, every head has the least width that
+/// holds its argument.
 pub fn least_heads_are_shortest()
     ensures { (v : Item) (b : List ℕ) → IsInRange v → IsShortest b v → b ≡ least_encoding v }
 {}
 
-/// The encoding of least heads is the shortest encoding of an item within CBOR's ranges. So an array's or map's
-/// shortest encoding is its head of least width, and then the shortest encodings of what it holds.
+/// The encoding whose heads all have the least width is the shortest encoding of an item within
+/// CBOR's ranges. So the shortest encoding of an array or a map is its shortest head, then the
+/// shortest encodings of its elements, or of its keys and values.
 pub fn least_encoding_is_shortest()
     ensures { (v : Item) → IsInRange v → IsShortest (least_encoding v) v }
 {}
 
-/// An item with a shortest encoding lies within CBOR's ranges.
+/// An item with a shortest encoding is within CBOR's ranges.
 pub fn shortest_is_in_range()
     ensures { (v : Item) (b : List ℕ) → IsShortest b v → IsInRange v }
 {}
 
-/// The shortest encoding of an item is an encoding of it.
+/// The shortest encoding of an item is one of its encodings.
 pub fn shortest_is_encoding()
     ensures { (v : Item) (b : List ℕ) → IsShortest b v → IsEncoding v b }
 {}
@@ -89,20 +92,20 @@ pub fn one_cost()
         → (k : ℕ) × IsCost v b k × ((j : ℕ) → IsCost v b j → j ≡ k) }
 {}
 
-/// Arrays of one element each, n of them inside one another around an empty one, cost n + 1 steps; and they are an item,
-/// where n is below 256.
+/// An empty array inside n arrays of one element each costs n + 1 steps. These bytes are an item if
+/// n is below 256.
 pub fn nested_arrays_cost()
     ensures cost { (n k : ℕ) (v : Item) → IsCost v (replicate n 0x81 ++ 0x80 ∷ []) k → k ≡ n + 1 }
     ensures item { (n : ℕ) → n < 256 → (v : Item) × IsItem (replicate n 0x81 ++ 0x80 ∷ []) v }
 {}
 
-/// Where a fault is in bytes, no front of them is an item.
+/// If a fault is in bytes, no prefix of them is an item.
 pub fn no_item_at_a_fault()
     ensures { (s : List ℕ) (e : Error EndOfFile) → AreBytes s → (IsMemory e → ⊥) → FaultIn s e
         → HasNoItem s }
 {}
 
-/// In a front of an item the end of the input is the only fault, out of memory aside.
+/// In a prefix of an item, the end of the input is the only fault, apart from `OutOfMemory`.
 pub fn only_the_end_in_a_front()
     ensures { (v : Item) (b s more : List ℕ) (e : Error EndOfFile) → AreBytes b → IsItem b v
         → b ≡ s ++ more → (IsMemory e → ⊥) → FaultIn s e → IsEndOfInput e }

@@ -1,4 +1,4 @@
-//! CBOR: values read from bytes and written to them (RFC 8949).
+//! CBOR (RFC 8949): reads values from bytes and writes them.
 #![tactic(auto)]
 
 mod check;

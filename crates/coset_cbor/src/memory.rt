@@ -1,11 +1,11 @@
-//! Out of memory.
+//! The error for a failed allocation.
 
 ghost use Rattle.std.specs.Prelude.{Some, codes};
 
 use std::error::Error;
 use std::fmt;
 
-/// A request for memory was refused.
+/// An allocation failed.
 #[derive(Clone, Copy, Debug, PartialEq, Eq)]
 pub struct OutOfMemory;
 

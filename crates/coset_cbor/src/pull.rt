@@ -1,4 +1,4 @@
-//! One checked item, lent, and how it is taken apart.
+//! A checked item, borrowed, and the calls that take it apart.
 
 ghost use Rattle.std.specs.Prelude.{◌≡◌, ◌↔◌, true, IfOk, IfErr, IfSome, IsTrue, option_map, string_bytes};
 ghost use Rattle.coset_value.specs.Item.{Item, null};
@@ -22,14 +22,15 @@ use crate::string::{byte_string, text_string};
 use coset_value::{Float, Integer, Value};
 use std::alloc::Global;
 
-/// One item that was checked, as the bytes that spell it: a part of the input.
+/// A checked item: its encoding, borrowed from the input.
 #[derive(Clone, Copy, Debug)]
 pub struct Pull<'a> {
     pub(crate) bytes: &'a [u8],
     ghost checked: { is_one_item bytes.now ≡ true },
 }
 
-/// The value of an integer, a float or a simple value, as its head says.
+/// Returns the value of an integer, float or simple value from its head, or `None` for any other
+/// item.
 pub(crate) fn scalar_of(head: Head, left: usize, bytes: &[u8]) -> Option<Value>
     requires { Fits head.info head.number }
     ensures { option_map value_item result
@@ -52,7 +53,7 @@ pub(crate) fn scalar_of(head: Head, left: usize, bytes: &[u8]) -> Option<Value>
     }
 }
 
-/// The number of an integer, as its head says.
+/// Returns the number of an integer from its head, or `None` for any other item.
 pub(crate) fn integer_of(head: Head) -> Option<Integer>
     ensures { result
         ≡ integer_by (number_of (argument_from head.info head.number)) head.major_type }
@@ -70,7 +71,7 @@ pub(crate) fn integer_of(head: Head) -> Option<Integer>
     }
 }
 
-/// The number of a tag's head.
+/// Returns the number of a tag from its head, or `None` for any other item.
 fn tag_number(head: Head) -> Option<u64>
     ensures { result ≡ tag_by (argument_from head.info head.number) head.major_type }
 {
@@ -83,8 +84,8 @@ fn tag_number(head: Head) -> Option<u64>
 impl<'a> Pull<'a> {
     ghost use Rattle.coset_cbor.specs.Pulls.{pull_bytes, pull_item, BeginsWith};
 
-    /// Checks that an item is at the front of the bytes, and lends it, with the bytes after it. It takes no
-    /// memory.
+    /// Checks the item at the start of `bytes`. Returns it, borrowed, and the bytes after it.
+    /// Allocates nothing.
     ///
     /// # Errors
     /// The same as [`check`].
@@ -99,7 +100,7 @@ impl<'a> Pull<'a> {
         Ok((Pull { bytes: front }, rest))
     }
 
-    /// The bytes that spell the item: a part of the input.
+    /// Returns the bytes of the item, which are a part of the input.
     pub fn slice(&self) -> &'a [u8]
         ensures bytes { result.now ≡ pull_bytes self.now }
         ensures item { IsItem result.now (pull_item self.now) }
@@ -107,7 +108,7 @@ impl<'a> Pull<'a> {
         self.bytes
     }
 
-    /// The item as a value, where it is an integer, a float or a simple value, which hold no other bytes.
+    /// Returns the value of an integer, float or simple value, or `None` for any other item.
     fn scalar(&self) -> Option<Value>
         ensures { option_map value_item result ≡ as_scalar (pull_item self.now) }
     {
@@ -117,7 +118,7 @@ impl<'a> Pull<'a> {
         scalar_of(head, self.bytes.len(), rest)
     }
 
-    /// The number of an integer, and `None` of any other item (RFC 8949, section 3.1).
+    /// Returns the number of an integer, or `None` for any other item (RFC 8949, section 3.1).
     pub fn integer(&self) -> Option<Integer>
         ensures { result ≡ as_integer (pull_item self.now) }
     {
@@ -127,7 +128,8 @@ impl<'a> Pull<'a> {
         integer_of(head)
     }
 
-    /// Which of `false` and `true` this is, and `None` of any other item (RFC 8949, section 3.3).
+    /// Returns the value of `false` or `true`, or `None` for any other item (RFC 8949, section
+    /// 3.3).
     pub fn bool(&self) -> Option<bool>
         ensures { result ≡ as_bool (pull_item self.now) }
     {
@@ -137,7 +139,7 @@ impl<'a> Pull<'a> {
         }
     }
 
-    /// The width and the bits of a float, and `None` of any other item (RFC 8949, section 3.3).
+    /// Returns the width and bits of a float, or `None` for any other item (RFC 8949, section 3.3).
     pub fn float(&self) -> Option<Float>
         ensures { option_map bits_of result ≡ as_float (pull_item self.now) }
     {
@@ -147,7 +149,7 @@ impl<'a> Pull<'a> {
         }
     }
 
-    /// Whether this is `null` (RFC 8949, section 3.3).
+    /// Returns true if the item is `null` (RFC 8949, section 3.3).
     pub fn is_null(&self) -> bool
         ensures { IsTrue result ↔ (pull_item self.now ≡ null) }
     {
@@ -157,10 +159,11 @@ impl<'a> Pull<'a> {
         }
     }
 
-    /// The number of a tag, with the item that it encloses, and `None` of any other item (RFC 8949, section 3.4).
+    /// Returns the number of a tag and the item that it encloses, or `None` for any other item (RFC
+    /// 8949, section 3.4).
     pub fn tag(&self) -> Option<(u64, Pull<'a>)>
         ensures item { option_map (λ t. (t.0, pull_item t.1)) result ≡ as_tag (pull_item self.now) }
-        // The bytes are the tag's head, and then those of the item that it encloses.
+        // The bytes are the tag's head and then those of the enclosed item.
         ensures bytes { IfSome result (λ t. IsHeaded 6 t.0 (pull_bytes t.1) (pull_bytes self.now)) }
     {
         let Ok((head, rest)) = head_of(self.bytes) else {
@@ -172,10 +175,11 @@ impl<'a> Pull<'a> {
         }
     }
 
-    /// The content of a byte string, copied; its chunks are joined. `None` of any other item (RFC 8949, section 3.1).
+    /// Copies the content of a byte string and joins its chunks (RFC 8949, section 3.1). Returns
+    /// `None` for any other item.
     ///
     /// # Errors
-    /// `OutOfMemory` alone.
+    /// `OutOfMemory` if an allocation fails.
     pub fn to_bytes(&self, alloc: Global) -> Result<Option<Vec<u8>>, OutOfMemory>
         ensures { IfOk result (λ o. option_map (λ b. b.items) o ≡ as_bytes (pull_item self.now)) }
     {
@@ -192,10 +196,11 @@ impl<'a> Pull<'a> {
         }
     }
 
-    /// The content of a text string, copied; its chunks are joined. `None` of any other item (RFC 8949, section 3.1).
+    /// Copies the content of a text string and joins its chunks (RFC 8949, section 3.1). Returns
+    /// `None` for any other item.
     ///
     /// # Errors
-    /// `OutOfMemory` alone.
+    /// `OutOfMemory` if an allocation fails.
     pub fn to_text(&self, alloc: Global) -> Result<Option<String>, OutOfMemory>
         ensures { IfOk result (λ o. option_map string_bytes o ≡ as_text (pull_item self.now)) }
     {
@@ -212,10 +217,10 @@ impl<'a> Pull<'a> {
         }
     }
 
-    /// The item as a value of its own.
+    /// Decodes the item into an owned value.
     ///
     /// # Errors
-    /// `OutOfMemory` alone.
+    /// `OutOfMemory` if an allocation fails.
     pub fn to_value(&self, alloc: Global) -> Result<Value, OutOfMemory>
         ensures { IfOk result (λ v. value_item v ≡ pull_item self.now) }
     {

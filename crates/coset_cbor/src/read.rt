@@ -1,4 +1,4 @@
-//! Items (RFC 8949, section 3).
+//! Decodes items into values (RFC 8949, section 3).
 
 ghost use Rattle.std.specs.Prelude.{◌≡◌, map, length, negsuc};
 ghost use Rattle.coset_value.specs.View.{value_item, value_pair};
@@ -11,17 +11,17 @@ use crate::string::{after_break, byte_string, text_string};
 use coset_value::{Float, Integer, Value};
 use std::alloc::Global;
 
-/// How many places a list or a map reserves at once, however many are announced.
+/// The most elements or pairs that are reserved at once, whatever the head announces.
 const PLACES: u64 = 16;
 
-/// The integer -1 - n.
+/// Returns the integer -1 - `n`.
 pub(crate) fn negative_integer(n: u64) -> Integer
     ensures { result ≡ negsuc n }
 {
     Integer::try_from(-1 - i128::from(n)).unwrap()
 }
 
-/// A simple value or a float. `left` is the number of bytes from the head on.
+/// Decodes a simple value or a float. `left` counts the bytes from the start of its head.
 pub(crate) fn simple_value(
     left: usize,
     info: u8,
@@ -53,7 +53,8 @@ pub(crate) fn simple_value(
     }
 }
 
-/// An item in which arrays, maps and tags nest at most `depth` deep, and the bytes after it.
+/// Decodes an item in which arrays, maps and tags nest at most `depth` deep. Returns its value and
+/// the bytes after it.
 #[cycle(item)]
 #[tactic(auto, unfolding(crate::specs::Reading::item_at, crate::specs::Reading::nothing, crate::specs::Reading::things))]
 pub(crate) fn item(alloc: Global, bytes: &[u8], depth: usize) -> Result<(Value, &[u8]), ReadError>
@@ -105,7 +106,8 @@ pub(crate) fn item(alloc: Global, bytes: &[u8], depth: usize) -> Result<(Value, 
     }
 }
 
-/// The elements of an array of that many, or up to the break where no number is announced.
+/// Decodes the elements of an array: `count` of them, or those up to the break if `count` is
+/// `None`.
 #[cycle(item)]
 fn array(
     alloc: Global,
@@ -123,7 +125,7 @@ fn array(
     }
 }
 
-/// The pairs of a map of that many, or up to the break where no number is announced.
+/// Decodes the pairs of a map: `count` of them, or those up to the break if `count` is `None`.
 #[cycle(item)]
 fn map(
     alloc: Global,
@@ -141,7 +143,7 @@ fn map(
     }
 }
 
-/// That many items.
+/// Decodes `count` items.
 #[cycle(item)]
 fn items(
     alloc: Global,
@@ -162,7 +164,8 @@ fn items(
     Ok((found, rest))
 }
 
-/// The items up to the break. Each item takes at least one byte, so the loop needs no more turns than there are bytes.
+/// Decodes items up to the break. Each item takes at least one byte, so `bytes.len()` turns are
+/// enough.
 #[cycle(item)]
 fn items_until(alloc: Global, bytes: &[u8], depth: usize) -> Result<(Vec<Value>, &[u8]), ReadError>
     ensures { Gives (λ x. (map value_item x.0.items, x.1.now)) result
@@ -181,7 +184,7 @@ fn items_until(alloc: Global, bytes: &[u8], depth: usize) -> Result<(Vec<Value>,
     Err(ReadError::Fault(Fault::End))
 }
 
-/// A key and its value.
+/// Decodes a key and its value.
 #[cycle(item)]
 fn pair(alloc: Global, bytes: &[u8], depth: usize) -> Result<((Value, Value), &[u8]), ReadError>
     ensures { Gives (λ x. (value_pair x.0, x.1.now)) result (pair_at (item_at depth) bytes.now) }
@@ -191,7 +194,7 @@ fn pair(alloc: Global, bytes: &[u8], depth: usize) -> Result<((Value, Value), &[
     Ok(((key, value), rest))
 }
 
-/// That many pairs.
+/// Decodes `count` pairs.
 #[cycle(item)]
 fn pairs(
     alloc: Global,
@@ -212,7 +215,7 @@ fn pairs(
     Ok((found, rest))
 }
 
-/// The pairs up to the break.
+/// Decodes pairs up to the break.
 #[cycle(item)]
 fn pairs_until(
     alloc: Global,

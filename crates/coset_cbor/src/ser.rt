@@ -1,4 +1,4 @@
-//! Writing a value as bytes (RFC 8949, section 4.2.1), at once or part by part.
+//! Writes values as bytes (RFC 8949, section 4.2.1), whole or part by part.
 
 ghost use Rattle.std.specs.Prelude.{◌≡◌, ◌++◌, take, IsOk, OnOk, OnErr};
 ghost use Rattle.coset_value.specs.Item.{bytes, text, integer};
@@ -14,7 +14,8 @@ use coset_value::{Integer, Value};
 use std::alloc::AllocError;
 use std::{error, fmt};
 
-/// Why a value was not written. No call of this crate returns it: it is there for the errors of other writers.
+/// Why a value was not written. No call of this crate returns this type. It is there for the errors
+/// of other writers.
 #[derive(Debug, Drop)]
 pub enum Error<T> {
     /// The writer failed.
@@ -31,11 +32,12 @@ impl<T: fmt::Debug> fmt::Display for Error<T> {
 
 impl<T: fmt::Debug + Drop> error::Error for Error<T> {}
 
-/// Appends the shortest encoding of the value to `out` (RFC 8949, section 4.2.1, with map keys in the value's own
-/// order and floats in their own width).
+/// Appends the shortest encoding of `value` to `out` (RFC 8949, section 4.2.1). The keys of a map
+/// keep their order, and floats keep their width.
 ///
 /// # Errors
-/// `OutOfMemory` alone. The bytes of `out` are then as before; its capacity may have grown.
+/// `OutOfMemory` if an allocation fails. The bytes of `out` are then unchanged; its capacity may
+/// have grown.
 pub fn write_value(value: &Value, out: &mut Vec<u8>) -> Result<(), OutOfMemory>
     ensures ok { OnOk result (AppendsShortest out.old.items out.new.items (value_item value.now)) }
     ensures refused { OnErr result (out.new.items ≡ out.old.items) }
@@ -45,12 +47,14 @@ pub fn write_value(value: &Value, out: &mut Vec<u8>) -> Result<(), OutOfMemory>
     rolled_back(written, before, out)
 }
 
-/// Appends the shortest encoding of a value that isn't needed any more, as [`write_value`] does, and lets each element of
-/// its arrays and maps go as soon as it is written: faster than one after the other, since the element is still near.
-/// What a tag encloses goes with the tag.
+/// Appends the shortest encoding of `value`, as [`write_value`] does, and consumes the value.
+///
+/// Each element of an array or a map is dropped as soon as it is written. This is faster than
+/// dropping them all afterwards, because the element is still in the cache. The item in a tag is
+/// dropped with the tag.
 ///
 /// # Errors
-/// The same as [`write_value`]. The value is gone all the same.
+/// The same as [`write_value`]. The value is consumed all the same.
 pub fn write_owned_value(value: Value, out: &mut Vec<u8>) -> Result<(), OutOfMemory>
     ensures ok { OnOk result (AppendsShortest out.old.items out.new.items (value_item value)) }
     ensures refused { OnErr result (out.new.items ≡ out.old.items) }
@@ -60,7 +64,8 @@ pub fn write_owned_value(value: Value, out: &mut Vec<u8>) -> Result<(), OutOfMem
     rolled_back(written, before, out)
 }
 
-/// Appends the shortest head of an array (RFC 8949, section 3.1, major type 4). So many items have to follow it.
+/// Appends the shortest head of an array (RFC 8949, section 3.1, major type 4). The caller must
+/// append `count` items after it.
 ///
 /// # Errors
 /// The same as [`write_value`].
@@ -74,7 +79,8 @@ pub fn write_array_head(count: usize, out: &mut Vec<u8>) -> Result<(), OutOfMemo
     rolled_back(written, before, out)
 }
 
-/// Appends the shortest head of a map (RFC 8949, section 3.1, major type 5). So many pairs have to follow it.
+/// Appends the shortest head of a map (RFC 8949, section 3.1, major type 5). The caller must append
+/// `count` pairs after it.
 ///
 /// # Errors
 /// The same as [`write_value`].
@@ -88,8 +94,8 @@ pub fn write_map_head(count: usize, out: &mut Vec<u8>) -> Result<(), OutOfMemory
     rolled_back(written, before, out)
 }
 
-/// Appends the shortest head of a tag (RFC 8949, section 3.1, major type 6). The item that it encloses has to
-/// follow it.
+/// Appends the shortest head of a tag (RFC 8949, section 3.1, major type 6). The caller must append
+/// the enclosed item after it.
 ///
 /// # Errors
 /// The same as [`write_value`].
@@ -148,7 +154,7 @@ pub fn write_integer(n: Integer, out: &mut Vec<u8>) -> Result<(), OutOfMemory>
     rolled_back(written, before, out)
 }
 
-/// The answer of a call that wrote. Where memory ran out, what it left behind the first bytes is taken back.
+/// Returns the result of a write. After an error, truncates `out` to its first `before` bytes.
 #[inline(always)]
 fn rolled_back(
     written: Result<(), AllocError>,

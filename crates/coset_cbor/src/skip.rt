@@ -1,5 +1,5 @@
-//! Skipping an item known to be at the front: a text string is not tested for UTF-8 again, and what
-//! nests needs no depth.
+//! Skips an item known to be at the start. A text string is not tested for UTF-8 again, and nested
+//! items need no recursion.
 
 ghost use Rattle.std.specs.Prelude.{◌≡◌, IfSome, List, ℕ};
 ghost use Rattle.coset_value.specs.Item.{Item};
@@ -8,7 +8,8 @@ ghost use Rattle.coset_cbor.specs.Skips.{IsPast, items_behind, bytes_behind};
 
 use crate::head::{MajorType, head_of};
 
-/// How many items a head of that major type with that number announces; `None` where they are too many to count.
+/// Returns how many items a head of that major type and number announces, or `None` if the count
+/// overflows.
 #[inline(always)]
 fn items_behind(major_type: MajorType, number: u64) -> Option<u64>
     ensures { IfSome result (λ n. n ≡ items_behind major_type number) }
@@ -21,7 +22,7 @@ fn items_behind(major_type: MajorType, number: u64) -> Option<u64>
     }
 }
 
-/// How many bytes of content a head of that major type with that number announces.
+/// Returns how many bytes of content a head of that major type and number announces.
 #[inline(always)]
 fn bytes_behind(major_type: MajorType, number: u64) -> u64
     ensures { result ≡ bytes_behind major_type number }
@@ -32,8 +33,8 @@ fn bytes_behind(major_type: MajorType, number: u64) -> u64
     }
 }
 
-/// How many items follow the head at the front and its content, before what follows the item, and the bytes
-/// from there on. `None` where no length is announced.
+/// Skips the head at the start and its content. Returns how many enclosed items follow, and the
+/// bytes after the content. Returns `None` if it cannot tell, as for an indefinite length.
 #[inline(always)]
 fn behind(bytes: &[u8]) -> Option<(u64, &[u8])>
     ensures { IfSome result (λ x. (v : Item × List ℕ) → item_at 256 bytes.now ≡ Ok v
@@ -52,8 +53,8 @@ fn behind(bytes: &[u8]) -> Option<(u64, &[u8])>
     Some((items, rest))
 }
 
-/// What follows the item at the front, where that is one. `None` says nothing: it comes of an item in which a length
-/// is not announced.
+/// Returns the bytes after the item known to be at the start. Returns `None` if it cannot tell, as
+/// when a length in the item is indefinite.
 pub(crate) fn skip_checked(bytes: &[u8]) -> Option<&[u8]>
     ensures { IfSome result (λ rest. (v : Item × List ℕ) → item_at 256 bytes.now ≡ Ok v
         → rest.now ≡ v.1) }

@@ -8,7 +8,7 @@ use crate::fault::{Fault, ReadError, end};
 use crate::head::{MajorType, head_of};
 use std::alloc::Global;
 
-/// What follows the break, where it is at the front.
+/// Returns the bytes after the break, or `None` if the break is not at the start.
 #[inline(always)]
 pub(crate) fn after_break(bytes: &[u8]) -> Option<&[u8]>
     ensures { MatchOption result (begins_break bytes.now ≡ false)
@@ -20,7 +20,7 @@ pub(crate) fn after_break(bytes: &[u8]) -> Option<&[u8]>
     }
 }
 
-/// The bytes as text, where they are UTF-8.
+/// Returns the bytes as text, or `None` if they are not UTF-8.
 fn text_of(bytes: &[u8]) -> Option<&str>
     ensures { MatchOption result (is_utf8 bytes.now ≡ false)
         (λ s. (s.now ≡ bytes.now) × (is_utf8 bytes.now ≡ true)) }
@@ -31,7 +31,7 @@ fn text_of(bytes: &[u8]) -> Option<&str>
     }
 }
 
-/// Whether each of eight bytes is ASCII.
+/// Returns true if all eight bytes are ASCII.
 #[inline(always)]
 fn eight_are_ascii(bytes: &[u8; 8]) -> bool
     ensures { IsTrue result → IsAscii bytes.now }
@@ -45,7 +45,7 @@ fn eight_are_ascii(bytes: &[u8; 8]) -> bool
     true
 }
 
-/// Whether each of four bytes is ASCII.
+/// Returns true if all four bytes are ASCII.
 #[inline(always)]
 fn four_are_ascii(bytes: &[u8; 4]) -> bool
     ensures { IsTrue result → IsAscii bytes.now }
@@ -57,7 +57,7 @@ fn four_are_ascii(bytes: &[u8; 4]) -> bool
     true
 }
 
-/// Whether each of a few bytes is ASCII.
+/// Returns true if all bytes are ASCII, tested one at a time.
 #[inline(always)]
 fn few_are_ascii(bytes: &[u8]) -> bool
     ensures { IsTrue result → IsAscii bytes.now }
@@ -70,7 +70,7 @@ fn few_are_ascii(bytes: &[u8]) -> bool
     true
 }
 
-/// Whether each byte is ASCII, eight at a time.
+/// Returns true if all bytes are ASCII, tested eight at a time.
 #[inline(always)]
 fn is_ascii(bytes: &[u8]) -> bool
     ensures { IsTrue result → IsAscii bytes.now }
@@ -88,7 +88,7 @@ fn is_ascii(bytes: &[u8]) -> bool
     }
 }
 
-/// Whether the bytes are UTF-8. Few bytes are first tried as ASCII.
+/// Returns true if the bytes are UTF-8. An input of at most 64 bytes is tested for ASCII first.
 #[inline(never)]
 pub(crate) fn is_text(bytes: &[u8]) -> bool
     ensures { result ≡ is_utf8 bytes.now }
@@ -99,7 +99,7 @@ pub(crate) fn is_text(bytes: &[u8]) -> bool
     text_of(bytes).is_some()
 }
 
-/// That many bytes, and the bytes after them.
+/// Splits off the first `count` bytes.
 #[tactic(auto, unfolding(crate::specs::Reading::string_at))]
 #[inline(always)]
 pub(crate) fn bytes_at(left: usize, count: u64, bytes: &[u8]) -> Result<(&[u8], &[u8]), Fault>
@@ -111,8 +111,8 @@ pub(crate) fn bytes_at(left: usize, count: u64, bytes: &[u8]) -> Result<(&[u8], 
     Ok(bytes.split_at(count as usize))
 }
 
-/// That many bytes of a text string, which have to be UTF-8, and the bytes after them. `left` is
-/// what was left at the head.
+/// Splits off the first `count` bytes as text, which must be UTF-8. `left` counts the bytes from
+/// the start of the string's head.
 #[tactic(auto, unfolding(crate::specs::Reading::string_at))]
 #[inline(always)]
 pub(crate) fn text_at(left: usize, count: u64, bytes: &[u8]) -> Result<(&str, &[u8]), Fault>
@@ -126,7 +126,7 @@ pub(crate) fn text_at(left: usize, count: u64, bytes: &[u8]) -> Result<(&str, &[
     Ok((text, rest))
 }
 
-/// A chunk of a byte string: a definite one.
+/// Reads a chunk of a byte string: a definite-length byte string.
 #[tactic(auto, unfolding(crate::specs::Reading::chunk_at))]
 pub(crate) fn byte_chunk(bytes: &[u8]) -> Result<(&[u8], &[u8]), Fault>
     ensures { Answers (λ x. (x.0.now, x.1.now)) result (chunk_at false bytes.now) }
@@ -138,7 +138,7 @@ pub(crate) fn byte_chunk(bytes: &[u8]) -> Result<(&[u8], &[u8]), Fault>
     }
 }
 
-/// A chunk of a text string: a definite one, UTF-8 by itself.
+/// Reads a chunk of a text string: a definite-length text string, which is UTF-8 by itself.
 #[tactic(auto, unfolding(crate::specs::Reading::chunk_at))]
 pub(crate) fn text_chunk(bytes: &[u8]) -> Result<(&str, &[u8]), Fault>
     ensures { Answers (λ x. (x.0.now, x.1.now)) result (chunk_at true bytes.now) }
@@ -150,7 +150,8 @@ pub(crate) fn text_chunk(bytes: &[u8]) -> Result<(&str, &[u8]), Fault>
     }
 }
 
-/// The chunks up to the break, joined. Each item takes at least one byte, so the loop needs no more turns than there are bytes.
+/// Reads chunks up to the break and joins them. Each chunk takes at least one byte, so
+/// `bytes.len()` turns are enough.
 fn byte_chunks(alloc: Global, bytes: &[u8]) -> Result<(Vec<u8>, &[u8]), ReadError>
     ensures { Gives (λ x. (x.0.items, x.1.now)) result (chunks_at false bytes.now) }
 {
@@ -167,7 +168,7 @@ fn byte_chunks(alloc: Global, bytes: &[u8]) -> Result<(Vec<u8>, &[u8]), ReadErro
     Err(ReadError::Fault(Fault::End))
 }
 
-/// The chunks of a text string up to the break, joined.
+/// Reads the chunks of a text string up to the break and joins them.
 fn text_chunks(alloc: Global, bytes: &[u8]) -> Result<(String, &[u8]), ReadError>
     ensures { Gives (λ x. (string_bytes x.0, x.1.now)) result (chunks_at true bytes.now) }
 {
@@ -184,7 +185,7 @@ fn text_chunks(alloc: Global, bytes: &[u8]) -> Result<(String, &[u8]), ReadError
     Err(ReadError::Fault(Fault::End))
 }
 
-/// A byte string of that many bytes, or in chunks where no length is announced.
+/// Reads the content of a byte string: `count` bytes, or chunks if `count` is `None`.
 #[inline(always)]
 pub(crate) fn byte_string(
     alloc: Global,
@@ -201,8 +202,8 @@ pub(crate) fn byte_string(
     Ok((Vec::from_slice(alloc, found)?, rest))
 }
 
-/// A text string of that many bytes, or in chunks where no length is announced. `left` is what was
-/// left at the head.
+/// Reads the content of a text string: `count` bytes, or chunks if `count` is `None`. `left` counts
+/// the bytes from the start of the string's head.
 #[inline(always)]
 pub(crate) fn text_string(
     alloc: Global,

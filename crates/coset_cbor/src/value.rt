@@ -1,3 +1,3 @@
-//! CBOR's values.
+//! The types of CBOR values.
 
 pub use coset_value::{Float, Integer, Value};

@@ -1,4 +1,4 @@
-//! Writing values.
+//! Writes values as bytes.
 
 ghost use Rattle.std.specs.Prelude.{◌≡◌, ◌++◌, ◌∷◌, [], OnOk, length, ◌*◌, ◌+◌, ◌<◌, ◌^◌};
 ghost use Rattle.std.specs.Str.{IsUtf8};
@@ -11,7 +11,7 @@ use crate::head::MajorType;
 use coset_value::{Float, Integer, Value};
 use std::alloc::AllocError;
 
-/// The first byte of a head of this type, with these low bits.
+/// Returns the initial byte of a head of this major type, with these low five bits.
 fn first_byte(major_type: MajorType, low: u8) -> u8
     requires { low < 32 }
     ensures { result ≡ 32 * major_type_number major_type + low }
@@ -19,7 +19,7 @@ fn first_byte(major_type: MajorType, low: u8) -> u8
     32 * (major_type as u8) + low
 }
 
-/// Writes a byte and some bytes, or nothing.
+/// Appends a byte and then `more`, which may be empty. After an error, part of them may remain.
 #[inline(always)]
 fn put_two(out: &mut Vec<u8>, first: u8, more: &[u8]) -> Result<(), AllocError>
     ensures ok { OnOk result (out.new.items ≡ out.old.items ++ first ∷ more.now) }
@@ -30,7 +30,7 @@ fn put_two(out: &mut Vec<u8>, first: u8, more: &[u8]) -> Result<(), AllocError>
     Ok(())
 }
 
-/// Writes the shortest head of this type with argument `n`.
+/// Appends the shortest head of this major type with argument `n`.
 #[tactic(auto, unfolding(crate::specs::Least::least_head))]
 pub(crate) fn put_head(out: &mut Vec<u8>, major_type: MajorType, n: u64) -> Result<(), AllocError>
     ensures ok { OnOk result (out.new.items ≡ out.old.items
@@ -76,7 +76,7 @@ pub(crate) fn put_integer(out: &mut Vec<u8>, n: Integer) -> Result<(), AllocErro
     }
 }
 
-/// Writes a head with the length, and the bytes.
+/// Appends a head with the length, and then the bytes.
 pub(crate) fn put_string(
     out: &mut Vec<u8>,
     major_type: MajorType,
@@ -92,7 +92,7 @@ pub(crate) fn put_string(
     Ok(())
 }
 
-/// Writes a text string: a head with the length, and the bytes.
+/// Appends a text string: a head with the length, and then the bytes.
 pub(crate) fn put_text(out: &mut Vec<u8>, text: &str) -> Result<(), AllocError>
     ensures ok { OnOk result (out.new.items ≡ out.old.items
         ++ (least_head 3 (length text.now) ++ text.now)) }
@@ -102,7 +102,7 @@ pub(crate) fn put_text(out: &mut Vec<u8>, text: &str) -> Result<(), AllocError>
     put_string(out, MajorType::Text, text.as_bytes())
 }
 
-/// Writes the shortest encoding of the value at the end. An `Err` may leave part of it there.
+/// Appends the shortest encoding of `value`. After an error, part of it may remain.
 #[cycle(put)]
 pub(crate) fn put(out: &mut Vec<u8>, value: &Value) -> Result<(), AllocError>
     ensures ok { OnOk result (out.new.items ≡ out.old.items ++ least_encoding
@@ -160,8 +160,9 @@ fn put_pairs(out: &mut Vec<u8>, pairs: &Vec<(Value, Value)>) -> Result<(), Alloc
     Ok(())
 }
 
-/// Writes the shortest encoding of the value at the end, and lets each element of an array or a map go as soon as it is
-/// written; what a tag encloses goes with the tag. An `Err` may leave part of it there.
+/// Appends the shortest encoding of `value`, and drops each element of an array or a map as soon as
+/// it is written. The item in a tag is dropped with the tag. After an error, part of the encoding
+/// may remain.
 #[cycle(put_owned)]
 pub(crate) fn put_owned(out: &mut Vec<u8>, value: Value) -> Result<(), AllocError>
     ensures ok { OnOk result (out.new.items ≡ out.old.items ++ least_encoding (value_item value)) }

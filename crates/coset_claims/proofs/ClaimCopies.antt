@@ -1,4 +1,4 @@
--- A copy of an option is seen as what it is a copy of, where that holds of what the two hold.
+-- A copy of an option has the same view, if a copy of its content has.
 use Rattle.std.proofs.Common.{◌≡◌, ℕ, List, [], ◌∷◌, Option, Some, None, option_map, refl, ap}
 use Rattle.std.specs.List.{AllZip}
 use Rattle.coset_label.proofs.Copies.{Copied}
@@ -10,7 +10,7 @@ option_copied f R same None (Some y) c = absurd c
 option_copied f R same (Some x) None c = absurd c
 option_copied f R same (Some x) (Some y) c = ap Some (same x y c)
 
--- copies of numbers, one by one
+-- Copies of numbers, one by one.
 pub numbers_copied : (xs ys : List ℕ) → AllZip (λ x y. y ≡ x) xs ys → ys ≡ xs
 numbers_copied [] [] c = refl
 numbers_copied [] (y ∷ ys) c = absurd c

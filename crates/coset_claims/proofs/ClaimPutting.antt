@@ -1,4 +1,4 @@
--- One more claim of the rest.
+-- Adding a claim to `rest`.
 use Rattle.std.proofs.Common.{◌≡◌, List, [], ◌∷◌, ◌++◌, Bool, ◌||◌, false, refl, sym, subst}
 use Rattle.coset_value.specs.Item.{Item}
 use Rattle.coset_codec.specs.Maps.{Adds, IfThenElse, is_core}
@@ -8,13 +8,13 @@ use Rattle.coset_claims.specs.ClaimLabels as labels
 use Rattle.coset_claims.specs.Claims.{FieldTuple, fields, names, same_name}
 use Rattle.coset_claims.specs.ClaimsLaws.{names_laws}
 
--- none of seven tests passes
+-- None of seven tests passes.
 none :
     (a b c d e f g : Bool) → a ≡ false → b ≡ false → c ≡ false → d ≡ false → e ≡ false → f ≡ false → g ≡ false
     → (a || (b || (c || (d || (e || (f || (g || false))))))) ≡ false
 none a b c d e f g h1 h2 h3 h4 h5 h6 h7 = rw (h1, h2, h3, h4, h5, h6, h7) refl
 
--- a claim whose name is none of the fields' goes to the rest
+-- A claim with no field of its own goes to `rest`.
 pub adds_rest :
     (m : RegisteredName) (v : Item) (x y : FieldTuple × List (RegisteredName × Item)) → same_name labels.iss m ≡ false → same_name labels.sub m ≡ false
     → same_name labels.aud m ≡ false → same_name labels.exp m ≡ false

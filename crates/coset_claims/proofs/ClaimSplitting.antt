@@ -1,4 +1,4 @@
--- Claims that are taken apart by their keys.
+-- Claims that are split by their keys.
 use Rattle.std.proofs.Common.{◌≡◌, ◌++◌, ◌∙◌, ℕ, List, [], ◌∷◌, Bool, true, false, not, Some, Result, Ok, Err, Vec, is_ok, map, true≢false, ap}
 use Rattle.std.proofs.Common.{ap₂, append_assoc, append-nil, inl, inr, refl, rules, subst, sym}
 use Rattle.std.proofs.lemmas.List.{map-append}
@@ -30,12 +30,11 @@ use Rattle.coset_codec.proofs.Refusals.{at_fault}
 
 -- ---- pair by pair
 
--- the claims' pairs ns and the others us, and what the pairs that are left are taken apart to, is what all are taken
--- apart to
+-- The split of all pairs consists of `ns` and `us`, and then of the split of the pairs `left`.
 abbrev pub GoesOn : Pairs → Pairs → Others → Pairs → Type 0
 GoesOn all ns us left = (ms : Pairs) (ws : Others) → Splits left ms ws → Splits all (and_pairs ns ms) (us ++ ws)
 
--- a key among those that are left which is no label is one of all
+-- A faulty key in `left` is a faulty key in `all`.
 abbrev pub Blames : Pairs → Pairs → Type 0
 Blames all left = (e : CoseError) → SomePair (IsNoLabel e) left → SomePair (IsNoLabel e) all
 
@@ -79,7 +78,7 @@ pub entries_pushed :
     → map entry_view new ≡ map entry_view old ++ (label_view l, v) ∷ []
 entries_pushed old new l y v e q = ap (map entry_view) e ∙ (map-append entry_view old ((l, y) ∷ []) ∙ ap (λ w. map entry_view old ++ (label_view l, w) ∷ []) q)
 
--- whether a key is a name, where it is read
+-- Reading a key by itself decides whether it is a name.
 pub is_named : {T : Type 0} (view : T → RegisteredName) (k : Item) (r : Result T CoseError) (b : Bool) → IsReadAlone claim_name view k r → is_ok r ≡ b
     → IsNamed b k
 is_named view k (Err f) b h e = subst (λ x. IsNamed x k) e (λ n. h.2 n.0 n.1)
@@ -91,7 +90,7 @@ pub not_split :
 not_split ps view e (Ok x) is h = absurd is
 not_split ps view e (Err x) is h = λ n. subst (λ f. SomePair (IsNoLabel f) ps) (sym is) (h (λ m. n (is ∙ m)))
 
--- ---- what is known has no fault
+-- ---- known pairs have no fault
 
 splits_unique : (ps ns ms : Pairs) (us ws : Others) → Splits ps ns us → Splits ps ms ws → (ns ≡ ms) × (us ≡ ws)
 splits_unique no_pairs ns ms us ws p q = (p.0 ∙ sym q.0, p.1 ∙ sym q.1)
@@ -125,13 +124,13 @@ pub known_sound : (v : Item) (x : ClaimsView × Others) (e : CoseError) → know
 known_sound v x e d (inl f) = some-none d.1 f.0
 known_sound v x e d (inr f) = pairs_sound d.0 x e d.2 (subst (λ ps. KnownFaults ps e) (some-one f.1 d.1) f.2)
 
--- ---- what is returned
+-- ---- results
 
--- a map's view is that of its pairs
+-- The view of a map is that of its pairs.
 pub value_item-Map : (ps : Vec (Value × Value) Global) → value_item (Map ps) ≡ dict (value_pairs ps.items)
 value_item-Map ps = search (rules, the_lemmas)
 
--- b is not distinct, where that is known
+-- If `b` is false and the negation of `d`, then `d` is true.
 pub told : (b d : Bool) → b ≡ not d → b ≡ false → d ≡ true
 told b true e f = refl
 told b false e f = absurd (true≢false (sym e ∙ f))

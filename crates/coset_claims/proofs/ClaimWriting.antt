@@ -1,4 +1,4 @@
--- Claims, each of which is written.
+-- Timestamps can always be written.
 use Rattle.std.proofs.Common.{◌≡◌, None}
 use Rattle.coset_claims.specs.Timestamp.{timestamp, timestamp_view}
 use Rattle.coset_claims.specs.declared.timestamp.Timestamp.{Timestamp}

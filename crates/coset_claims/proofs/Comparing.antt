@@ -1,4 +1,4 @@
--- How numbers compare whose units are multiplied by powers of 2.
+-- Comparing numbers whose units are multiplied by powers of 2.
 use Rattle.std.proofs.Common.{◌≡◌, ℕ, zero, suc, ◌-◌, ◌+◌, ◌*◌, ◌/◌, ◌%◌, ◌^◌, ◌<◌, ◌≤◌, ap, sym}
 use Rattle.std.proofs.Common.{subst, refl, arith, ◌∙◌, ◌≢◌, ℤ, pos, negsuc, ◌<ℤ◌, ◌*ℤ◌, neg_ℤ}
 use Rattle.std.specs.declared.cmp.Ordering.{Ordering}
@@ -18,7 +18,7 @@ as_ordered x y a b l e g Less h = l h
 as_ordered x y a b l e g Equal h = e h
 as_ordered x y a b l e g Greater h = g h
 
--- two numbers compare as two others do
+-- Two numbers compare as two others do, if both pairs have the same order.
 same_order : (x y a b : ℕ) → (x < y → a < b) → (x ≡ y → a ≡ b) → (y < x → b < a) → nat_cmp x y ≡ nat_cmp a b
 same_order x y a b l e g = nat_cmp_is a b (nat_cmp x y) (as_ordered x y a b l e g (nat_cmp x y) (ranked x y (nat_cmp x y) refl))
 
@@ -33,7 +33,7 @@ reversed x y Greater h = h
 pub turned : (x y : ℕ) → ordering_reverse (nat_cmp x y) ≡ nat_cmp y x
 turned x y = nat_cmp_is y x (ordering_reverse (nat_cmp x y)) (reversed x y (nat_cmp x y) (ranked x y (nat_cmp x y) refl))
 
--- a * p compares with b as a with the quotient of b by p, where that leaves no remainder
+-- Comparing `a * p` with `b` is comparing `a` with the quotient of `b` by `p`, if there is no remainder.
 pub divided : (a b p : ℕ) → 0 < p → b / p * p ≡ b → nat_cmp a (b / p) ≡ nat_cmp (a * p) b
 divided a b p h e = sym (cancelled a (b / p) p h) ∙ ap (λ (z : ℕ). nat_cmp (a * p) z) e
 
@@ -43,7 +43,7 @@ less_then a b p q l u Less h = let m : a * p ≤ q * p = mul-le-mul_right p (ome
 less_then a b p q l u Equal h = let m : a * p ≡ q * p = ap (λ (z : ℕ). z * p) h in omega (arith, m, l)
 less_then a b p q l u Greater h = let m : suc q * p ≤ a * p = mul-le-mul_right p (omega (arith, h)) in omega (arith, m, u)
 
--- where there is a remainder, an equal quotient is less
+-- If there is a remainder, an equal quotient means less.
 pub divided_less : (a b p : ℕ) → 0 < p → (b / p * p ≢ b) → ordering_then (nat_cmp a (b / p)) Less ≡ nat_cmp (a * p) b
 divided_less a b p h n =
     let q = b / p in
@@ -57,17 +57,17 @@ divided_less a b p h n =
     below : (x y : ℕ) → x ≤ y → (x ≢ y) → x < y
     below x y l n = omega (arith, l, n)
 
--- a power of 2 is that of the one part times that of the other
+-- A power of 2 is the product of the powers of two parts of its exponent.
 pub split : (e c : ℕ) → c ≤ e → 2 ^ e ≡ 2 ^ (e - c) * 2 ^ c
 split e c l = ap (λ (z : ℕ). 2 ^ z) (omega arith) ∙ pow-add 2 (e - c) c
 
--- s * 2 ^ e compares with k * 2 ^ c as s * 2 ^ (e - c) with k
+-- Comparing `s * 2 ^ e` with `k * 2 ^ c` is comparing `s * 2 ^ (e - c)` with `k`.
 pub with_scale : (s e k c : ℕ) → c ≤ e → nat_cmp (s * 2 ^ (e - c)) k ≡ nat_cmp (s * 2 ^ e) (k * 2 ^ c)
 with_scale s e k c l =
     let over : s * 2 ^ e ≡ s * 2 ^ (e - c) * 2 ^ c = ap (λ (z : ℕ). s * z) (split e c l) ∙ sym (mul_assoc s (2 ^ (e - c)) (2 ^ c)) in
     sym (cancelled (s * 2 ^ (e - c)) k (2 ^ c) (pow_pos c)) ∙ ap (λ (z : ℕ). nat_cmp z (k * 2 ^ c)) (sym over)
 
--- what isn't 0 is, times a power of 2 from 128 on, greater than what 128 bits hold
+-- A number other than 0, times a power of 2 from 128 on, is greater than any number of 128 bits.
 pub beyond : (a b up : ℕ) → 0 < a → b < 2 ^ 128 → 128 ≤ up → Greater ≡ nat_cmp (a * 2 ^ up) b
 beyond zero b up h l n = absurd (omega (arith, h))
 beyond (suc t) b up h l n =
@@ -75,11 +75,11 @@ beyond (suc t) b up h l n =
     let m : 2 ^ up ≤ suc t * 2 ^ up = subst (λ (z : ℕ). 2 ^ up ≤ z) (mul_comm (2 ^ up) (suc t)) (le-mul_of_pos_right (2 ^ up) (omega arith)) in
     nat_cmp_is (suc t * 2 ^ up) b Greater (omega (arith, p, m, l))
 
--- a quotient, shifted back, is no greater than what was shifted
+-- A quotient that is shifted back is at most the original number, so it doesn't overflow 128 bits.
 pub shifted_back : (b up : ℕ) → b < 2 ^ 128 → (b / 2 ^ up * 2 ^ up) % 2 ^ 128 ≡ b / 2 ^ up * 2 ^ up
 shifted_back b up h = let l : b / 2 ^ up * 2 ^ up ≤ b = div-mul-le_self b (2 ^ up) in mod-eq_of_lt (omega (arith, h, l))
 
--- what isn't positive is less than what is, whatever that is multiplied by
+-- A number that isn't positive is less than any positive multiple of a positive number.
 pub negative_below : (u p : ℕ) (k : ℤ) → pos 0 <ℤ k → 0 < p → Less ≡ int_cmp (neg_ℤ (pos u)) (k *ℤ pos p)
 negative_below u p (pos n) h l =
     let m : 1 ≤ n * p = one-le-mul (omega (arith, ints, h)) l in

@@ -1,4 +1,4 @@
--- Elements of an array that were passed.
+-- Elements of an array that were consumed.
 use Rattle.std.proofs.Common.{◌≡◌, ◌≤◌, Option, Result, Err, sym, subst, arith}
 use Rattle.std.specs.Prelude.{ℕ, Vec}
 use Rattle.std.specs.Global.{Global}
@@ -10,18 +10,18 @@ use Rattle.coset_codec.specs.Inputs.{State, tree, lent, AreWithin, GoesBehind, l
 use Rattle.coset_codec.specs.Shape.{IsEnd, LastWrongLength}
 use Rattle.coset_claims.specs.SuppPub.{ReadsOther, other_place}
 
--- who is behind something stays so
+-- If `t` is after `s`, so is every later position `u`.
 pub goes_further : (s t u : State) → GoesBehind s t → length_left u ≤ length_left t → GoesBehind s u
 goes_further (tree w) t u g h = tt
 goes_further (lent s) t u g h = omega (arith, g, h)
 
--- what is left behind the last element, and that nothing is wrong with the number of elements where nothing is
+-- The items after the last element. If there are none, the number of elements isn't wrong.
 pub other_behind : (vs : Items) (t z : State) (m : ArrayElements) (r : Result (Option (Vec ℕ Global)) CoseError) → ReadsOther vs t z m r → (left : Items)
     × AreWithin m left t z × (left ≡ no_items → LastWrongLength vs → ⊥)
 other_behind no_items t z m r p = (no_items, p.0, λ none wrong_length. wrong_length)
 other_behind (item v vs) t z m r p = (vs, p.0, λ none wrong_length. wrong_length (subst IsEnd (sym none) tt))
 
--- the last place is at fault
+-- The last element is at fault.
 pub other_refused :
     (vs : Items) (t z : State) (m : ArrayElements) (e : CoseError) → ReadsOther vs t z m (Err e) → (left : Items) × AreWithin m left t z
     × (left ≡ no_items → (LastWrongLength vs → ⊥) × UnlessMemory e (other_place.faults vs))

@@ -1,4 +1,4 @@
--- The text of a moment, by what each of its numbers is laid out by.
+-- The text of a moment, from the formatted texts of its numbers.
 use Rattle.std.proofs.Common.{◌≡◌, ℕ, ◌+◌, ◌-◌, ◌/◌, ◌%◌, ◌^◌, ◌++◌, refl}
 use Rattle.std.specs.Fmt.{format_spec, styled_decimal}
 use lib.Chars.{codes}

@@ -4,7 +4,7 @@ use Rattle.std.proofs.lemmas.Bool.Decides.{nat_tests}
 use Prim.Native.Nat.{min}
 use Rattle.coset_claims.specs.Dates.{days_in_year, year_after}
 
--- the days of the first n years from the year 1 on
+-- The days of the first `n` years, from the year 1 on.
 unfoldable pub days_of_years : ℕ → ℕ
 days_of_years zero = 0
 days_of_years (suc n) = days_of_years n + days_in_year (suc n)
@@ -36,7 +36,7 @@ later : (most y n : ℕ) → days_in_year y ≤ n → year_after (suc most) y n 
 unfolding year_after
 later most y n h = grind (arith, nat_tests)
 
--- the year that is k years later, where so many days of it have passed
+-- Counting from the year `j + 1` ends `k` years later, when `r` days of that year have passed.
 pub counted :
     (k most j l n r : ℕ) → l ≡ k + j → k ≤ most → n + days_of_years j ≡ days_of_years l + r → r < days_in_year (suc l) →
     year_after most (suc j) n ≡ (suc l, r)
@@ -53,7 +53,7 @@ counted (suc k) (suc most) j l n r is enough e h =
     later most (suc j) n (omega (arith, e, next, up))
     ∙ counted k most (suc j) l (n - days_in_year (suc j)) r over (omega (arith, enough)) (omega (arith, e, next, up)) h
 
--- the days before the year after so many eras of 400 years, centuries, four years and years
+-- The days before the year after `e` eras of 400 years, `m` centuries, `q` times four years, and `y` years.
 before : (e m q y : ℕ) → m ≤ 3 → q ≤ 24 → y ≤ 3 → days_of_years (400 * e + 100 * m + 4 * q + y) ≡ 146097 * e + 36524 * m + 1461 * q + 365 * y
 before e m q y a b c =
     let n = 400 * e + 100 * m + 4 * q + y in
@@ -62,12 +62,12 @@ before e m q y a b c =
     let j : n / 400 ≡ e = omega (arith, a, b, c) in
     omega (arith, closed n, h, i, j)
 
--- a leap day is the last day of the last year of four, but of a century only in the last century
+-- A leap day is the last day of four years, but it ends a century only if that is the last one of an era.
 fits : (e m q y t : ℕ) → m ≤ 3 → t < 1461 → 1461 * q + t ≤ 36524 → (m < 3 → 1461 * q + t < 36524) → y ≡ min (t / 365) 3
     → t - 365 * y < days_in_year (suc (400 * e + 100 * m + 4 * q + y))
 fits e m q y t a b c d i = grind (arith, nat_tests)
 
--- whole eras of 400 years, centuries, four years and years, and the days after them
+-- The days consist of whole eras of 400 years, centuries, four years and years, and of the days after them.
 pub split : (d m y : ℕ) → m ≡ min (d % 146097 / 36524) 3 → y ≡ min ((d % 146097 - 36524 * m) % 1461 / 365) 3
     → (d ≡ days_of_years (400 * (d / 146097) + 100 * m + 4 * ((d % 146097 - 36524 * m) / 1461) + y) + ((d % 146097 - 36524 * m) % 1461 - 365 * y))
     × (((d % 146097 - 36524 * m) % 1461 - 365 * y) < days_in_year (suc (400 * (d / 146097) + 100 * m + 4 * ((d % 146097 - 36524 * m) / 1461) + y)))
@@ -82,6 +82,6 @@ split d m y a b =
       fits (d / 146097) m (g / 1461) y (g % 1461) few (omega arith) (omega (arith, whole, left)) (λ h. omega (arith, whole, less h)) b,
     )
 
--- there are no more years than days
+-- There are at most as many years as days.
 pub before_enough : (k d r : ℕ) → d ≡ days_of_years k + r → k ≤ d
 before_enough k d r e = omega (arith, e, closed k)

@@ -3,30 +3,30 @@ use Rattle.coset_iana.specs.CwtClaimName as claim_names
 use Rattle.coset_iana.specs.declared.claims.CwtClaimName.TheVariants.{Iss, Sub, Aud, Exp, Nbf, Iat, Cti}
 use Rattle.coset_label.specs.Names.{RegisteredName, assigned}
 
--- issuer
+-- Issuer.
 abbrev pub iss : RegisteredName
 iss = assigned (claim_names.number Iss)
 
--- subject
+-- Subject.
 abbrev pub sub : RegisteredName
 sub = assigned (claim_names.number Sub)
 
--- audience
+-- Audience.
 abbrev pub aud : RegisteredName
 aud = assigned (claim_names.number Aud)
 
--- expiration time
+-- Expiration time.
 abbrev pub exp : RegisteredName
 exp = assigned (claim_names.number Exp)
 
--- not before
+-- Not before.
 abbrev pub nbf : RegisteredName
 nbf = assigned (claim_names.number Nbf)
 
--- issued at
+-- Issued at.
 abbrev pub iat : RegisteredName
 iat = assigned (claim_names.number Iat)
 
--- CWT ID
+-- CWT ID.
 abbrev pub cti : RegisteredName
 cti = assigned (claim_names.number Cti)

@@ -19,9 +19,9 @@ use Rattle.coset_claims.specs.ClaimLabels as labels
 use Rattle.coset_claims.specs.Timestamp.{TimestampView, timestamp, timestamp_view}
 use Rattle.coset_claims.specs.declared.claims_set.ClaimsSet.{ClaimsSet}
 
--- ---- what contracts see
+-- ---- views
 
--- a claims set without its memory
+-- The view of a claims set.
 pub record ClaimsView : Type 0 where
   pub issuer : Option (List ℕ)
   pub subject : Option (List ℕ)
@@ -32,11 +32,11 @@ pub record ClaimsView : Type 0 where
   pub cwt_id : Option (List ℕ)
   pub rest : List (RegisteredName × Item)
 
--- a claim's name
+-- The view of a claim's name.
 abbrev pub name_view : RegisteredLabelWithPrivate CwtClaimName → RegisteredName
 name_view = registered_or_private_view claim_names.number
 
--- a claim of the rest
+-- The view of a claim in `rest`.
 abbrev pub entry_view : RegisteredLabelWithPrivate CwtClaimName × Value → RegisteredName × Item
 entry_view e = (name_view e.0, value_item e.1)
 
@@ -52,7 +52,7 @@ claims_view c = record {
   rest = map entry_view c.rest.items;
 }
 
--- no claim
+-- A claims set without claims.
 abbrev pub no_claims : ClaimsView
 no_claims = record {
   issuer = None;
@@ -65,21 +65,21 @@ no_claims = record {
   rest = [];
 }
 
--- ---- which items are claims sets
+-- ---- shapes
 
--- a claim's name: the number of one that IANA assigned, else a number for private use, or a text
+-- A claim's name: a number that IANA assigned, a number for private use, or a text.
 unfoldable pub claim_name : Shape RegisteredName
 claim_name = registered_or_private (λ i. is_some (first_numbered claim_names.number CWT_CLAIM_NAMES i)) is_private_use
 
--- two names are one
+-- Returns true if the two names are the same.
 abbrev pub same_name : RegisteredName → RegisteredName → Bool
 same_name a b = is_eq (registered_cmp a b)
 
--- claim names are compared as their numbers and texts are
+-- Claim names, which are the same if their numbers or texts are.
 abbrev pub names : Names RegisteredName
 names = record { shape = claim_name; same = same_name }
 
--- the registered claims, in the order of their numbers
+-- The registered claims, in the order of their numbers.
 abbrev pub FieldTuple : Type 0
 FieldTuple = Option (List ℕ) × (Option (List ℕ) × (Option (List ℕ)
     × (Option TimestampView × (Option TimestampView × (Option TimestampView × (Option (List ℕ) × Unit {0}))))))
@@ -111,16 +111,16 @@ claims_of p = record {
 abbrev pub parts_of : ClaimsView → FieldTuple × List (RegisteredName × Item)
 parts_of c = ((c.issuer, (c.subject, (c.audience, (c.expiration_time, (c.not_before, (c.issued_at, (c.cwt_id, tt))))))), c.rest)
 
--- {fields, * claim_name => any}. No two names are one where a claims set is read; where it is written, that isn't asked
+-- {fields, * claim_name => any}. Reading a claims set refuses repeated names; writing one doesn't check them.
 unfoldable pub claims : Shape ClaimsView
 claims = mapped claims_of parts_of (labelled_freely names fields)
 
--- ---- what a builder's calls make
+-- ---- the builder's calls
 
--- one more claim, behind the others of the rest
+-- The claims set with one more claim at the end of `rest`.
 abbrev pub and_claim : RegisteredName → Item → ClaimsView → ClaimsView
 and_claim l v c = record c { rest = c.rest ++ (l, v) ∷ [] }
 
--- no claim with a field of its own has this number: it is none of 1 to 7
+-- The number is none of 1 to 7, which are the claims with fields of their own.
 abbrev pub IsOtherClaim : ℤ → Type 0
 IsOtherClaim n = (int_lt n (pos 1) ≡ true) ⊎ (int_lt (pos 7) n ≡ true)

@@ -1,4 +1,4 @@
--- Two claims sets are seen alike exactly where their claims are.
+-- The views of two claims sets are equal exactly if their claims are.
 use Rattle.std.specs.Prelude.{◌≡◌, ◌&&◌, Bool, Decides}
 use Rattle.std.proofs.Common.{ap}
 use Rattle.std.proofs.lemmas.Bool.Decides.{Decides-like, Decides-and}
@@ -10,7 +10,7 @@ use Rattle.coset_label.specs.Names.{RegisteredName}
 use Rattle.coset_label.specs.Same.{IsEquality}
 use Rattle.coset_claims.specs.Claims.{ClaimsView, same_name}
 
--- the same name, and the same item
+-- The names are the same, and the items are.
 abbrev claim_eq : RegisteredName × Item → RegisteredName × Item → Bool
 claim_eq e f = same_name e.0 f.0 && item_eq e.1 f.1
 

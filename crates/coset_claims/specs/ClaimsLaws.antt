@@ -1,4 +1,4 @@
--- The laws of claims sets' shape.
+-- The laws of the shape of claims sets.
 use Rattle.std.proofs.Common.{◌≡◌, Some, false, refl, rules}
 use Rattle.std.specs.Prelude.{ℤ}
 use Rattle.coset_value.specs.Item.{integer}
@@ -23,7 +23,7 @@ names_laws = record {
   same_self = λ l. (registered_cmp-apart l l).1 refl;
 }
 
--- a registered claim's name is an integer
+-- The name of a registered claim is an integer.
 flat : (i : ℤ) → claim_name.image (assigned i) ≡ Some (integer i) → claim_name.describes (integer i) (assigned i) → Flat RegisteredName names (assigned i)
 flat i e d = record { key = integer i; is_image = e; described = d; is_flat = refl }
 

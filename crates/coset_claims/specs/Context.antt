@@ -1,4 +1,4 @@
--- COSE_KDF_Context: what a key is derived for (RFC 8152, section 11.2).
+-- COSE_KDF_Context, the context of a key derivation (RFC 8152, section 11.2).
 use Rattle.std.specs.Prelude.{ℕ, List, [], ◌∷◌, ◌++◌, Option, map, option_map, refl}
 use Rattle.coset_value.specs.Item.{Item, Items, array, item}
 use Rattle.coset_iana.specs.Algorithm as algorithms
@@ -13,7 +13,7 @@ use Rattle.coset_claims.specs.Party.{PartyView, empty_party, party, party_laws, 
 use Rattle.coset_claims.specs.SuppPub.{SuppPubView, empty_supp_pub, supp_pub, supp_pub_laws, supp_pub_view}
 use Rattle.coset_claims.specs.declared.context.CoseKdfContext.{CoseKdfContext}
 
--- a context without its memory
+-- The view of a context.
 pub record ContextView : Type 0 where
   pub algorithm_id : RegisteredName
   pub party_u_info : PartyView
@@ -30,7 +30,7 @@ context_view c = record {
   supp_priv_info = map (λ b. b.items) c.supp_priv_info.items;
 }
 
--- one in which nothing is said, with the reserved algorithm
+-- A context with the reserved algorithm and without any information.
 abbrev pub empty_context : ContextView
 empty_context = record {
   algorithm_id = assigned (algorithms.number Reserved);
@@ -59,12 +59,12 @@ context_laws =
     (array_of_laws _ (then_laws _ _ algorithm_laws (then_laws _ _ party_laws
     (then_laws _ _ party_laws (then_laws _ _ supp_pub_laws (any_number_laws bstr bstr_laws))))))
 
--- with one byte string more behind the others
+-- The context with one more byte string of private information, after the others.
 abbrev pub and_supp_priv_info : List ℕ → ContextView → ContextView
 and_supp_priv_info b c = record c { supp_priv_info = c.supp_priv_info ++ b ∷ [] }
 
--- ---- what its writer is made of
+-- ---- writing
 
--- the array of four elements, and of those behind them, where each has an item
+-- The array of four elements, followed by `more`, if each of them has an item.
 abbrev pub four_elements_and : Option Item → Option Item → Option Item → Option Item → Option Items → Option Item
 four_elements_and a b c d more = option_map array (both item a (both item b (both item c (both item d more))))

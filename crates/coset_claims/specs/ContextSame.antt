@@ -1,4 +1,4 @@
--- That `==` of contexts and of their parts is equality of what contracts see.
+-- `==` of contexts and of their parts is equality of their views.
 use Rattle.std.specs.Prelude.{◌≡◌, Bool, Decides, false, ◌&&◌, ◌==◌}
 use Rattle.std.specs.Ordering.{int_eq, on}
 use Rattle.std.specs.Option.{option_eq}
@@ -17,7 +17,7 @@ use Rattle.coset_claims.specs.Context.{ContextView}
 use Rattle.coset_claims.specs.declared.party.PartyInfo.{PartyInfo}
 use Rattle.coset_claims.specs.declared.supp_pub.SuppPubInfo.{SuppPubInfo}
 
--- the same number, or the same bytes
+-- The integers are the same, or the bytes are.
 abbrev pub nonce_eq : NonceView → NonceView → Bool
 nonce_eq (nonce_integer i) (nonce_integer j) = int_eq i j
 nonce_eq (nonce_bytes a) (nonce_bytes b) = pointwise ◌==◌ a b
@@ -32,13 +32,13 @@ nonce_eq-decides (nonce_bytes a) (nonce_bytes b) =
 nonce_eq-decides (nonce_integer i) (nonce_bytes b) = (λ e. absurd (true≢false (sym e)), λ e. absurd (cc))
 nonce_eq-decides (nonce_bytes a) (nonce_integer j) = (λ e. absurd (true≢false (sym e)), λ e. absurd (cc))
 
--- the same in each of its three elements
+-- Each of the three elements is the same.
 abbrev party_eq : PartyInfo → PartyInfo → Bool
 party_eq p q =
     option_eq (λ x y. pointwise ◌==◌ x.items y.items) p.identity q.identity
     && (option_eq (on nonce_view nonce_eq) p.nonce q.nonce && option_eq (λ x y. pointwise ◌==◌ x.items y.items) p.other q.other)
 
--- `==` is equality of what contracts see
+-- `==` is equality of the views.
 pub party_decides : EqDecides party_view party_eq
 party_decides p q =
     Decides-like (party_eq p q)
@@ -47,7 +47,8 @@ party_decides p q =
     (Decides-and _ _ (bstr_decides p.identity q.identity)
     (Decides-and _ _ (options_decides nonce_view _ (λ x y. nonce_eq-decides (nonce_view x) (nonce_view y)) p.nonce q.nonce) (bstr_decides p.other q.other)))
 
--- the same length, the same protected header in header and bytes, and the same other bytes or none of either
+-- The lengths are the same, the protected headers have the same header and kept bytes, and the other bytes are the same
+-- or both missing.
 abbrev supp_pub_eq : SuppPubInfo → SuppPubInfo → Bool
 supp_pub_eq s t =
     (s.key_data_length == t.key_data_length)
@@ -61,7 +62,7 @@ supp_pub_decides s t =
     (Decides-and _ _ (unsigned_Decides s.key_data_length t.key_data_length)
     (Decides-and _ _ (protected_decides s.protected t.protected) (bstr_decides s.other t.other)))
 
--- two contexts are seen alike exactly where their parts are
+-- The views of two contexts are equal exactly if their parts are.
 pub context_decides : {p q r s t : Bool} {m n : ContextView} → Decides p (m.algorithm_id ≡ n.algorithm_id) → Decides q (m.party_u_info ≡ n.party_u_info)
     → Decides r (m.party_v_info ≡ n.party_v_info) → Decides s (m.supp_pub_info ≡ n.supp_pub_info) → Decides t (m.supp_priv_info ≡ n.supp_priv_info)
     → Decides (p && (q && (r && (s && t)))) (m ≡ n)
@@ -71,6 +72,6 @@ context_decides p q r s t =
     (λ e. (ap (λ x. x.algorithm_id) e, (ap (λ x. x.party_u_info) e, (ap (λ x. x.party_v_info) e, (ap (λ x. x.supp_pub_info) e, ap (λ x. x.supp_priv_info) e)))))
     (Decides-and _ _ p (Decides-and _ _ q (Decides-and _ _ r (Decides-and _ _ s t))))
 
--- so it is reflexive, symmetric and transitive
+-- So equality of nonces is reflexive, symmetric and transitive.
 pub nonce_eq_equiv : IsEquivalence nonce_eq
 nonce_eq_equiv = decided nonce_eq nonce_eq-decides

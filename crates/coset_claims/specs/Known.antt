@@ -1,4 +1,5 @@
--- The claims of a claims set that are understood, and beside them those whose numbers IANA hasn't assigned (RFC 8392, section 3).
+-- A claims set's understood claims, and those whose numbers are neither assigned by IANA nor for private use (RFC 8392,
+-- section 3).
 use Rattle.std.specs.Prelude.{◌≡◌, ◌⊎◌, List, [], ◌∷◌, Some, None, Bool, true, false, Result, Ok, Err, map}
 use Rattle.std.specs.Map.{keys_of}
 use Rattle.coset_value.specs.Item.{Item, Pairs, no_pairs, pair, dict}
@@ -16,7 +17,7 @@ use Rattle.coset_claims.specs.Claims.{ClaimsView, claim_name, claims, claims_vie
 use Rattle.coset_claims.specs.declared.known.KnownClaims.{KnownClaims}
 use Rattle.coset_claims.specs.declared.known.Parts.{Parts}
 
--- the key is the name of a claim that a claims set holds
+-- The key is the name of a claim that a claims set can contain.
 abbrev pub IsName : Item → Type 0
 IsName k = (n : RegisteredName) × claim_name.describes k n
 
@@ -24,33 +25,33 @@ abbrev pub IsNamed : Bool → Item → Type 0
 IsNamed true k = IsName k
 IsNamed false k = IsName k → ⊥
 
--- the labels and values of claims that no claims set holds
+-- The labels and values of claims that no claims set can contain.
 abbrev pub Others : Type 0
 Others = List (Name × Item)
 
--- the pairs whose keys are claims' names, and all others with the labels that their keys are, both in order
+-- The pairs whose keys are names of claims, and all other pairs with the labels of their keys. Both are in order.
 abbrev pub Splits : Pairs → Pairs → Others → Type 0
 Splits no_pairs ns us = (ns ≡ no_pairs) × (us ≡ [])
 Splits (pair k v ps) ns us =
     (IsName k × ((ms : Pairs) × (ns ≡ pair k v ms) × Splits ps ms us))
     ⊎ ((IsName k → ⊥) × ((l : Name) × (ws : Others) × label.describes k l × (us ≡ (l, v) ∷ ws) × Splits ps ns ws))
 
--- a key is no claim's name, and no label either
+-- The key is neither a claim's name nor a label, and `e` is its fault as a label.
 abbrev pub IsNoLabel : CoseError → Item → Item → Type 0
 IsNoLabel e k v = (IsName k → ⊥) × label.faults k e
 
--- what the first of these make, and the others, no two of which have one label
+-- The pairs split into a claims set and others, whose labels are distinct.
 abbrev pub AreKnown : Pairs → ClaimsView × Others → Type 0
 AreKnown ps x = (ns : Pairs) × Splits ps ns x.1 × claims.describes (dict ns) x.0 × (are_distinct names.same (keys_of x.1) ≡ true)
 
--- what is wrong with pairs: a key that is no label; two keys that are one; or what a claims set of the first refuses
+-- The faults of pairs: a key that is no label, a label that the others repeat, or a fault in the claims set.
 abbrev pub KnownFaults : Pairs → CoseError → Type 0
 KnownFaults ps e =
     SomePair (IsNoLabel e) ps
     ⊎ ((ns : Pairs) × (us : Others) × Splits ps ns us
     × (((are_distinct names.same (keys_of us) ≡ false) × (e ≡ DuplicateMapKey)) ⊎ claims.faults (dict ns) e))
 
--- {claims, * label => any}: claims as a claims set holds them, and all others. It isn't written
+-- {claims, * label => any}: the claims that a claims set can contain, and all others. This shape is never written.
 abbrev pub known : Shape (ClaimsView × Others)
 known = record {
   describes = λ v x. (ps : Pairs) × (as_map v ≡ Some ps) × AreKnown ps x;
@@ -64,7 +65,7 @@ known_view c = (claims_view c.claims, map entry_view c.others.items)
 abbrev pub parts_view : Parts → Pairs × Others
 parts_view s = (value_pairs s.named.items, map entry_view s.others.items)
 
--- what taking pairs apart returns
+-- The result of splitting pairs by their keys.
 abbrev pub SplitsOff : {T : Type 0} → Pairs → (T → Pairs × Others) → Result T CoseError → Type 0
 SplitsOff ps view (Ok s) = Splits ps (view s).0 (view s).1
 SplitsOff ps view (Err e) = UnlessMemory e (λ f. SomePair (IsNoLabel f) ps)

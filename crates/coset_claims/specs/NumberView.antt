@@ -1,4 +1,4 @@
--- The code's numbers and formats, as those of `Number`.
+-- The views of the code's numbers and formats, in the types of `Number`.
 use Rattle.std.specs.Prelude.{◌*◌, ◌^◌, ◌<◌}
 use Rattle.coset_value.specs.Number as numbers
 use Rattle.coset_claims.specs.declared.number.Format.{Format}
@@ -10,7 +10,7 @@ number_view x = record { is_negative = x.is_negative; units = x.significand * 2 
 abbrev pub format_view : Format → numbers.Format
 format_view m = record { fractions = m.fractions; exponents = m.exponents; scale = m.scale }
 
--- a format whose fractions and exponents fit
+-- A format with at least one fraction and one exponent, and with few enough of both.
 pub record IsFormat (m : Format) : Type 0 where
   pub some_fractions : 0 < m.fractions
   pub few_fractions : m.fractions < 2 ^ 53

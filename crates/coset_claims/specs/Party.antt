@@ -12,7 +12,7 @@ use Rattle.coset_claims.specs.declared.party.PartyInfo.{PartyInfo}
 
 -- ---- nonces
 
--- a nonce without its memory
+-- The view of a nonce.
 pub data NonceView : Type 0 where
   nonce_integer : ℤ → NonceView
   nonce_bytes : List ℕ → NonceView
@@ -37,7 +37,7 @@ nonce-back : (x : NonceView) → nonce_of (of_nonce x) ≡ x
 nonce-back (nonce_integer i) = refl
 nonce-back (nonce_bytes b) = refl
 
--- a number's image is an integer, and a byte string's isn't
+-- The image of a number is an integer, and the image of a byte string isn't.
 integer-told : (i : ℤ) (w : Item) → int64.image i ≡ Some w → is_integer w ≡ true
 integer-told i w e = let h : integer i ≡ w = some-one refl e in ap is_integer (sym h)
 
@@ -49,7 +49,7 @@ nonce_laws =
     mapped_laws nonce_of of_nonce nonce-back _
     (either_laws is_integer int64 bstr int64_laws bstr_laws (λ v i w f d e. integer-told i w e) (λ v b w f d e. bytes-told b w e))
 
--- a nonce is never null
+-- A nonce is never null.
 nonce-no_nil : (x : NonceView) (w : Item) → nonce.image x ≡ Some w → is_nil w ≡ false
 nonce-no_nil (nonce_integer i) w e = let h : integer i ≡ w = some-one refl e in ap is_nil (sym h)
 nonce-no_nil (nonce_bytes b) w e = bytes_no_nil b w e
@@ -60,7 +60,7 @@ nonce_or_nil = or_nil nonce
 
 -- ---- parties
 
--- a party without its memory
+-- The view of a party.
 pub record PartyView : Type 0 where
   pub identity : Option (List ℕ)
   pub nonce : Option NonceView
@@ -73,7 +73,7 @@ party_view p = record {
   other = option_map (λ b. b.items) p.other;
 }
 
--- one of whom nothing is said
+-- A party without any information.
 abbrev pub empty_party : PartyView
 empty_party = record { identity = None; nonce = None; other = None }
 

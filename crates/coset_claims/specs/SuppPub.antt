@@ -1,4 +1,4 @@
--- Public information that goes into a key's derivation beside the parties' (RFC 8152, section 11.2).
+-- Public information for a key derivation, in addition to that about the parties (RFC 8152, section 11.2).
 use Rattle.std.specs.Prelude.{◌≡◌, ℕ, ℤ, pos, List, Option, Some, None, Result, Vec, IsOkAnd, false, is_some, option_map, unsigned_abs, refl}
 use Rattle.std.specs.Global.{Global}
 use Rattle.std.proofs.Common.{true≢false}
@@ -15,7 +15,7 @@ use Rattle.coset_core.specs.Messages.{empty_protected}
 use Rattle.coset_core.specs.Views.{protected_view}
 use Rattle.coset_claims.specs.declared.supp_pub.SuppPubInfo.{SuppPubInfo}
 
--- the information without its memory
+-- The view of the information.
 pub record SuppPubView : Type 0 where
   pub key_data_length : ℕ
   pub protected : ProtectedView
@@ -28,7 +28,7 @@ supp_pub_view s = record {
   other = option_map (λ b. b.items) s.other;
 }
 
--- none
+-- The length 0, an empty protected header, and nothing else.
 abbrev pub empty_supp_pub : SuppPubView
 empty_supp_pub = record { key_data_length = 0; protected = empty_protected; other = None }
 
@@ -59,9 +59,9 @@ supp_pub_laws =
     (array_of_laws _ (then_laws _ _ uint_laws (then_laws _ _ protected_laws
     (optional_last_laws None is_some refl missing (present bstr) (present_laws bstr bstr_laws)))))
 
--- ---- what its reader and its writer are made of
+-- ---- reading
 
--- none of these elements is left; or the next of them was read as bytes, and the others are at t
+-- If no element is left, the result is `None`. Otherwise the next element was read as bytes, and the others are at `t`.
 abbrev pub ReadsOther : Items → State → State → ArrayElements → Result (Option (Vec ℕ Global)) CoseError → Type 0
 ReadsOther no_items t z m r = AreWithin m no_items t z × IsOkAnd r (λ o. o ≡ None)
 ReadsOther (item v vs) t z m r = AreWithin m vs t z × Reads (present bstr) (option_map (λ b. b.items)) v r

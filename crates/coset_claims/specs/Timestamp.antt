@@ -14,7 +14,7 @@ use Rattle.coset_label.specs.Same.{IsEquality}
 use Rattle.coset_claims.specs.declared.timestamp.Timestamp.{Timestamp}
 use Rattle.coset_claims.specs.declared.timestamp.Timestamp.TheVariants.{WholeSeconds, FractionalSeconds}
 
--- a timestamp: a number of seconds, or a float as its width and bits
+-- A timestamp: a number of seconds, or a float with its width and bits.
 pub data TimestampView : Type 0 where
   whole_seconds : ℤ → TimestampView
   fractional_seconds : Bits → TimestampView
@@ -31,7 +31,7 @@ abbrev pub of_timestamp : TimestampView → ℤ ⊎ Bits
 of_timestamp (whole_seconds i) = inl i
 of_timestamp (fractional_seconds x) = inr x
 
--- int / float, where the integer is of 64 bits with a sign
+-- int / float. The integer fits in 64 bits with a sign.
 unfoldable pub timestamp : Shape TimestampView
 timestamp = mapped timestamp_of of_timestamp (either is_integer int64 floating)
 
@@ -41,7 +41,7 @@ timestamp-back : (x : TimestampView) → timestamp_of (of_timestamp x) ≡ x
 timestamp-back (whole_seconds i) = refl
 timestamp-back (fractional_seconds x) = refl
 
--- an integer's image is one, and a float's isn't
+-- The image of an integer is an integer, and the image of a float isn't.
 whole-told : (i : ℤ) (w : Item) → int64.image i ≡ Some w → is_integer w ≡ true
 whole-told i w e = let h : integer i ≡ w = some-one refl e in ap is_integer (sym h)
 
@@ -56,7 +56,7 @@ timestamp_laws =
 
 -- ---- equality
 
--- the same number of seconds, or the same width and bits
+-- The same number of seconds, or the same width and bits.
 abbrev pub timestamp_eq : TimestampView → TimestampView → Bool
 timestamp_eq (whole_seconds i) (whole_seconds j) = int_eq i j
 timestamp_eq (fractional_seconds x) (fractional_seconds y) = bits_eq x y
@@ -74,7 +74,7 @@ eq-itself : (a : TimestampView) → timestamp_eq a a ≡ true
 eq-itself (whole_seconds i) = (signed_Decides i i).1 refl
 eq-itself (fractional_seconds x) = (item_eq-decides (float x) (float x)).1 refl
 
--- the test returns `true` exactly where two timestamps are equal
+-- The test returns `true` exactly if the two timestamps are equal.
 pub timestamp_eq-decides : IsEquality timestamp_eq
 timestamp_eq-decides a b = (eq-sound a b, λ e. subst (λ c. timestamp_eq a c ≡ true) e (eq-itself a))
 

@@ -1,4 +1,4 @@
-//! Claims sets: what a CBOR web token says of its subject (RFC 8392, sections 3 and 4).
+//! Claims sets: the claims of CBOR web tokens (RFC 8392, sections 3 and 4).
 
 ghost use Rattle.std.specs.Prelude.{◌≡◌, ◌≤◌, ◌<◌, ◌==◌, not, string_bytes, IsTrue, IfOk, IfErr, OnOk, OnErr, Some, option_map};
 ghost use Rattle.std.specs.Map.{keys_of, lookup};
@@ -23,13 +23,13 @@ use coset_label::{ClaimName, RegisteredLabelWithPrivate};
 use std::alloc::{AllocError, Global};
 use std::marker::Model;
 
-/// About what a claims set takes beside its strings and other claims.
+/// The estimated length of an encoded claims set in bytes, without its strings and other claims.
 const HEADS: usize = 40;
 
-/// About what another claim takes, a name and a short value.
+/// The estimated length of another claim in bytes: a name and a short value.
 const CLAIM: usize = 8;
 
-/// A claims set (RFC 8392, section 1.1).
+/// A claims set (RFC 8392, section 2).
 ///
 /// ```cddl
 /// claims_set = {
@@ -45,17 +45,17 @@ const CLAIM: usize = 8;
 /// ```
 #[derive(Debug, Drop, PartialEq, Eq)]
 pub struct ClaimsSet {
-    /// Who issued the token (claim 1).
+    /// The issuer of the token (claim 1).
     pub issuer: Option<String>,
-    /// Whom the claims are about (claim 2).
+    /// The subject of the claims (claim 2).
     pub subject: Option<String>,
-    /// Whom the token is meant for (claim 3).
+    /// The audience that the token is meant for (claim 3).
     pub audience: Option<String>,
-    /// From when on the token isn't valid any more (claim 4).
+    /// The time from which the token isn't valid any more (claim 4).
     pub expiration_time: Option<Timestamp>,
-    /// Before when the token isn't valid yet (claim 5).
+    /// The time before which the token isn't valid yet (claim 5).
     pub not_before: Option<Timestamp>,
-    /// When the token was issued (claim 6).
+    /// The time at which the token was issued (claim 6).
     pub issued_at: Option<Timestamp>,
     /// The token's identifier, which may be empty (claim 7).
     pub cwt_id: Option<Vec<u8>>,
@@ -64,7 +64,7 @@ pub struct ClaimsSet {
 }
 
 impl ClaimsSet {
-    /// No claims. It takes no memory.
+    /// Returns a claims set without claims. Allocates nothing.
     pub fn new(alloc: Global) -> ClaimsSet
         ensures { claims_view result ≡ no_claims }
     {
@@ -81,7 +81,7 @@ impl ClaimsSet {
     }
 }
 
-/// About what a value takes, where there is one.
+/// Returns the estimated length of an encoded value, or 0 if there is none.
 fn size_hint_of<T: Encode>(value: &Option<T>) -> usize {
     match value {
         Some(value) => value.encoded_size_hint(),
@@ -89,7 +89,7 @@ fn size_hint_of<T: Encode>(value: &Option<T>) -> usize {
     }
 }
 
-/// Whether the name is that of this claim.
+/// Returns true if `name` is the name of `claim`.
 fn is_claim(name: &ClaimName, claim: CwtClaimName) -> bool
     ensures { result ≡ same_name (assigned (claim_names.number claim)) (name_view name.now) }
 {
@@ -99,11 +99,17 @@ fn is_claim(name: &ClaimName, claim: CwtClaimName) -> bool
     }
 }
 
-/// Takes one more claim, by its name, and goes behind it. Whether names of the rest repeat isn't checked.
+/// Reads the value of the claim `name` into the claims set.
+///
+/// Repeated names in `rest` are not checked here. The input is left just after the value, also
+/// after an error.
 ///
 /// # Errors
-/// `OutOfMemory`; `DuplicateMapKey` where a field has a value already; or a fault of its value. The claims are then as
-/// before.
+/// - `OutOfMemory` if an allocation fails.
+/// - `DuplicateMapKey` if the field has a value already.
+/// - A fault in the value.
+///
+/// The claims are then unchanged.
 fn set_claim(
     claims: &mut ClaimsSet,
     alloc: Global,
@@ -224,7 +230,7 @@ impl Codec for ClaimsSet {
         Ok(claims)
     }
 
-    /// Enough where the values of the other claims are short.
+    /// Returns an estimate that is enough if the values of the other claims are short.
     fn size_hint(&self) -> usize {
         HEADS
             .saturating_add(size_hint_of(&self.issuer))
@@ -280,10 +286,10 @@ impl Clone for ClaimsSet {
 }
 
 impl ClaimsSet {
-    /// A claims set that equals this one.
+    /// Returns a copy of the claims set.
     ///
     /// # Errors
-    /// `OutOfMemory` alone.
+    /// `OutOfMemory` if an allocation fails.
     pub fn clone(&self) -> Result<ClaimsSet>
         ensures copy { IfOk result (λ c. claims_view c ≡ claims_view self.now) }
         ensures memory { IfErr result (λ e. e ≡ OutOfMemory) }
@@ -291,8 +297,10 @@ impl ClaimsSet {
         Ok(Clone::clone(self)?)
     }
 
-    /// The value of the first claim of `rest` with this name; `None` where none has it. The claims that have a field (1 to
-    /// 7) aren't among the rest of a claims set that was read (RFC 8392, section 3.1).
+    /// Returns the value of the first claim in `rest` with this name, or `None` if there is none.
+    ///
+    /// The `rest` of a claims set that was read contains no claim with a field of its own, 1 to 7
+    /// (RFC 8392, section 3.1).
     pub fn get(&self, name: &ClaimName) -> Option<&Value>
         ensures { option_map (λ v. value_item v.now) result ≡ lookup (same_name
             (name_view name.now))
@@ -302,8 +310,8 @@ impl ClaimsSet {
     }
 }
 
-/// Makes a [`ClaimsSet`], claim by claim. Contracts see it as the claims set that [`build`](ClaimsSetBuilder::build)
-/// gives.
+/// Builds a [`ClaimsSet`], claim by claim. Contracts see it as the claims set that
+/// [`build`](ClaimsSetBuilder::build) returns.
 #[derive(Drop)]
 pub struct ClaimsSetBuilder(ClaimsSet);
 
@@ -322,14 +330,14 @@ impl Model for ClaimsSetBuilder {
 }
 
 impl ClaimsSetBuilder {
-    /// No claims. It takes no memory.
+    /// Returns a builder of a claims set without claims. Allocates nothing.
     pub fn new(alloc: Global) -> ClaimsSetBuilder
         ensures { claims_view result ≡ no_claims }
     {
         ClaimsSetBuilder(ClaimsSet::new(alloc))
     }
 
-    /// The claims set that was made.
+    /// Returns the finished claims set.
     pub fn build(self) -> ClaimsSet
         ensures { result ≡ self }
     {
@@ -345,10 +353,10 @@ impl ClaimsSetBuilder {
         self
     }
 
-    /// As [`issuer`](ClaimsSetBuilder::issuer), of a copy of this text.
+    /// Like [`issuer`](ClaimsSetBuilder::issuer), but copies the text.
     ///
     /// # Errors
-    /// `OutOfMemory` alone.
+    /// `OutOfMemory` if an allocation fails.
     pub fn issuer_from(self, alloc: Global, issuer: &str) -> Result<ClaimsSetBuilder>
         ensures ok { IfOk result (λ b. claims_view b
             ≡ record (claims_view self) { issuer = Some issuer.now }) }
@@ -366,10 +374,10 @@ impl ClaimsSetBuilder {
         self
     }
 
-    /// As [`subject`](ClaimsSetBuilder::subject), of a copy of this text.
+    /// Like [`subject`](ClaimsSetBuilder::subject), but copies the text.
     ///
     /// # Errors
-    /// `OutOfMemory` alone.
+    /// `OutOfMemory` if an allocation fails.
     pub fn subject_from(self, alloc: Global, subject: &str) -> Result<ClaimsSetBuilder>
         ensures ok { IfOk result (λ b. claims_view b
             ≡ record (claims_view self) { subject = Some subject.now }) }
@@ -387,10 +395,10 @@ impl ClaimsSetBuilder {
         self
     }
 
-    /// As [`audience`](ClaimsSetBuilder::audience), of a copy of this text.
+    /// Like [`audience`](ClaimsSetBuilder::audience), but copies the text.
     ///
     /// # Errors
-    /// `OutOfMemory` alone.
+    /// `OutOfMemory` if an allocation fails.
     pub fn audience_from(self, alloc: Global, audience: &str) -> Result<ClaimsSetBuilder>
         ensures ok { IfOk result (λ b. claims_view b
             ≡ record (claims_view self) { audience = Some audience.now }) }
@@ -408,7 +416,7 @@ impl ClaimsSetBuilder {
         self
     }
 
-    /// Sets the time before which the token isn't valid (claim 5).
+    /// Sets the time before which the token isn't valid yet (claim 5).
     pub fn not_before(mut self, not_before: Timestamp) -> ClaimsSetBuilder
         ensures { claims_view result ≡ record
             (claims_view self) { not_before = Some (timestamp_view not_before) } }
@@ -417,7 +425,7 @@ impl ClaimsSetBuilder {
         self
     }
 
-    /// Sets the time at which the token is issued (claim 6).
+    /// Sets the time at which the token was issued (claim 6).
     pub fn issued_at(mut self, issued_at: Timestamp) -> ClaimsSetBuilder
         ensures { claims_view result ≡ record
             (claims_view self) { issued_at = Some (timestamp_view issued_at) } }
@@ -434,10 +442,10 @@ impl ClaimsSetBuilder {
         self
     }
 
-    /// As [`cwt_id`](ClaimsSetBuilder::cwt_id), of a copy of these bytes.
+    /// Like [`cwt_id`](ClaimsSetBuilder::cwt_id), but copies the bytes.
     ///
     /// # Errors
-    /// `OutOfMemory` alone.
+    /// `OutOfMemory` if an allocation fails.
     pub fn cwt_id_from(self, alloc: Global, cwt_id: &[u8]) -> Result<ClaimsSetBuilder>
         ensures ok { IfOk result (λ b. claims_view b
             ≡ record (claims_view self) { cwt_id = Some cwt_id.now }) }
@@ -446,11 +454,13 @@ impl ClaimsSetBuilder {
         Ok(self.cwt_id(Vec::from_slice(alloc, cwt_id)?))
     }
 
-    /// Adds a claim whose name isn't of 1 to 7: those have calls of their own. A claims set with a name twice is
-    /// written, but isn't read again (`DuplicateMapKey`).
+    /// Adds a claim whose name is outside 1 to 7, since those claims have calls of their own.
+    ///
+    /// A claims set with a repeated name can be written, but it can't be read again
+    /// (`DuplicateMapKey`).
     ///
     /// # Errors
-    /// `OutOfMemory` alone.
+    /// `OutOfMemory` if an allocation fails.
     pub fn claim(mut self, name: CwtClaimName, value: Value) -> Result<ClaimsSetBuilder>
         requires { IsOtherClaim (claim_names.number name) }
         ensures ok { IfOk result (λ b. claims_view b
@@ -464,11 +474,13 @@ impl ClaimsSetBuilder {
         Ok(self)
     }
 
-    /// Adds a claim whose name is a text. A claims set with a name twice is written, but isn't read again
+    /// Adds a claim whose name is a text.
+    ///
+    /// A claims set with a repeated name can be written, but it can't be read again
     /// (`DuplicateMapKey`).
     ///
     /// # Errors
-    /// `OutOfMemory` alone.
+    /// `OutOfMemory` if an allocation fails.
     pub fn text_claim(mut self, name: String, value: Value) -> Result<ClaimsSetBuilder>
         ensures ok { IfOk result (λ b. claims_view b
             ≡ and_claim (text_name (string_bytes name)) (value_item value) (claims_view self)) }
@@ -478,10 +490,10 @@ impl ClaimsSetBuilder {
         Ok(self)
     }
 
-    /// As [`text_claim`](ClaimsSetBuilder::text_claim), of a copy of this name.
+    /// Like [`text_claim`](ClaimsSetBuilder::text_claim), but copies the name.
     ///
     /// # Errors
-    /// `OutOfMemory` alone.
+    /// `OutOfMemory` if an allocation fails.
     pub fn text_claim_from(
         self,
         alloc: Global,
@@ -495,11 +507,13 @@ impl ClaimsSetBuilder {
         self.text_claim(String::from_str(alloc, name)?, value)
     }
 
-    /// Adds a claim whose name is a number for private use, less than -65536. A claims set with a name twice is
-    /// written, but isn't read again (`DuplicateMapKey`).
+    /// Adds a claim whose name is a number for private use, less than -65536.
+    ///
+    /// A claims set with a repeated name can be written, but it can't be read again
+    /// (`DuplicateMapKey`).
     ///
     /// # Errors
-    /// `OutOfMemory` alone.
+    /// `OutOfMemory` if an allocation fails.
     pub fn private_claim(mut self, id: i64, value: Value) -> Result<ClaimsSetBuilder>
         requires { IsTrue (is_private_use id) }
         ensures ok { IfOk result (λ b. claims_view b

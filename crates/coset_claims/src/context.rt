@@ -1,4 +1,4 @@
-//! The context of key derivation: what a key is derived for (RFC 8152, section 11.2).
+//! The context of a key derivation (RFC 8152, section 11.2).
 
 ghost use Rattle.std.specs.Prelude.{◌≡◌, ◌≤◌, length, map, IfOk, IfErr, OnOk};
 ghost use Rattle.coset_value.specs.Item.{Items};
@@ -29,9 +29,10 @@ use coset_core::{Algorithm, RegisteredLabelWithPrivate, iana};
 use std::alloc::{AllocError, Global};
 use std::marker::Model;
 
-/// What a key is derived for: `COSE_KDF_Context` (RFC 8152, section 11.2). Its fields are set by its builder. Contracts
-/// see them as five parts: the algorithm, the two parties, the public information, and the byte strings of private
-/// information.
+/// The context of a key derivation: `COSE_KDF_Context` (RFC 8152, section 11.2).
+///
+/// Its builder sets its fields. Contracts see five parts: the algorithm, the two parties, the
+/// public information, and the byte strings of private information.
 ///
 /// ```cddl
 /// COSE_KDF_Context = [
@@ -43,7 +44,8 @@ use std::marker::Model;
 /// ]
 /// ```
 ///
-/// The RFC has at most one byte string of private information; any number is read and written.
+/// The RFC allows at most one byte string of private information, but any number is read and
+/// written.
 #[derive(Debug, Drop, PartialEq, Eq)]
 pub struct CoseKdfContext {
     algorithm_id: Algorithm,
@@ -54,7 +56,8 @@ pub struct CoseKdfContext {
 }
 
 impl CoseKdfContext {
-    /// A context in which nothing is said, with the reserved algorithm. It takes no memory.
+    /// Returns a context with the reserved algorithm and without any information. Allocates
+    /// nothing.
     pub fn new(alloc: Global) -> CoseKdfContext
         ensures { context_view result ≡ empty_context }
     {
@@ -76,7 +79,8 @@ fn read_byte_string(alloc: Global, source: ItemSource<'_>) -> Result<Vec<u8>>
     input.bytes(alloc, "bstr")
 }
 
-/// Reads byte strings up to the end of an array. Of those with a fault the last is named.
+/// Reads byte strings up to the end of an array. If several have a fault, the last fault is
+/// returned.
 fn read_byte_strings(
     alloc: Global,
     elements: &mut ArrayElements,
@@ -112,7 +116,7 @@ fn read_algorithm(alloc: Global, input: &mut Decoder<'_>) -> Result<Algorithm>
     Algorithm::from_input(alloc, input)
 }
 
-/// What the error of too few elements asks for.
+/// The expected item, for the error of too few elements.
 const FOUR: &str = "array with at least 4 items";
 
 impl Codec for CoseKdfContext {
@@ -134,7 +138,8 @@ impl Codec for CoseKdfContext {
         (supp_pub_decides a.supp_pub_info b.supp_pub_info)
         (lists_decides (λ b. b.items) _ vec_decides a.supp_priv_info.items b.supp_priv_info.items) };
 
-    /// Reads the elements of a context from the first to the last, and names the fault of the last that has one.
+    /// Reads the elements of a context in order. If there are too few elements, the error says so.
+    /// Otherwise it is the fault of the last element that has one.
     fn read(alloc: Global, input: &mut Decoder<'_>) -> Result<CoseKdfContext> {
         let mut elements = input.enter_array("array")?;
         elements.next_required(input, FOUR)?;
@@ -194,10 +199,10 @@ fn write_byte_strings(all: &[Vec<u8>], out: &mut Vec<u8>) -> Result<()>
     Ok(())
 }
 
-/// Appends the array of four elements, and of these byte strings behind them.
+/// Appends an array of the four elements, followed by these byte strings.
 ///
 /// # Errors
-/// Those of the first place that has one.
+/// The error of the first element that has one.
 fn encode_four_and_more<A: Encode, B: Encode, C: Encode, D: Encode>(
     alloc: Global,
     a: &A,
@@ -237,10 +242,10 @@ impl Clone for CoseKdfContext {
 }
 
 impl CoseKdfContext {
-    /// A context that equals this one, with the same bytes kept.
+    /// Returns a copy of the context, with the same kept bytes of its protected header.
     ///
     /// # Errors
-    /// `OutOfMemory` alone.
+    /// `OutOfMemory` if an allocation fails.
     pub fn clone(&self) -> Result<CoseKdfContext>
         ensures copy { IfOk result (λ c. context_view c ≡ context_view self.now) }
         ensures memory { IfErr result (λ e. e ≡ OutOfMemory) }
@@ -249,8 +254,8 @@ impl CoseKdfContext {
     }
 }
 
-/// Makes a [`CoseKdfContext`], part by part. Contracts see it as the context that
-/// [`build`](CoseKdfContextBuilder::build) gives.
+/// Builds a [`CoseKdfContext`], part by part. Contracts see it as the context that
+/// [`build`](CoseKdfContextBuilder::build) returns.
 #[derive(Debug, Drop)]
 pub struct CoseKdfContextBuilder(CoseKdfContext);
 
@@ -269,14 +274,15 @@ impl Model for CoseKdfContextBuilder {
 }
 
 impl CoseKdfContextBuilder {
-    /// A context in which nothing is said, with the reserved algorithm. It takes no memory.
+    /// Returns a builder of a context with the reserved algorithm and without any information.
+    /// Allocates nothing.
     pub fn new(alloc: Global) -> CoseKdfContextBuilder
         ensures { context_view result ≡ empty_context }
     {
         CoseKdfContextBuilder(CoseKdfContext::new(alloc))
     }
 
-    /// The context that was made.
+    /// Returns the finished context.
     pub fn build(self) -> CoseKdfContext
         ensures { result ≡ self }
     {
@@ -292,7 +298,7 @@ impl CoseKdfContextBuilder {
         self
     }
 
-    /// Sets what is said of party U.
+    /// Sets the information about party U.
     pub fn party_u_info(mut self, party: PartyInfo) -> CoseKdfContextBuilder
         ensures { context_view result ≡ record
             (context_view self) { party_u_info = party_view party } }
@@ -301,7 +307,7 @@ impl CoseKdfContextBuilder {
         self
     }
 
-    /// Sets what is said of party V.
+    /// Sets the information about party V.
     pub fn party_v_info(mut self, party: PartyInfo) -> CoseKdfContextBuilder
         ensures { context_view result ≡ record
             (context_view self) { party_v_info = party_view party } }
@@ -319,10 +325,10 @@ impl CoseKdfContextBuilder {
         self
     }
 
-    /// Adds a byte string of private information, behind the others.
+    /// Adds a byte string of private information, after the others.
     ///
     /// # Errors
-    /// `OutOfMemory` alone.
+    /// `OutOfMemory` if an allocation fails.
     pub fn add_supp_priv_info(mut self, info: Vec<u8>) -> Result<CoseKdfContextBuilder>
         ensures ok { IfOk result (λ b. context_view b
             ≡ and_supp_priv_info info.items (context_view self)) }

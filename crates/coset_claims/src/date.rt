@@ -1,4 +1,4 @@
-//! Moments of the years 1 to 9999, as RFC 3339 writes them (section 5.6): `2013-03-21T20:04:00Z`.
+//! Moments in the years 1 to 9999, in the form of RFC 3339 (section 5.6): `2013-03-21T20:04:00Z`.
 
 ghost use lib.Chars.{codes};
 ghost use Rattle.std.specs.Prelude.{◌≡◌, ◌<◌, ◌≤◌, ◌+ℤ◌, ◌++◌, Some, pos};
@@ -8,10 +8,10 @@ ghost use Rattle.coset_claims.specs.Dates.{after_9999, before_1970, days_in_mont
 use std::fmt;
 use std::num::{saturating_f64_to_i64, saturating_f64_to_u32};
 
-/// The seconds from 1 January of the year 1 to that of 1970.
+/// The seconds from 1 January of the year 1 to 1 January of 1970.
 const BEFORE_1970: i128 = 62_135_596_800;
 
-/// The seconds from 1 January of the year 1 to that of the year 10000.
+/// The seconds from 1 January of the year 1 to 1 January of the year 10000.
 const AFTER_9999: u64 = 315_537_897_600;
 
 fn is_leap_year(year: u64) -> bool
@@ -20,7 +20,7 @@ fn is_leap_year(year: u64) -> bool
     year % 4 == 0 && (year % 100 != 0 || year % 400 == 0)
 }
 
-/// How many days this month has; 1 is January.
+/// Returns the number of days in this month; 1 is January.
 fn days_in_month(year: u64, month: u64) -> u64
     ensures { result ≡ days_in_month year month }
 {
@@ -32,7 +32,7 @@ fn days_in_month(year: u64, month: u64) -> u64
     }
 }
 
-/// The year of the day so many days after 1 January of the year 1, and how many days of that year come before it.
+/// Converts days since 1 January of the year 1 into the year and the days since its first day.
 fn year_of(days: u64) -> (u64, u64)
     requires { days < 3_652_059 }
     ensures year { result ≡ year_after days 1 days }
@@ -49,7 +49,7 @@ fn year_of(days: u64) -> (u64, u64)
     )
 }
 
-/// The month of the day so many days after the first one of the year, and how many days of that month come before it.
+/// Converts days since the first day of `year` into the month and the days since its first day.
 fn month_of(year: u64, days: u64) -> (u64, u64)
     ensures month { result ≡ month_after 11 year 1 days }
     ensures within { result.1 ≤ days }
@@ -65,8 +65,8 @@ fn month_of(year: u64, days: u64) -> (u64, u64)
     (12, left)
 }
 
-/// How many seconds after the year 1 began a moment is that is so many after 1970 began; `None` before that year and
-/// after the year 9999.
+/// Converts seconds since 1970 began into seconds since the year 1 began. Returns `None` before
+/// that year and after the year 9999.
 fn in_calendar(seconds: i64) -> Option<u64>
     ensures { result ≡ in_calendar (seconds +ℤ pos before_1970) }
 {
@@ -76,7 +76,7 @@ fn in_calendar(seconds: i64) -> Option<u64>
     }
 }
 
-/// Writes the moment so many seconds after the year 1 began, without its time zone.
+/// Writes the moment this many seconds after the year 1 began, without its time zone.
 fn write_moment<W: fmt::Write>(seconds: u64, f: &mut fmt::Formatter<W>) -> fmt::Result
     requires { seconds < after_9999 }
     ensures { DisplaysOnOk W.write_str_gives f.old result (Some (moment_text seconds)) f.new }
@@ -92,7 +92,7 @@ fn write_moment<W: fmt::Write>(seconds: u64, f: &mut fmt::Formatter<W>) -> fmt::
     )
 }
 
-/// Writes the moment so many seconds after the year 1 began, in UTC.
+/// Writes the moment this many seconds after the year 1 began, in UTC.
 fn write_in_utc<W: fmt::Write>(seconds: u64, f: &mut fmt::Formatter<W>) -> fmt::Result
     requires { seconds < after_9999 }
     ensures { DisplaysOnOk W.write_str_gives f.old result (Some (moment_text seconds ++ codes "Z"))
@@ -102,7 +102,7 @@ fn write_in_utc<W: fmt::Write>(seconds: u64, f: &mut fmt::Formatter<W>) -> fmt::
     f.write_str("Z")
 }
 
-/// Writes the moment so many seconds after 1970 began, or that number of seconds.
+/// Writes the moment this many seconds after 1970 began, or the number of seconds.
 pub(crate) fn write_seconds<W: fmt::Write>(seconds: i64, f: &mut fmt::Formatter<W>) -> fmt::Result
     ensures { DisplaysOnOk W.write_str_gives f.old result (Some (seconds_text seconds)) f.new }
 {
@@ -112,7 +112,8 @@ pub(crate) fn write_seconds<W: fmt::Write>(seconds: i64, f: &mut fmt::Formatter<
     }
 }
 
-/// Writes the moment so many seconds after 1970 began, with its microseconds, or that number of seconds.
+/// Writes the moment this many seconds after 1970 began, with microseconds, or the number of
+/// seconds.
 pub(crate) fn write_fraction<W: fmt::Write>(
     seconds: f64,
     f: &mut fmt::Formatter<W>,

@@ -1,5 +1,7 @@
-//! The claims of a web token that are understood, where a claims set as a whole is refused for one whose number IANA hasn't
-//! assigned: claims that aren't understood are ignored (RFC 8392, section 3).
+//! Claims sets with claims that aren't understood.
+//!
+//! Such claims are ignored (RFC 8392, section 3). `ClaimsSet::from_slice` refuses the whole set
+//! instead, if the number of one of its claims is neither assigned by IANA nor for private use.
 
 ghost use Rattle.std.specs.Prelude.{◌≡◌, IfOk, IfErr};
 ghost use Rattle.coset_cbor.specs.Elements.{pairs_left};
@@ -18,26 +20,26 @@ use coset_codec::{AsCborValue, CoseError, FromPull, Result, has_repeats};
 use coset_label::{ClaimName, Label};
 use std::alloc::Global;
 
-/// The claims of a token that are understood, and the others.
+/// The claims of a token that are understood, and all others.
 #[derive(Debug, Drop)]
 pub struct KnownClaims {
-    /// The claims whose names are numbers that IANA assigned, numbers for private use, or texts.
+    /// The claims whose names are numbers assigned by IANA, numbers for private use, or texts.
     pub claims: ClaimsSet,
-    /// All others, in order, with their labels.
+    /// All other claims, in order, with their labels.
     pub others: Vec<(Label, Value)>,
 }
 
-/// The pairs of a claims set, and the labels and values of claims that it can't hold.
+/// The pairs of a claims set, and the labels and values of claims that the set can't contain.
 #[derive(Drop)]
 struct Parts {
     named: Vec<(Value, Value)>,
     others: Vec<(Label, Value)>,
 }
 
-/// Whether the key is a claim's name that a claims set holds.
+/// Returns true if `key` is the name of a claim that a claims set can contain.
 ///
 /// # Errors
-/// `OutOfMemory` alone.
+/// `OutOfMemory` if an allocation fails.
 fn is_name(alloc: Global, key: Pull<'_>) -> Result<bool>
     ensures named { IfOk result (λ b. IsNamed b (pull_item key.entry)) }
     ensures memory { IfErr result (λ e. e ≡ OutOfMemory) }
@@ -45,10 +47,11 @@ fn is_name(alloc: Global, key: Pull<'_>) -> Result<bool>
     Ok(read_alone::<ClaimName>(alloc, key)?.is_ok())
 }
 
-/// Takes the pairs apart by their keys.
+/// Splits the pairs by their keys.
 ///
 /// # Errors
-/// Why a key that is no claim's name is no label either; or `OutOfMemory`.
+/// - `OutOfMemory` if an allocation fails.
+/// - The fault of a key that is neither a claim's name nor a label.
 fn split(alloc: Global, pairs: Pairs<'_>) -> Result<Parts>
     ensures { SplitsOff (pairs_left pairs.entry) parts_view result }
 {
@@ -65,12 +68,16 @@ fn split(alloc: Global, pairs: Pairs<'_>) -> Result<Parts>
 }
 
 impl ClaimsSet {
-    /// Reads the claims that are understood, and beside them the others: those with a number that IANA hasn't assigned and
-    /// that isn't for private use (RFC 8392, section 3). `from_slice` refuses a claims set with such a claim.
+    /// Decodes a claims set, and separates the claims that aren't understood.
+    ///
+    /// Their numbers are neither assigned by IANA nor for private use (RFC 8392, section 3).
+    /// `from_slice` refuses a claims set with such a claim.
     ///
     /// # Errors
-    /// Why the bytes aren't a map whose keys are labels; `DuplicateMapKey`, where two of them are one; why the claims that
-    /// are understood aren't those of a claims set; or `OutOfMemory`.
+    /// - `OutOfMemory` if an allocation fails.
+    /// - `DuplicateMapKey` if two keys are the same label.
+    /// - A fault in the bytes, if they are not a map whose keys are labels.
+    /// - A fault in the claims that are understood, if they are not a claims set.
     pub fn known_from_slice(alloc: Global, bytes: &[u8]) -> Result<KnownClaims>
         ensures read { IfOk result (λ c. Describes known bytes.now (known_view c)) }
         ensures refused { IfErr result (λ e. IsRefused known bytes.now e) }

@@ -1,4 +1,5 @@
-//! Claims of CBOR web tokens (RFC 8392), and the context of a key derivation (RFC 8152, section 11.2).
+//! Claims of CBOR web tokens (RFC 8392), and the context of a key derivation (RFC 8152, section
+//! 11.2).
 #![tactic(auto)]
 
 mod claims_set;

@@ -1,4 +1,4 @@
-//! Binary floats as numbers, which are compared with whole numbers exactly.
+//! Binary floats as numbers, and their exact comparison with integers.
 
 ghost use Rattle.std.specs.Prelude.{◌≡◌, ◌<◌, ◌*◌, ◌^◌, option_map};
 ghost use Rattle.std.specs.Ordering.{nat_cmp};
@@ -13,11 +13,11 @@ use std::cmp::Ordering;
 /// A format of binary floats (IEEE 754, section 3.4).
 #[derive(Clone, Copy)]
 struct Format {
-    /// How many fractions its bits distinguish.
+    /// The number of values of the fraction field.
     fractions: u64,
-    /// How many exponents its bits distinguish.
+    /// The number of values of the exponent field.
     exponents: u64,
-    /// 2 to the power of this is how many of its least number make 1.
+    /// The least positive number is 2 to the power of minus `scale`.
     scale: u32,
 }
 
@@ -39,8 +39,8 @@ const DOUBLE: Format = Format {
     scale: 1074,
 };
 
-/// A number: its significand, times 2 to the power of `exponent`, is how many units it is, of which 2 to the power of
-/// `scale` make 1.
+/// A finite number: `significand` times 2 to the power of `exponent`, in units. A unit is 2 to the
+/// power of minus `scale`.
 #[derive(Clone, Copy)]
 pub(crate) struct Number {
     is_negative: bool,
@@ -49,7 +49,7 @@ pub(crate) struct Number {
     scale: u32,
 }
 
-/// The number of these bits, unless they are of an infinity or of what is no number.
+/// Returns the number with these bits, or `None` for an infinity or NaN.
 fn number_in(bits: u64, format: Format) -> Option<Number>
     requires { IsFormat format }
     ensures { option_map number_view result ≡ number_in (format_view format) bits }
@@ -70,7 +70,8 @@ fn number_in(bits: u64, format: Format) -> Option<Number>
     })
 }
 
-/// The significand of this fraction, and to which power of 2 it is scaled, in units.
+/// Returns the significand for this exponent and fraction, and the power of 2 that scales it to
+/// units.
 fn scaled(fractions: u64, exponent: u64, fraction: u64) -> (u64, u32)
     requires few_fractions { fractions < 2 ^ 53 }
     requires fraction { fraction < fractions }
@@ -84,7 +85,7 @@ fn scaled(fractions: u64, exponent: u64, fraction: u64) -> (u64, u32)
     }
 }
 
-/// The number that a float is, unless it is an infinity or no number.
+/// Returns the number of a float, or `None` for an infinity or NaN.
 pub(crate) fn number_of(float: Float) -> Option<Number>
     ensures { option_map number_view result ≡ number (bits_of float) }
 {
@@ -95,7 +96,7 @@ pub(crate) fn number_of(float: Float) -> Option<Number>
     }
 }
 
-/// How a, times 2 to the power of `up`, compares with b.
+/// Compares `a`, times 2 to the power of `up`, with `b`.
 fn compare_scaled(a: u128, up: u32, b: u128) -> Ordering
     ensures { result ≡ nat_cmp (a * 2 ^ up) b }
 {
@@ -111,7 +112,7 @@ fn compare_scaled(a: u128, up: u32, b: u128) -> Ordering
     }
 }
 
-/// How the number, without its sign, compares with k.
+/// Compares the absolute value of the number with `k`.
 fn compare_units(number: &Number, k: u128) -> Ordering
     ensures { result ≡ nat_cmp (number_view number.now).units (k * 2 ^ number.now.scale) }
 {
@@ -123,7 +124,7 @@ fn compare_units(number: &Number, k: u128) -> Ordering
     }
 }
 
-/// How the number compares with k.
+/// Compares the number with `k`.
 pub(crate) fn compare(number: &Number, k: i128) -> Ordering
     ensures { result ≡ number_cmp (number_view number.now) k }
 {

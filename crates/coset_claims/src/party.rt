@@ -22,13 +22,13 @@ use std::marker::Model;
 /// ```
 #[derive(Debug, Drop)]
 pub enum Nonce {
-    /// Bytes.
+    /// A byte string.
     Bytes(Vec<u8>),
-    /// A number.
+    /// An integer.
     Integer(i64),
 }
 
-/// A nonce, or null where there is none.
+/// A nonce, or null if there is none.
 #[derive(Drop)]
 struct NonceOrNil(Option<Nonce>);
 
@@ -54,7 +54,7 @@ impl Decode for NonceOrNil {
     }
 }
 
-/// A byte string, or null where there is none.
+/// A byte string, or null if there is none.
 #[derive(Drop)]
 struct BstrOrNil(Option<Vec<u8>>);
 
@@ -91,7 +91,7 @@ impl Encode for Nonce {
     }
 }
 
-/// The place of a nonce: null where there is none.
+/// An optional nonce, which is written as null if there is none.
 #[derive(Clone, Copy)]
 struct NoncePlace<'a>(&'a Option<Nonce>);
 
@@ -126,10 +126,10 @@ impl Clone for Nonce {
 }
 
 impl Nonce {
-    /// A nonce that equals this one.
+    /// Returns a copy of the nonce.
     ///
     /// # Errors
-    /// `OutOfMemory` alone.
+    /// `OutOfMemory` if an allocation fails.
     pub fn clone(&self) -> Result<Nonce>
         ensures copy { IfOk result (λ n. nonce_view n ≡ nonce_view self.now) }
         ensures memory { IfErr result (λ e. e ≡ OutOfMemory) }
@@ -138,7 +138,7 @@ impl Nonce {
     }
 }
 
-/// Equality of the numbers, or of the bytes. A number equals no bytes.
+/// Nonces are equal if their integers are, or if their bytes are. An integer never equals bytes.
 impl PartialEq for Nonce {
     ghost eq = { on nonce_view nonce_eq };
 
@@ -156,7 +156,7 @@ impl Eq for Nonce {
     ghost laws = { on_equiv nonce_view nonce_eq_equiv };
 }
 
-/// Whether two nonces are the same.
+/// Returns true if the nonces are equal.
 fn same_nonce(a: &Nonce, b: &Nonce) -> bool
     ensures { result ≡ nonce_eq (nonce_view a.now) (nonce_view b.now) }
 {
@@ -167,23 +167,23 @@ fn same_nonce(a: &Nonce, b: &Nonce) -> bool
     }
 }
 
-/// What is said of a party of a key agreement (RFC 8152, section 11.2).
+/// Information about a party of a key agreement (RFC 8152, section 11.2).
 ///
 /// ```cddl
 /// PartyInfo = [ identity : bstr / nil, nonce : bstr / int / nil, other : bstr / nil ]
 /// ```
 #[derive(Debug, Drop, PartialEq, Eq)]
 pub struct PartyInfo {
-    /// Who the party is.
+    /// The identity of the party.
     pub identity: Option<Vec<u8>>,
-    /// Its nonce.
+    /// The nonce of the party.
     pub nonce: Option<Nonce>,
-    /// What else is said of it.
+    /// Other information about the party.
     pub other: Option<Vec<u8>>,
 }
 
 impl PartyInfo {
-    /// A party of whom nothing is said. It takes no memory.
+    /// Returns a party without any information. Allocates nothing.
     pub fn new() -> PartyInfo
         ensures { party_view result ≡ empty_party }
     {
@@ -244,7 +244,7 @@ impl Codec for PartyInfo {
     }
 }
 
-/// A copy of a nonce that may be missing.
+/// Returns a copy of an optional nonce.
 fn copy_nonce(nonce: &Option<Nonce>) -> Result<Option<Nonce>, AllocError>
     ensures { IfOk result (λ o. option_map nonce_view o ≡ option_map nonce_view nonce.now) }
 {
@@ -268,10 +268,10 @@ impl Clone for PartyInfo {
 }
 
 impl PartyInfo {
-    /// A party that equals this one.
+    /// Returns a copy of the party.
     ///
     /// # Errors
-    /// `OutOfMemory` alone.
+    /// `OutOfMemory` if an allocation fails.
     pub fn clone(&self) -> Result<PartyInfo>
         ensures copy { IfOk result (λ p. party_view p ≡ party_view self.now) }
         ensures memory { IfErr result (λ e. e ≡ OutOfMemory) }
@@ -280,7 +280,8 @@ impl PartyInfo {
     }
 }
 
-/// Makes a [`PartyInfo`], field by field. Contracts see it as the party that [`build`](PartyInfoBuilder::build) gives.
+/// Builds a [`PartyInfo`], field by field. Contracts see it as the party that
+/// [`build`](PartyInfoBuilder::build) returns.
 #[derive(Debug, Drop)]
 pub struct PartyInfoBuilder(PartyInfo);
 
@@ -308,21 +309,21 @@ impl Default for PartyInfoBuilder {
 }
 
 impl PartyInfoBuilder {
-    /// A party of whom nothing is said. It takes no memory.
+    /// Returns a builder of a party without any information. Allocates nothing.
     pub fn new() -> PartyInfoBuilder
         ensures { party_view result ≡ empty_party }
     {
         PartyInfoBuilder(PartyInfo::new())
     }
 
-    /// The party that was made.
+    /// Returns the finished party.
     pub fn build(self) -> PartyInfo
         ensures { result ≡ self }
     {
         self.0
     }
 
-    /// Sets who the party is.
+    /// Sets the identity of the party.
     pub fn identity(mut self, identity: Vec<u8>) -> PartyInfoBuilder
         ensures { party_view result ≡ record (party_view self) { identity = Some identity.items } }
     {
@@ -330,10 +331,10 @@ impl PartyInfoBuilder {
         self
     }
 
-    /// As [`identity`](PartyInfoBuilder::identity), of a copy of these bytes.
+    /// Like [`identity`](PartyInfoBuilder::identity), but copies the bytes.
     ///
     /// # Errors
-    /// `OutOfMemory` alone.
+    /// `OutOfMemory` if an allocation fails.
     pub fn identity_from(self, alloc: Global, identity: &[u8]) -> Result<PartyInfoBuilder>
         ensures ok { IfOk result (λ b. party_view b
             ≡ record (party_view self) { identity = Some identity.now }) }
@@ -342,7 +343,7 @@ impl PartyInfoBuilder {
         Ok(self.identity(Vec::from_slice(alloc, identity)?))
     }
 
-    /// Sets its nonce.
+    /// Sets the nonce of the party.
     pub fn nonce(mut self, nonce: Nonce) -> PartyInfoBuilder
         ensures { party_view result ≡ record
             (party_view self) { nonce = Some (nonce_view nonce) } }
@@ -351,7 +352,7 @@ impl PartyInfoBuilder {
         self
     }
 
-    /// Sets what else is said of it.
+    /// Sets other information about the party.
     pub fn other(mut self, other: Vec<u8>) -> PartyInfoBuilder
         ensures { party_view result ≡ record (party_view self) { other = Some other.items } }
     {
@@ -359,10 +360,10 @@ impl PartyInfoBuilder {
         self
     }
 
-    /// As [`other`](PartyInfoBuilder::other), of a copy of these bytes.
+    /// Like [`other`](PartyInfoBuilder::other), but copies the bytes.
     ///
     /// # Errors
-    /// `OutOfMemory` alone.
+    /// `OutOfMemory` if an allocation fails.
     pub fn other_from(self, alloc: Global, other: &[u8]) -> Result<PartyInfoBuilder>
         ensures ok { IfOk result (λ b. party_view b
             ≡ record (party_view self) { other = Some other.now }) }

@@ -1,4 +1,5 @@
-//! Public information that goes into a key's derivation beside the parties' (RFC 8152, section 11.2).
+//! Public information for a key derivation, in addition to that about the parties (RFC 8152,
+//! section 11.2).
 
 ghost use Rattle.std.specs.Prelude.{◌≡◌, ◌≤◌, IfOk, IfErr, Some};
 ghost use Rattle.coset_value.specs.Item.{Items};
@@ -16,23 +17,25 @@ use coset_core::{Header, ProtectedBstr, ProtectedHeader, ProtectedRef};
 use std::alloc::{AllocError, Global};
 use std::marker::Model;
 
-/// Public information that goes into a key's derivation beside the parties': `SuppPubInfo` (RFC 8152, section 11.2).
+/// Public information for a key derivation, in addition to that about the parties: `SuppPubInfo`
+/// (RFC 8152, section 11.2).
 ///
 /// ```cddl
 /// SuppPubInfo = [ keyDataLength : uint, protected : empty_or_serialized_map, ? other : bstr ]
 /// ```
 #[derive(Debug, Drop, PartialEq, Eq)]
 pub struct SuppPubInfo {
-    /// How many bits the derived key has: 0 to 2^64 - 1.
+    /// The length of the derived key in bits: 0 to 2^64 - 1.
     pub key_data_length: u64,
     /// The protected header of the recipient for whom the key is derived.
     pub protected: ProtectedHeader,
-    /// What else is known.
+    /// Other public information.
     pub other: Option<Vec<u8>>,
 }
 
 impl SuppPubInfo {
-    /// No information: the length 0, an empty protected header, nothing else. It takes no memory.
+    /// Returns information with the length 0, an empty protected header, and nothing else.
+    /// Allocates nothing.
     pub fn new(alloc: Global) -> SuppPubInfo
         ensures { supp_pub_view result ≡ empty_supp_pub }
     {
@@ -44,10 +47,10 @@ impl SuppPubInfo {
     }
 }
 
-/// What the error of another number of elements asks for.
+/// The expected item, for the error of another number of elements.
 const TWO_OR_THREE: &str = "array with 2 or 3 items";
 
-/// Reads the last place, if it is there.
+/// Reads the last element, if there is one.
 fn read_other(
     alloc: Global,
     elements: &mut ArrayElements,
@@ -77,7 +80,8 @@ impl Codec for SuppPubInfo {
 
     ghost equal = { supp_pub_decides };
 
-    /// Reads the elements from the first to the last, and names the fault of the last that has one.
+    /// Reads the elements in order. If their number is wrong, the error says so. Otherwise it is
+    /// the fault of the last element that has one.
     fn read(alloc: Global, input: &mut Decoder<'_>) -> Result<SuppPubInfo> {
         let mut elements = input.enter_array("array")?;
         elements.next_required(input, TWO_OR_THREE)?;
@@ -129,10 +133,10 @@ impl Clone for SuppPubInfo {
 }
 
 impl SuppPubInfo {
-    /// Information that equals this, with the same bytes kept.
+    /// Returns a copy of the information, with the same kept bytes of its protected header.
     ///
     /// # Errors
-    /// `OutOfMemory` alone.
+    /// `OutOfMemory` if an allocation fails.
     pub fn clone(&self) -> Result<SuppPubInfo>
         ensures copy { IfOk result (λ s. supp_pub_view s ≡ supp_pub_view self.now) }
         ensures memory { IfErr result (λ e. e ≡ OutOfMemory) }
@@ -141,8 +145,8 @@ impl SuppPubInfo {
     }
 }
 
-/// Makes a [`SuppPubInfo`], field by field. Contracts see it as the information that
-/// [`build`](SuppPubInfoBuilder::build) gives.
+/// Builds a [`SuppPubInfo`], field by field. Contracts see it as the information that
+/// [`build`](SuppPubInfoBuilder::build) returns.
 #[derive(Debug, Drop)]
 pub struct SuppPubInfoBuilder(SuppPubInfo);
 
@@ -161,21 +165,22 @@ impl Model for SuppPubInfoBuilder {
 }
 
 impl SuppPubInfoBuilder {
-    /// No information: the length 0, an empty protected header, nothing else. It takes no memory.
+    /// Returns a builder of information with the length 0, an empty protected header, and nothing
+    /// else. Allocates nothing.
     pub fn new(alloc: Global) -> SuppPubInfoBuilder
         ensures { supp_pub_view result ≡ empty_supp_pub }
     {
         SuppPubInfoBuilder(SuppPubInfo::new(alloc))
     }
 
-    /// The information that was made.
+    /// Returns the finished information.
     pub fn build(self) -> SuppPubInfo
         ensures { result ≡ self }
     {
         self.0
     }
 
-    /// Sets how many bits the derived key has.
+    /// Sets the length of the derived key in bits.
     pub fn key_data_length(mut self, key_data_length: u64) -> SuppPubInfoBuilder
         ensures { supp_pub_view result ≡ record
             (supp_pub_view self) { key_data_length = key_data_length } }
@@ -184,7 +189,7 @@ impl SuppPubInfoBuilder {
         self
     }
 
-    /// Sets the protected header: one that was made, and not read, so that it has no bytes of its own yet.
+    /// Sets the protected header to `header`. It wasn't read, so it has no kept bytes.
     pub fn protected(mut self, header: Header) -> SuppPubInfoBuilder
         ensures { supp_pub_view result ≡ record
             (supp_pub_view self) { protected = unread (header_view header) } }
@@ -196,7 +201,7 @@ impl SuppPubInfoBuilder {
         self
     }
 
-    /// Sets what else is known.
+    /// Sets other public information.
     pub fn other(mut self, other: Vec<u8>) -> SuppPubInfoBuilder
         ensures { supp_pub_view result ≡ record (supp_pub_view self) { other = Some other.items } }
     {
@@ -204,10 +209,10 @@ impl SuppPubInfoBuilder {
         self
     }
 
-    /// As [`other`](SuppPubInfoBuilder::other), of a copy of these bytes.
+    /// Like [`other`](SuppPubInfoBuilder::other), but copies the bytes.
     ///
     /// # Errors
-    /// `OutOfMemory` alone.
+    /// `OutOfMemory` if an allocation fails.
     pub fn other_from(self, alloc: Global, other: &[u8]) -> Result<SuppPubInfoBuilder>
         ensures ok { IfOk result (λ b. supp_pub_view b
             ≡ record (supp_pub_view self) { other = Some other.now }) }

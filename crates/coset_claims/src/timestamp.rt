@@ -17,16 +17,17 @@ use std::alloc::{AllocError, Global};
 use std::cmp::Ordering;
 use std::fmt;
 
-/// Seconds since 1970 began in UTC, without leap seconds (RFC 8392, section 2; RFC 8949, section 3.4.2).
+/// A moment, in seconds since 1970 began in UTC, without leap seconds (RFC 8392, section 2; RFC
+/// 8949, section 3.4.2).
 ///
 /// ```cddl
 /// timestamp = int / float     ; the seconds of a tag 1, without the tag
 /// ```
 #[derive(Debug, Drop)]
 pub enum Timestamp {
-    /// Whole seconds; before 1970 they are negative.
+    /// Whole seconds, which are negative before 1970.
     WholeSeconds(i64),
-    /// Seconds as a float, of which the width and the bits are kept.
+    /// Seconds as a float, which keeps its width and its bits.
     FractionalSeconds(Float),
 }
 
@@ -45,7 +46,7 @@ impl Codec for Timestamp {
 
     ghost equal = { λ a b. timestamp_eq-decides (timestamp_view a) (timestamp_view b) };
 
-    /// It takes no memory.
+    /// Reads a timestamp. Allocates nothing.
     #[tactic(auto, unfolding(crate::specs::Timestamp::timestamp))]
     fn read(_alloc: Global, input: &mut Decoder<'_>) -> Result<Timestamp> {
         if let Some(number) = input.integer() {
@@ -66,9 +67,10 @@ impl Codec for Timestamp {
     }
 }
 
-/// The moment in UTC as RFC 3339 writes it (section 5.6), of a float with its microseconds: `2013-03-21T20:04:00Z` or
-/// `2015-10-04T07:49:04.500000Z`. Before the year 1, after the year 9999, and where a float is no moment, it is the number
-/// of seconds, as in `-62135596801 seconds since 1970`.
+/// Writes the moment in UTC in the form of RFC 3339 (section 5.6): `2013-03-21T20:04:00Z`, or for a
+/// float, with microseconds, `2015-10-04T07:49:04.500000Z`. A moment outside the years 1 to 9999 is
+/// written as the number of seconds: `-62135596801 seconds since 1970`. So is a float that is no
+/// moment.
 impl fmt::Display for Timestamp {
     ghost use Rattle.coset_claims.specs.Dates.{timestamp_output};
 
@@ -95,10 +97,10 @@ impl Clone for Timestamp {
 }
 
 impl Timestamp {
-    /// A timestamp that equals this one.
+    /// Returns a copy of the timestamp.
     ///
     /// # Errors
-    /// `OutOfMemory` alone.
+    /// `OutOfMemory` if an allocation fails.
     pub fn clone(&self) -> Result<Timestamp>
         ensures copy { IfOk result (λ t. timestamp_view t ≡ timestamp_view self.now) }
         ensures memory { IfErr result (λ e. e ≡ OutOfMemory) }
@@ -106,8 +108,10 @@ impl Timestamp {
         Ok(Clone::clone(self)?)
     }
 
-    /// How the moment compares with so many whole seconds since 1970 began in UTC: exactly, whatever the width of a float.
-    /// `None` where it is an infinity or no number, and so no moment. It takes no memory.
+    /// Compares the moment with `seconds`, whole seconds since 1970 began in UTC.
+    ///
+    /// The comparison is exact for floats of any width. Returns `None` for an infinity or NaN,
+    /// since these are no moments. Allocates nothing.
     pub fn compare(&self, seconds: i128) -> Option<Ordering>
         ensures { result ≡ seconds_cmp (timestamp_view self.now) seconds }
     {
@@ -120,8 +124,10 @@ impl Timestamp {
         }
     }
 
-    /// Whether the moment is later than so many whole seconds, as [`compare`](Timestamp::compare) says: false where it is
-    /// no moment. So claims that expire then have not expired at `seconds`. It takes no memory.
+    /// Returns true if the moment is later than `seconds`, by [`compare`](Timestamp::compare).
+    ///
+    /// If it is, claims that expire at this moment have not expired at `seconds`. Returns false for
+    /// an infinity or NaN. Allocates nothing.
     pub fn is_after(&self, seconds: i64) -> bool
         ensures { result ≡ is_after (timestamp_view self.now) seconds }
     {
@@ -129,7 +135,8 @@ impl Timestamp {
     }
 }
 
-/// Whole seconds are equal as numbers, and floats where their widths and bits are. A number and a float are not equal.
+/// Whole seconds are equal if the numbers are, and floats if their widths and bits are. Whole
+/// seconds never equal a float.
 impl PartialEq for Timestamp {
     ghost eq = { on timestamp_view timestamp_eq };
 

@@ -1,4 +1,4 @@
--- Elements of an array that are read each by itself.
+-- Elements of an array that are read independently of each other.
 use Rattle.std.proofs.Common.{◌≡◌, ◌++◌, ◌∙◌, List, [], ◌∷◌, Result, ap, append_assoc, append-nil, refl, subst, sym}
 use Rattle.coset_value.specs.Item.{Item, Items, no_items, item}
 use Rattle.coset_codec.specs.Alone.{EachReadAlone, IsReadAlone}
@@ -6,7 +6,7 @@ use Rattle.coset_codec.specs.Shape.{Shape}
 use Rattle.coset_codec.specs.declared.error.CoseError.{CoseError}
 
 module _ {T A : Type 0} (s : Shape A) (view : T → A) where
-  -- rs, and what the elements that are left are read as, is what all are read as
+  -- The results rs, followed by the results of the elements left, are the results of all elements.
   abbrev pub GoesOn : Items → List (Result T CoseError) → Items → Type 0
   GoesOn all rs left = (qs : List (Result T CoseError)) → EachReadAlone s view left qs → EachReadAlone s view all (rs ++ qs)
 

@@ -1,4 +1,4 @@
--- What was read is determined by what it is written as.
+-- The item or bytes that a value is written as determine the value, if it was read.
 use Rattle.std.proofs.Common.{◌≡◌, ◌≤◌, ℕ, suc, List, [], ◌++◌, option_map, refl, sym, ◌∙◌, ap, subst, arith}
 use Rattle.coset_value.specs.Item.{Item, tag, depth}
 use Rattle.coset_value.specs.Range.{IsInRange}
@@ -13,7 +13,7 @@ use Rattle.coset_codec.specs.ReadAgain.{IsWritten, EncodesApart, ImagesApart, Re
 use Rattle.coset_codec.proofs.Whole.{OneItem}
 
 module _ {A : Type 0} (s : Shape A) (l : Lawful A s) where
-  -- one item represents both
+  -- One item represents both values.
   pub one_image : (v w : Item) (x y : A) → s.describes v x → s.describes w y → s.image x ≡ s.image y → x ≡ y
   one_image v w x y p q e =
       let a : Again A s v x = l.again v x p in
@@ -23,13 +23,13 @@ module _ {A : Type 0} (s : Shape A) (l : Lawful A s) where
   pub images_apart : ImagesApart s
   images_apart v w x y p q = (λ e. one_image v w x y p q e, λ e. ap s.image e)
 
-  -- the item that x is written as represents x
+  -- The item that x is written as represents x.
   written_describes : (v : Item) (c : List ℕ) (x : A) → s.describes v x → (m : IsWritten s x c) → s.describes m.0 x
   written_describes v c x p m =
       let a : Again A s v x = l.again v x p in
       subst (λ u. s.describes u x) (some-one a.is_image m.1) a.described
 
-  -- what is written is an encoding
+  -- The bytes that x is written as are an encoding.
   encodes : (c : List ℕ) (x : A) (m : IsWritten s x c) → IsEncoding m.0 c
   encodes c x m = definite_is_encoding m.0 c m.2.definite
 
@@ -45,14 +45,14 @@ module _ {A : Type 0} (s : Shape A) (l : Lawful A s) where
         least m.0 c (in_range m.0 c m.2) m.2 ∙ (ap least_encoding same ∙ sym (least n.0 d (in_range n.0 d n.2) n.2)),
   )
 
-  -- what is read of what x is written as is x, and is written so again
+  -- The bytes that x is written as are read as x, and x is written as the same bytes again.
   pub stays_as_written : OneItem → EncodesApart s → StaysAsWritten s
   stays_as_written one apart v b c x y p m q n =
       let item : m.0 ≡ q.0 = (one m.0 q.0 b b [] [] (encodes b x m) q.1.0 refl).0 in
       let same : y ≡ x = l.unique q.0 y x q.2 (subst (λ u. s.describes u x) item (written_describes v b x p m)) in
       (same, (apart q.0 v c b y x q.2 p n m).1 same)
 
-  -- what was read under a tag is read again where it is written without it, too
+  -- A value that was read under a tag is also written and read again without the tag.
   pub reads_again_untagged : (number : ℕ) (b : List ℕ) (x : A) → Describes (tagged number s) b x → ReadsAgain s x
   reads_again_untagged number b x p =
       let a : Again A s p.2.0 x = l.again p.2.0 x p.2.2 in

@@ -1,4 +1,4 @@
--- What holds of values that were read, and of those that were read of what others are written as, by their shapes.
+-- Properties of values that were read, and of values read from the images of others, by their shapes.
 use Rattle.std.proofs.Common.{◌≡◌, ℕ, zero, suc, List, [], ◌∷◌, Bool, true, false, Option, Some, None, option_map, refl, sym, ◌∙◌, ap, subst}
 use Rattle.coset_value.specs.Item.{Item, Items, no_items, item, array, tag}
 use Rattle.coset_value.specs.Parts.{as_array, as_tag}
@@ -13,7 +13,7 @@ use Rattle.coset_codec.specs.ShapeLaws.{some-one, bstr_laws, bytes_no_nil, or_ni
 
 -- ---- under a tag
 
--- what is under a tag that was written
+-- The item under a tag that was written.
 under_tag : (n : ℕ) (o : Option Item) (v u : Item) → option_map (tag n) o ≡ Some v → as_tag v ≡ Some (n, u) → o ≡ Some u
 under_tag n None v u e d = absurd (cc)
 under_tag n (Some w) v u e d =
@@ -30,7 +30,7 @@ module _ {A : Type 0} (n : ℕ) (s : Shape A) where
 
 -- ---- arrays
 
--- the elements of an array that was written, and of the same one that was read
+-- An array that was written is read as the same elements.
 elements_written : (os : Option Items) (v : Item) → option_map array os ≡ Some v → (vs : Items) × (os ≡ Some vs) × (as_array v ≡ Some vs)
 elements_written None v e = absurd (cc)
 elements_written (Some vs) v e = let same : array vs ≡ v = some-one refl e in (vs, refl, ap as_array (sym same))
@@ -44,7 +44,7 @@ module _ {A : Type 0} (ps : Elements A) where
   pub array_when_read : (P : A → Type 0) → ElementsWhenRead ps P → WhenRead (array_of ps) P
   array_when_read P h v x d = h d.0 x d.2
 
--- a place of an array that was written, and those behind it
+-- The first element that was written, and the elements after it.
 place_written : (o : Option Item) (os : Option Items) (vs : Items) → both item o os ≡ Some vs → (u : Item) × (us : Items) × (o ≡ Some u) × (os ≡ Some us)
     × (vs ≡ item u us)
 place_written None os vs e = absurd (cc)
@@ -95,14 +95,14 @@ module _ {A : Type 0} (s : Shape A) (P : A → Type 0) (h : WhenRead s P) where
   pub list_when_read : WhenRead (list_of s) (EachHas P)
   list_when_read = array_when_read (any_number s) (EachHas P) all_read
 
--- ---- a last place that may be missing
+-- ---- a last element that may be missing
 
 module _ {A : Type 0} (absent : A) (shows : A → Bool) (s : Shape A) where
   shown_as_written : (o : Option Item) (vs : Items) → last_image true o ≡ Some vs → (u : Item) × (o ≡ Some u) × (vs ≡ item u no_items)
   shown_as_written None vs e = absurd (cc)
   shown_as_written (Some u) vs e = (u, refl, sym (some-one refl e))
 
-  -- where it is written, and where it isn't
+  -- The two cases: the element is written, or it is not.
   last_as_written :
       (R : A → A → Type 0) → AsWritten s R → (x y : A) → (shows x ≡ false → R x absent) → (vs : Items) (b : Bool) → shows x ≡ b
       → last_image b (s.image x) ≡ Some vs
@@ -122,7 +122,7 @@ module _ {A : Type 0} (absent : A) (shows : A → Bool) (s : Shape A) where
   optional_last_when_read P h missing (item v no_items) x d = h v x d
   optional_last_when_read P h missing (item v (item w vs)) x d = absurd d
 
--- ---- types that hold others of themselves
+-- ---- types that contain others of their own type
 
 module _ {A : Type 0} (step : Shape A → Shape A) (image : A → Option Item) where
   nested_as_written : (R : A → A → Type 0) → ((s : Shape A) → AsWritten s R → AsWritten (step s) R) → (n : ℕ) → AsWritten (nested step image n) R

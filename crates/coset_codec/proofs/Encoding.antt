@@ -65,21 +65,21 @@ both-none (Some vs) = refl
 both-none None = refl
 
 module _ {A : Type 0} (f : A → Option Item) where
-  -- the images of some, and of others behind them
+  -- The images of some elements, followed by those of others.
   pub images-append : (xs ys : List A) → images f (xs ++ ys) ≡ both and_items (images f xs) (images f ys)
   images-append [] ys = sym (both-nothing (images f ys))
   images-append (x ∷ xs) ys = ap (both item (f x)) (images-append xs ys) ∙ both-and (f x) (images f xs) (images f ys)
 
-  -- the images of what others are seen as
+  -- The images of elements that are seen through `see`.
   pub images-mapped : {B : Type 0} (see : B → A) (xs : List B) → images (λ x. f (see x)) xs ≡ images f (map see xs)
   images-mapped see [] = refl
   images-mapped see (x ∷ xs) = ap (both item (f (see x))) (images-mapped see xs)
 
-  -- one without an image
+  -- If one element has no image, the list has none.
   pub images-missing : (xs ys : List A) (x : A) → f x ≡ None → images f (xs ++ x ∷ ys) ≡ None
   images-missing xs ys x e = images-append xs (x ∷ ys) ∙ rw e (both-none (images f xs))
 
-  -- one more element
+  -- Appends one more element.
   pub element-put : {n : ℕ} {old mid new : List ℕ} (xs : List A) (x : A) → AppendsElements (images f xs) n old mid → AppendsImage (f x) mid new
       → AppendsElements (images f (xs ++ x ∷ [])) (n + 1) old new
   element-put {n} {old} {mid} {new} xs x p q = (
@@ -106,14 +106,14 @@ module _ {A : Type 0} (f : A → Option Item) where
       encoded (item v vs) = ap (λ s. least_encoding v ++ s) (encoded vs) ∙ sym (append_assoc (least_encoding v) (least_encodings vs) (least_encoding q.0))
 
 module _ {A : Type 0} (xs : List A) (i : ℕ) (x : A) (lt : i < length xs) (is : x ≡ get_or xs i x) where
-  -- one more of a list, and the elements before one, it and those after it
+  -- Takes one more element of a list, and splits the list around it.
   pub one_taken : take (i + 1) xs ≡ take i xs ++ x ∷ []
   one_taken = take_more xs i x lt ∙ ap (λ y. take i xs ++ y ∷ []) (sym is)
 
   pub one_between : xs ≡ take i xs ++ x ∷ drop (i + 1) xs
   one_between = sym (take-append-drop (i + 1) xs) ∙ (ap (λ ys. ys ++ drop (i + 1) xs) one_taken ∙ append_assoc (take i xs) (x ∷ []) (drop (i + 1) xs))
 
--- a head, and the elements behind it
+-- A head, followed by the elements.
 pub array-encoded : {T : Type 0} (os : Option Items) (n : ℕ) (old head new : List ℕ) (r : Result T CoseError) → n < 2 ^ 64 → head ≡ old ++ least_head 4 n
     → OnOk r (AppendsElements os n head new) → IfErr r (HasNoImage os) → Encodes (option_map array os) old new r
 array-encoded os n old head new (Ok x) small first ok refused = array-put n small first ok
@@ -121,7 +121,7 @@ array-encoded os n old head new (Err e) small first ok refused = λ m. let none 
 
 -- ---- errors
 
--- an error passed on, of a part without which there is no item
+-- Passes on the error of a part without which there is no item.
 pub passes :
     {T : Type 0} (r : Result T CoseError) (old new : List ℕ) {f : CoseError} {P : Type 0} {p : Option Item} → IsErrAnd r (λ e. e ≡ f)
     → UnlessMemory f (λ g. (g ≡ DuplicateMapKey) × P) → (P → p ≡ None) → Encodes p old new r
@@ -151,7 +151,7 @@ whole-put is_shortest {o} {old} {new} e p =
     let spelled : new ≡ least_encoding p.0 = p.2.parts ∙ ap (λ s. s ++ least_encoding p.0) e in
     (p.0, p.1, subst (λ s. IsShortest s p.0) (sym spelled) (is_shortest p.0 p.2.in_range))
 
--- an encoding that is read is that of the item which was written
+-- An encoding that was written is read back as the same item.
 pub read-back :
     ((v : Item) (b : List ℕ) → IsShortest b v → IsEncoding v b)
     → ((v w : Item) (b c x y : List ℕ) → IsEncoding v b → IsEncoding w c → b ++ x ≡ c ++ y → (v ≡ w) × (b ≡ c)) → {o : Option Item} {b : List ℕ} (x : Item)

@@ -14,7 +14,7 @@ use Rattle.coset_codec.specs.RestLaws.{as_view}
 use Rattle.coset_codec.specs.Shape.{both, present_image}
 use Rattle.coset_codec.proofs.Pushing.{named_image-append, named_image-none}
 
--- ---- pairs behind others
+-- ---- pairs after other pairs
 
 least_pair_encodings-and : (ps qs : Pairs) → least_pair_encodings (and_pairs ps qs) ≡ least_pair_encodings ps ++ least_pair_encodings qs
 least_pair_encodings-and no_pairs qs = refl
@@ -26,11 +26,11 @@ in_range-and : (ps qs : Pairs) → ArePairsInRange ps → ArePairsInRange qs →
 in_range-and no_pairs qs h k = k
 in_range-and (pair j v ps) qs h k = (h.0, h.1, in_range-and ps qs h.2 k)
 
--- an item that is there
+-- An item that is present.
 pub item-is : {v : Item} {old new : List ℕ} → AppendsImage (Some v) old new → AppendsItem old new v
 item-is {v} {old} {new} p = let same : p.0 ≡ v = cc in subst (AppendsItem old new) same p.2
 
--- a key, and its value
+-- A key, followed by its value.
 pub pair-added : {old mid new : List ℕ} (k v : Item) → AppendsItem old mid k → AppendsItem mid new v → AppendsPairs old new (pair k v no_pairs)
 pair-added {old} {mid} {new} k v key value = record {
   in_range = (key.in_range, value.in_range, tt);
@@ -57,7 +57,7 @@ then-added {old} {mid} {new} ps qs p q = record {
 
 -- ---- the fields of a map, and the rest
 
--- new is old, and then the pairs of those fields that are there
+-- new is old, followed by the pairs of the fields that are present.
 pub record AppendsFields (N : Type 0) (f : N → Option Item) (o : Option (List (N × Item))) (there : List Bool) (old new : List ℕ) : Type 0 where
   pub entries : List (N × Item)
   pub image : o ≡ Some entries
@@ -91,7 +91,7 @@ field-put {N} f {l} false o label (None, e, p) more = record {
 }
 field-put f false o label (Some v, e, p) more = absurd (cc)
 
--- a field that may be left out, as it is seen
+-- A field that may be left out, as contracts see it.
 pub optional-view :
     {X Y : Type 0} (see : X → Y) (f : Y → Option Item) (o : Option X)
     → field_shape_image (is_some o) (present_image (λ x. f (see x)) o) ≡ field_shape_image (is_some (option_map see o)) (present_image f (option_map see o))
@@ -107,7 +107,7 @@ pub optional-put :
 optional-put f see g (Some y) label put more = field-put f true (g (see y)) label put more
 optional-put f see g None label put more = field-put f false None label put more
 
--- a list that is left out where it is empty
+-- A list that is left out if it is empty.
 pub listed-put :
     {N X : Type 0} (f : N → Option Item) (g : List X → Option Item) (xs : List X) (b : Bool) {l : N} {i : ℤ} {os : Option (List (N × Item))} {there : List Bool}
     {old mid new : List ℕ} → is_nonempty xs ≡ b → f l ≡ Some (integer i)
@@ -117,14 +117,14 @@ listed-put {N} f g xs b {l} {os} {there} {old} {new} told label put more =
     subst (λ c. AppendsFields N f (both (put_field l) (field_shape_image (is_nonempty xs) (g xs)) os) (c ∷ there) old new) told
     (field-put f (is_nonempty xs) (g xs) label put more)
 
--- the pairs of the rest, as their labels are seen
+-- The pairs of the rest, as contracts see their labels.
 pub rest-view :
     {L V N : Type 0} (see : L → N) (value_item : V → Item) (f : N → Option Item) (xs : List (L × V))
     → named_image (λ l. f (see l)) (map (λ x. (x.0, value_item x.1)) xs) ≡ named_image f (map (λ x. (see x.0, value_item x.1)) xs)
 rest-view see value_item f [] = refl
 rest-view see value_item f (x ∷ xs) = ap (λ o. both (λ k ps. pair k (value_item x.1) ps) (f (see x.0)) o) (rest-view see value_item f xs)
 
--- as many pairs as there are labels
+-- There are as many pairs as labels.
 named-count : {N : Type 0} (f : N → Option Item) (es : List (N × Item)) (ps : Pairs) → named_image f es ≡ Some ps → pairs_count ps ≡ length es
 named-count f [] ps e = let none : no_pairs ≡ ps = cc in ap pairs_count (sym none)
 named-count f (x ∷ es) ps e = by (f x.0) (named_image f es) (named-count f es) e
@@ -135,7 +135,7 @@ named-count f (x ∷ es) ps e = by (f x.0) (named_image f es) (named-count f es)
     by (Some k) None more h = absurd (cc)
     by None o more h = absurd (cc)
 
--- no map where a pair of the rest has no label
+-- There is no map if a label of the rest has no item.
 unwritten : {N : Type 0} (n : Names N) (b : Bool) (rest : List (N × Item)) (o : Option (List (N × Item))) → named_image n.shape.image rest ≡ None
     → entries_image n b rest o ≡ None
 unwritten n true rest None e = refl
@@ -151,8 +151,8 @@ unwritten {N} n true rest (Some es) e = rw (none es) refl
         last (Some k) h = rw h refl
         last None h = refl
 
--- A head, which counts the fields that are there and the rest; these fields; and the rest: they are the map, where it may
--- be written
+-- A map is written as its head, the present fields and the rest, if it may be written. The head counts the fields and
+-- the rest.
 pub map-written :
     {N L V T : Type 0} (n : Names N) (see : L → N) (value_item : V → Item) (xs : List (L × V)) {o : Option (List (N × Item))} (b : Bool) (there : List Bool)
     {head mid : List ℕ} (old new : List ℕ) (r : Result T CoseError) → b ≡ true
@@ -184,9 +184,9 @@ map-written n see value_item xs {o} b there old new (Ok x) may small first field
 map-written n see value_item xs {o} b there old new (Err e) may small first fields rest refused =
     λ m. let none = refused m in (none.0, unwritten n b (map (as_view see value_item) xs) o (sym (rest-view see value_item n.shape.image xs) ∙ none.1))
 
--- ---- which fields are there
+-- ---- which fields are present
 
--- a list is there where it isn't empty
+-- A list is present if and only if it is not empty.
 pub filled-there : {X : Type 0} (xs : List X) (b : Bool) → b ≡ (length xs == 0) → is_nonempty xs ≡ not b
 filled-there [] b e = sym (ap not e)
 filled-there (x ∷ xs) b e = sym (ap not e ∙ grind (arith, common_steps))
@@ -194,11 +194,11 @@ filled-there (x ∷ xs) b e = sym (ap not e ∙ grind (arith, common_steps))
 pub filled-view : {X Y : Type 0} (see : X → Y) (xs : List X) (b : Bool) → b ≡ (length xs == 0) → is_nonempty (map see xs) ≡ not b
 filled-view see xs b e = filled-there (map see xs) b (e ∙ ap (λ n. n == 0) (sym (length-map xs see)))
 
--- a field that isn't
+-- A field that is absent appends nothing.
 pub left-out : (l : ℤ) (s : List ℕ) (b : Bool) (o : Option Item) → b ≡ false → AppendsField l (field_shape_image b o) s s
 left-out l s b o e = (None, ap (λ c. field_shape_image c o) e, nothing-added s)
 
--- where every value has an item, each field has
+-- If every value has an item, each field has one.
 pub optional-has : {X : Type 0} (f : X → Option Item) → ((x : X) → f x ≡ None → ⊥) → (o : Option X) → field_shape_image (is_some o) (present_image f o) ≡ None
     → ⊥
 optional-has f has (Some x) e = go (f x) (has x) e
@@ -208,7 +208,7 @@ optional-has f has (Some x) e = go (f x) (has x) e
     go None h e = h refl
 optional-has f has None e = absurd (cc)
 
--- ---- a row of pairs
+-- ---- several pairs
 
 pub taken : {X Y : Type 0} (see : X → Y) (xs : List X) (i : ℕ) (x : X) → i < length xs → x ≡ get_or xs i x
     → map see (take (i + 1) xs) ≡ map see (take i xs) ++ see x ∷ []

@@ -15,7 +15,7 @@ use Rattle.coset_codec.specs.MapLaws.{LawfulNames, LawfulFields}
 use Rattle.coset_codec.specs.ShapeLaws.{some-none}
 use Rattle.coset_codec.proofs.Walking.{arrives, goes_on, refuses, stumbles}
 
--- some pairs were read, and others are left
+-- Some pairs were read, and others are left.
 pub record Midway (N A : Type 0) (n : Names N) (fs : Fields N A) (all : Pairs) (x : A × List (N × Item)) (t z : State) (m : MapEntries) : Type 0 where
   pub left : Pairs
   pub walks : Walks N A n fs all x left
@@ -58,13 +58,13 @@ module _ {K N A : Type 0} (n : Names N) (laws : LawfulNames N n) (fs : Fields N 
         faulty = λ i. inr (named l, h.5, here.1 i);
       })
 
-  -- an error that is passed on
+  -- Passes on an error.
   pub stops : (x : A × List (N × Item)) (t z : State) (k : MapEntries) (r : Result (Unit {0}) CoseError) (e : CoseError) → IsErrAnd r (λ i. i ≡ e)
       → AtPair N A n fs all x t z k e → ReadsPairs n fs all x t z k r
   stops x t z k (Ok u) e h a = absurd h
   stops x t z k (Err i) e h a = subst (AtPair N A n fs all x t z k) (sym h) a
 
-  -- how far reading came, and what is left
+  -- How far reading came, and the pairs left.
   walked : (x : A × List (N × Item)) (t z : State) (k : MapEntries) (r : Result (Unit {0}) CoseError) → ReadsPairs n fs all x t z k r → (left : Pairs)
       × Walks N A n fs all x left
   walked x t z k (Ok u) w = (no_pairs, w.0)
@@ -75,7 +75,7 @@ module _ {K N A : Type 0} (n : Names N) (laws : LawfulNames N n) (fs : Fields N 
   left_behind x t z k (Ok u) w = (no_pairs, w.1)
   left_behind x t z k (Err e) w = (w.others, w.within)
 
-  -- what is returned in the end, of all the pairs of a map
+  -- The final result for all the pairs of a map.
   pub all_read :
       (v : Item) (x : A × List (N × Item)) (t z : State) (k : MapEntries) (r q : Result (Unit {0}) CoseError) → as_map v ≡ Some all
       → ReadsPairs n fs all x t z k r
@@ -83,7 +83,7 @@ module _ {K N A : Type 0} (n : Names N) (laws : LawfulNames N n) (fs : Fields N 
   all_read v x t z k r (Ok u) m w h = arrives n laws fs fl v all no_pairs x m (subst (ReadsPairs n fs all x t z k) h.1 w).0 refl h.0
   all_read v x t z k r (Err e) m w h = tt
 
-  -- the error of the pair that is refused, or of a label that repeats before it
+  -- The final error is that of the refused pair, or of a repeated label before it.
   pub first_stands :
       (v : Item) (x : A × List (N × Item)) (t z : State) (k : MapEntries) (r q : Result (Unit {0}) CoseError) → as_map v ≡ Some all
       → ReadsPairs n fs all x t z k r
@@ -98,7 +98,7 @@ module _ {K N A : Type 0} (n : Names N) (laws : LawfulNames N n) (fs : Fields N 
           refuses n laws fs fl v all (pair a.key a.value a.others) a.others a.key a.value x e m a.walks refl (a.faulty i)
       fault i (inr s) = let far = walked x t z k r w in subst ((labelled n fs).faults v) (sym s.0) (stumbles n laws fs fl v all far.0 x m far.1 s.1)
 
--- an error of a map is of no other kind
+-- If the item is a map, the case of another kind cannot occur.
 pub is_map : (v : Item) (all : Pairs) (P : CoseError → Type 0) (q : Result (Unit {0}) CoseError) → as_map v ≡ Some all → IfErr q (λ e. as_map v ≡ None → P e)
 is_map v all P (Ok u) m = tt
 is_map v all P (Err e) m = λ none. absurd (some-none m none)

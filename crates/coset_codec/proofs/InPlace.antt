@@ -1,4 +1,4 @@
--- Lists that are read into places, element by element.
+-- Lists whose elements are read in place, one after the other.
 use Rattle.std.proofs.Common.{◌≡◌, ℕ, suc, List, [], ◌∷◌, ◌++◌, ◌+◌, length, map, take, slice_set, ◌-◌, ◌∙◌, true, Result, Ok, Err, refl, sym, ap, subst, inl}
 use Rattle.std.proofs.Common.{arith}
 use Rattle.std.proofs.lemmas.List.{map-append}
@@ -14,14 +14,14 @@ use Rattle.coset_codec.specs.Lists.{Continues}
 use Rattle.coset_codec.specs.Shape.{Shape, EachFaults}
 use Rattle.coset_codec.proofs.Lists.{goes_on}
 
--- an error that is passed on
+-- Passes on an error.
 pub not_filled :
     {A : Type 0} (s : Shape A) (x : A) (v : Item) (r : Result (Unit {0}) ErrorStored) (e : CoseError) (w : ErrorStored) → IsErrAnd r (λ f. f ≡ w)
     → UnlessMemory e (s.faults v) → Fills s v x (stored e r)
 not_filled s x v (Ok u) e w h n = absurd h
 not_filled s x v (Err f) e w h n = n
 
--- ---- the last of a list that one more was pushed on
+-- ---- the last element, after a push
 
 last_set : {A : Type 0} (xs : List A) (x y : A) → slice_set (xs ++ x ∷ []) (length xs) y ≡ xs ++ y ∷ []
 last_set [] x y = refl
@@ -39,16 +39,16 @@ module _ {T A : Type 0} (view : T → A) where
       let at : n - 1 ≡ length old = omega (arith, longer, e) in
       rw (at, g) (ap (map view) (last_set old x y) ∙ map-append view old (y ∷ []))
 
-  -- one more is copied
+  -- Copies one more element.
   pub one_more_copied :
       (old new all : List T) (i n : ℕ) (a x y : T) → map view old ≡ map view (take i all) → n ≡ length new → new ≡ old ++ a ∷ []
       → map view (take (i + 1) all) ≡ map view (take i all) ++ view x ∷ [] → view y ≡ view x
       → map view (slice_set new (n - 1) y) ≡ map view (take (i + 1) all)
   one_more_copied old new all i n a x y before e gets next same = last_filled old new n a y e gets ∙ ((λ j. before j ++ same j ∷ []) ∙ sym next)
 
--- ---- elements that are where they are read
+-- ---- elements that are read in place
 
--- of the items vs all those before the others were read as xs, and the others are there
+-- The first of the items vs were read as xs, and the others are still to be read.
 pub record Filled (A : Type 0) (s : Shape A) (vs : Items) (z : State) (m : ArrayElements) (t : State) (xs : List A) : Type 0 where
   pub others : Items
   pub continues : Continues A s.describes s.faults vs xs others

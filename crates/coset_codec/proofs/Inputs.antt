@@ -1,4 +1,4 @@
--- Items and pairs that are read forward, in lent bytes.
+-- Items and pairs that are read forward, in borrowed bytes.
 use Rattle.std.proofs.Common.{◌≡◌, ◌≤◌, ◌<◌, arith, ℕ, List, Bool, true, false, Some, None, Result, Ok, Err, refl, sym, subst, ◌∙◌}
 use Rattle.coset_value.specs.Item.{Item, Items, no_items, item, Pairs, no_pairs, pair}
 use Rattle.coset_cbor.specs.declared.cursor.Cursor.{Cursor}
@@ -45,7 +45,7 @@ pub lent_turns : (m : ArrayElements) (p : Remaining) (t u : State) → m ≡ ite
 lent_turns m p (lent s) u is there goes = subst (λ (n : ArrayElements). length_left u < items_turns n (lent s)) (sym is) goes
 lent_turns m p (tree w) u is there goes = absurd there
 
--- the size of what is left, where fewer bytes are left
+-- The size of the elements left does not grow if fewer bytes are left.
 pub items_smaller : (m : ArrayElements) (s t : State) → length_left t ≤ length_left s → items_size m t ≤ items_size m s
 items_smaller (items.Tree it) s t h = omega arith
 items_smaller (items.Lent p) s t h = h
@@ -72,7 +72,7 @@ module _ {K A : Type 0} (shape : Shape A) (view : K → A) where
       → NextsKey shape view ps s z (pairs.Lent p) (Ok None)
   key_none ps s z p n = (flat_none ps n.0, n.1)
 
-  -- a key that was read, and behind it its value
+  -- A key was read, and its value follows.
   pub record Behind (ps : Pairs) (t z : State) (q : Remaining) (r : Result K CoseError) : Type 0 where
     pub key : Item
     pub value : Item
@@ -127,7 +127,7 @@ module _ {K A : Type 0} (shape : Shape A) (view : K → A) where
     x.reads,
   )
 
-  -- behind a key is its value
+  -- Every key is followed by its value.
   pub key_without : (ps : Pairs) (s t z : State) (p q : Remaining) (r : Result K CoseError) → Nexts (keys_and_values ps) s z (items.Lent p) true
       → ((v : Item) (y : State) → ItemAt v s y → (t ≡ y) × Reads shape view v r)
       → ((vs : Items) (y : State) → AreWithin (items.Lent p) vs t y → Nexts vs t y (items.Lent q) false) → ⊥

@@ -1,4 +1,4 @@
--- What some pairs are written as, and others behind them.
+-- The pairs that some labels and values are written as, followed by others.
 use Rattle.std.proofs.Common.{◌≡◌, ◌++◌, ◌∷◌, [], List, Option, Some, None, refl, ◌∙◌, ap}
 use Rattle.coset_value.specs.Item.{Item, Pairs, no_pairs, pair}
 use Rattle.coset_codec.specs.Shape.{both}
@@ -9,7 +9,7 @@ module _ {N : Type 0} (f : N → Option Item) where
       → both (λ j qs. pair j v qs) o q ≡ Some (pair k v ps)
   both-is o q v k ps p r = rw (p, r) refl
 
-  -- some, and then others
+  -- Some pairs, followed by others.
   pub named_image-append : (es fs : List (N × Item)) (ps qs : Pairs) → named_image f es ≡ Some ps → named_image f fs ≡ Some qs
       → named_image f (es ++ fs) ≡ Some (and_pairs ps qs)
   named_image-append [] fs ps qs p q = let h : no_pairs ≡ ps = cc in q ∙ ap (λ rs. Some (and_pairs rs qs)) h
@@ -24,7 +24,7 @@ module _ {N : Type 0} (f : N → Option Item) where
       go ih (Some k) None a b h = absurd (cc)
       go ih None r a b h = absurd (cc)
 
-  -- one that has no item
+  -- If one label has no item, the pairs have none.
   pub named_image-none : (es fs : List (N × Item)) (m : N) (v : Item) → f m ≡ None → named_image f (es ++ (m, v) ∷ fs) ≡ None
   named_image-none [] fs m v e = rw e refl
   named_image-none (x ∷ es) fs m v e = rw (named_image-none es fs m v e) (none-after (f x.0))

@@ -1,4 +1,4 @@
--- How bytes that aren't one item are refused, and items that describe nothing.
+-- How bytes that are not one item are refused, and items that describe no value.
 use Rattle.std.proofs.Common.{◌≡◌, ◌⊎◌, ◌<◌, ℕ, List, [], ◌++◌, Some, Result, Ok, Err, length, take, drop, refl, sym, ap, subst, ◌∙◌, inl, inr}
 use Rattle.std.proofs.Common.{append-nil, arith}
 use Rattle.std.proofs.Common.{take-append-drop, length-take-le}
@@ -17,7 +17,7 @@ use Rattle.coset_codec.specs.Errors.{UnlessMemory}
 use Rattle.coset_codec.specs.Refusals.{IsNoTag, NamesByteFault, NamesExtraneous, NamesUnexpected, NamesWholeFault}
 use Rattle.coset_codec.proofs.Whole.{OneItem, one_of}
 
--- memory ran out, or it is another error
+-- An error is `OutOfMemory`, or it is not.
 memory_or_not : (e : CoseError) → (e ≡ OutOfMemory) ⊎ (e ≡ OutOfMemory → ⊥)
 memory_or_not (DecodeFailed x) = inr (λ q. cc)
 memory_or_not DuplicateMapKey = inr (λ q. cc)
@@ -29,14 +29,14 @@ memory_or_not UnregisteredIanaValue = inr (λ q. cc)
 memory_or_not UnregisteredIanaNonPrivateValue = inr (λ q. cc)
 memory_or_not OutOfMemory = inl refl
 
--- where a fault is in bytes, no front of them is an item
+-- If a fault is in bytes, no prefix of them is an item.
 abbrev pub NoItemAtFault : Type 0
 NoItemAtFault = (s : List ℕ) (e : Error EndOfFile) → AreBytes s → (IsMemory e → ⊥) → FaultIn s e → HasNoItem s
 
 split : (n : ℕ) (s : List ℕ) → s ≡ take n s ++ drop n s
 split n s = sym (take-append-drop n s)
 
--- bytes of which a proper front is an item are none
+-- Bytes with a proper prefix that is an item are not an item themselves.
 front_alone : OneItem → (s : List ℕ) (n : ℕ) (v w : Item) → n < length s → IsItem (take n s) v → IsItem s w → ⊥
 front_alone one s n v w short front whole =
     let same : s ≡ take n s = (one w v s (take n s) [] (drop n s) whole.0 front.0 (append-nil s ∙ split n s)).1 in
@@ -86,7 +86,7 @@ module _ {A T : Type 0} (shape : Shape A) (view : T → A) (s : List ℕ) where
   pub names_whole_fault : OneItem → NoItemAtFault → (r : Result T CoseError) → ReadsSlice shape view s r → AllocatesForItems s r → NamesWholeFault s r
   names_whole_fault one at_fault r read memory = (names_byte_fault r read memory, names_extraneous one at_fault r read memory)
 
--- an item that is refused, out of memory aside, describes nothing, where no fault is in one that describes a value
+-- If no item with a value has a fault, a refused item describes no value, unless the error is `OutOfMemory`.
 pub refuses_item :
     {T A : Type 0} (shape : Shape A) → ((v : Item) (x : A) (e : CoseError) → shape.describes v x → shape.faults v e → ⊥)
     → (view : T → A) (v : Item) (r : Result T CoseError) → Reads shape view v r
@@ -94,7 +94,7 @@ pub refuses_item :
 refuses_item shape sound view v (Ok x) p = tt
 refuses_item shape sound view v (Err e) p = λ n x d. sound v x e d (p n)
 
--- an item that is no tag of the number is unexpected
+-- An item that is no tag of the number is `UnexpectedItem`.
 pub names_unexpected :
     {T A : Type 0} (n : ℕ) (shape : Shape A) (view : T → A) (v : Item) (r : Result T CoseError) → IsNoTag n v → Reads (tagged n shape) view v r
     → NamesUnexpected r
@@ -105,18 +105,18 @@ names_unexpected n shape view v (Err e) none read = λ m.
       | inr f ↦ elim f.3 [ inl g ↦ g.1 | inr g ↦ absurd (none f.1 (f.2 ∙ ap (λ t. Some (t, f.1)) g.0)) ]
     ]
 
--- ---- bytes that are refused as a whole, or for a fault of the one item that they are
+-- ---- bytes that are not one item, or whose item has a fault
 
 module _ {A : Type 0} (shape : Shape A) where
   whole_fault : (s : List ℕ) (e : CoseError) → IsWholeFault s e → SliceFaults shape s e × DescribesNothing shape s
   whole_fault s e (inl f, none) = (inl f, λ x d. none d.0 d.1)
   whole_fault s e (inr f, none) = (inr (inl f), λ x d. none d.0 d.1)
 
-  -- they aren't one item
+  -- The bytes are not one item.
   pub no_item : (s : List ℕ) (e : CoseError) → UnlessMemory e (IsWholeFault s) → IsRefused shape s e
   no_item s e h = λ k. whole_fault s e (h k)
 
-  -- a fault is in the item that they are
+  -- The bytes are one item, which has a fault.
   pub at_fault :
       ((v : Item) (x : A) (f : CoseError) → shape.describes v x → shape.faults v f → ⊥) → (s : List ℕ) (v : Item) (e : CoseError) → IsOnlyItem s v
       → UnlessMemory e (shape.faults v)

@@ -46,7 +46,7 @@ module _ {N A : Type 0} (n : Names N) (laws : LawfulNames N n) (fs : Fields N A)
       fault (inl g) = key_fault n fs walk.done k w e g new
       fault (inr g) = refuses_fault n laws fs fl walk.done k w g.0 x e walk.so_far g.1 g.2 new
 
--- what a test says of its negation
+-- A test that equals the negation of another.
 pub not_true : (b c : Bool) → b ≡ not c → b ≡ true → c ≡ false
 not_true b true e h = absurd (true≢false (sym h ∙ e))
 not_true b false e h = refl

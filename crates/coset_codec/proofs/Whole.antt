@@ -17,7 +17,7 @@ use Rattle.coset_codec.specs.Errors.{decode_failure}
 use Rattle.coset_codec.specs.Answers.{IsByteFault, IsExtraneous, IsNoItem, IsOnlyItem, Reads, ReadsSlice, ReadsWhole}
 use Rattle.coset_codec.specs.Shape.{Shape, tagged}
 
--- an answer that is an error of which this holds
+-- The result is an error with the property W.
 pub on_err : {T : Type 0} (it : T → Item) (s : List ℕ) (r : Result T CoseError) (W : CoseError → Type 0) → IsErrAnd r W
     → ((e : CoseError) → W e → (IsByteFault s e ⊎ IsExtraneous s e) × IsNoItem s) → ReadsWhole it s r
 on_err it s (Ok x) W h f = absurd h
@@ -26,7 +26,7 @@ on_err it s (Err e) W h f = λ _. f e h
 pub no_whole : (s : List ℕ) → ((v : Item) (b rest : List ℕ) → s ≡ b ++ rest → IsItem b v → ⊥) → IsNoItem s
 no_whole s none v is = none v s [] (sym (append-nil s)) is
 
--- a fault of the bytes, as the error of a failed decoding
+-- A fault of the bytes, as the error of a failed decoding.
 pub byte_fault : (s : List ℕ) (e : Error EndOfFile) → (IsMemory e → ⊥) → FaultIn s e → IsByteFault s (decode_failure e)
 byte_fault s (errors.Io x) n h = (errors.Io (record {}), refl, n, h)
 byte_fault s (errors.Syntax i) n h = (errors.Syntax i, refl, n, h)
@@ -34,7 +34,7 @@ byte_fault s (errors.Semantic i t) n h = (errors.Semantic i t, refl, n, h)
 byte_fault s errors.RecursionLimitExceeded n h = (errors.RecursionLimitExceeded, refl, n, h)
 byte_fault s errors.OutOfMemory n h = absurd (n tt)
 
--- bytes are the encoding of at most one item, and no encoding is a proper front of another
+-- Bytes encode at most one item, and no encoding is a proper prefix of another.
 abbrev pub OneItem : Type 0
 OneItem = (v w : Item) (b c x y : List ℕ) → IsEncoding v b → IsEncoding w c → b ++ x ≡ c ++ y → (v ≡ w) × (b ≡ c)
 
@@ -58,11 +58,11 @@ only_item one s b [] v t e is =
     let whole : IsItem s v = subst (λ c. IsItem c v) (sym same) is in
     (whole, λ w h. (one w v s s [] [] h.0 whole.0 refl).0)
 
--- bytes are one item at most
+-- Bytes are at most one item.
 pub one_of : OneItem → (s : List ℕ) (v w : Item) → IsItem s v → IsItem s w → v ≡ w
 one_of one s v w p q = (one v w s s [] [] p.0 q.0 refl).0
 
--- bytes that are a tag of that number are read as what it encloses is
+-- Bytes that are a tag of that number are read like the enclosed item.
 pub tagged_read :
     {T A : Type 0} (shape : Shape A) (view : T → A) (n : ℕ) (s : List ℕ) (v w : Item) (r : Result T CoseError) → IsItem s v → as_tag v ≡ Some (n, w)
     → Reads shape view w r → ReadsSlice (tagged n shape) view s r

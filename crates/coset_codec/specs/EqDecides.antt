@@ -1,11 +1,11 @@
--- That a derived `==` is equality of what contracts see of a value, from that of its parts.
+-- A derived `==` is equality of what contracts see of a value, if this holds for the value's parts.
 use Rattle.std.specs.Prelude.{◌≡◌, ◌==◌, Bool, Decides, List, [], ◌∷◌, Some, None, ℕ, map, option_map, refl, ◌&&◌}
 use Rattle.std.specs.Option.{option_eq}
 use Rattle.std.specs.Cmp.Lexicographic.{pointwise, bytes_decides}
 use Rattle.std.proofs.Common.{Vec, Global, ◌∙◌, ap, sym, true≢false}
 use Rattle.std.proofs.lemmas.Bool.Decides.{Decides-like, Decides-and}
 
--- the test returns `true` exactly where the same is seen of both
+-- The test returns true if and only if contracts see the same of both values.
 abbrev pub EqDecides : {A B : Type 0} → (A → B) → (A → A → Bool) → Type 0
 EqDecides {A} view test = (x y : A) → Decides (test x y) (view x ≡ view y)
 
@@ -28,11 +28,11 @@ module _ {A B : Type 0} (view : A → B) (test : A → A → Bool) (told : EqDec
   lists_decides [] (y ∷ ys) = (λ e. absurd (true≢false (sym e)), λ e. absurd (cc))
   lists_decides (x ∷ xs) [] = (λ e. absurd (true≢false (sym e)), λ e. absurd (cc))
 
--- byte strings that may be missing
+-- Byte strings that may be missing.
 pub bstr_decides : EqDecides (option_map (λ (b : Vec ℕ Global). b.items)) (option_eq (λ x y. pointwise ◌==◌ x.items y.items))
 bstr_decides = options_decides _ _ vec_decides
 
--- ---- values that are seen as their parts, from the first to the last
+-- ---- values that are seen as their parts, from first to last
 
 module _ {A B : Type 0} (of_parts : A → B) (parts : B → A) (back : (x : B) → of_parts (parts x) ≡ x) where
   pub parts_told : {t : Bool} {x y : B} → Decides t (parts x ≡ parts y) → Decides t (x ≡ y)

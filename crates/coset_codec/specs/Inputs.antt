@@ -1,4 +1,4 @@
--- Reading forward: what is where something is read, in a tree or in lent bytes.
+-- Reading forward: what is at the input, in a tree or in borrowed bytes.
 use Rattle.std.specs.Prelude.{◌≡◌, ◌<◌, ◌≤◌, OnOk, ⊤, ℕ, List, length, codes, Bool, true, false, Option, Some, None, Result, Ok, Err}
 use Rattle.std.specs.Vec.Iter.{into_iter_items}
 use Rattle.coset_value.specs.Item.{Item, null, Items, no_items, item, items_count, items_depth, Pairs, no_pairs, pair, pairs_count, pairs_depth, depth}
@@ -18,119 +18,120 @@ use Rattle.coset_codec.specs.Kinds.{kind, Says}
 use Rattle.coset_codec.specs.Shape.{Shape, is_nil}
 use Rattle.coset_codec.specs.Sources.{IsWrongLength}
 
--- what is still to come: an item, or bytes
+-- The remaining input: an item, or bytes.
 pub data State : Type 0 where
   tree : Item → State
   lent : List ℕ → State
 
--- what an input has before it
+-- The remaining input of a decoder.
 abbrev pub state : Decoder → State
 state (Tree v) = tree (value_item v)
 state (Lent c) = lent (bytes_left c)
 
--- the item v is at s, and z is what follows it; a tree leaves null
+-- The item v is at s, and z is the input after it. A tree leaves null.
 abbrev pub ItemAt : Item → State → State → Type 0
 ItemAt v (tree w) z = (w ≡ v) × (z ≡ tree null)
 ItemAt v (lent s) z = (a : List ℕ) × (z ≡ lent a) × bytes.ItemAt v s a
 
--- the elements vs of an array are still to come at s, and z follows the array
+-- The elements vs of an array are still to be read at s, and z is the input after the array.
 abbrev pub AreWithin : ArrayElements → Items → State → State → Type 0
 AreWithin (items.Tree it) vs s z = (value_items (into_iter_items it) ≡ vs) × (s ≡ tree null) × (z ≡ tree null)
 AreWithin (items.Lent p) vs s z = (b : List ℕ) × (a : List ℕ) × (s ≡ lent b) × (z ≡ lent a) × bytes.AreWithin p vs b a
 
--- the pairs ps of a map are
+-- The pairs ps of a map are still to be read at s, and z is the input after the map.
 abbrev pub PairsWithin : MapEntries → Pairs → State → State → Type 0
 PairsWithin (pairs.Tree it) ps s z = (value_pairs (into_iter_items it) ≡ ps) × (s ≡ tree null) × (z ≡ tree null)
 PairsWithin (pairs.Lent p) ps s z = (b : List ℕ) × (a : List ℕ) × (s ≡ lent b) × (z ≡ lent a) × bytes.AreWithin p (keys_and_values ps) b a
 
--- ---- what reading returns
+-- ---- results of reading
 
--- the item at s was read, and t is just behind it; P says what was returned
+-- If an item is at s, t is the input just after it, and P holds of the item. P says what was returned.
 abbrev pub ReadsAt : State → State → (Item → Type 0) → Type 0
 ReadsAt s t P = (v : Item) (z : State) → ItemAt v s z → (t ≡ z) × P v
 
--- what the item v holds was read, and t is behind it; or v holds nothing of the kind, and t is s as before
+-- The part of v was read, and t is the input just after v. Or v has no such part, and t is s, unchanged.
 abbrev pub TakesPart : {T P : Type 0} → (Item → Option P) → (T → P) → Item → State → State → State → Option T → Type 0
 TakesPart part view v s t z (Some x) = (part v ≡ Some (view x)) × (t ≡ z)
 TakesPart part view v s t z None = (part v ≡ None) × (t ≡ s)
 
--- null was taken, and the reader is behind it; or the item is another, and nothing was
+-- The item was null, and t is the input after it. Or v is another item, and t is s, unchanged.
 abbrev pub TakesNull : Item → State → State → State → Bool → Type 0
 TakesNull v s t z true = (is_nil v ≡ true) × (t ≡ z)
 TakesNull v s t z false = (is_nil v ≡ false) × (t ≡ s)
 
--- what is still to come are lent bytes
+-- The remaining input is borrowed bytes.
 abbrev pub IsLent : State → Type 0
 IsLent (tree w) = ⊥
 IsLent (lent s) = ⊤
 
--- the elements of the array v are at t; or v is no array and was passed
+-- The elements of the array v are to be read at t. Or v is no array and was skipped.
 abbrev pub EntersArray : List ℕ → Item → State → State → Result ArrayElements CoseError → Type 0
 EntersArray want v t z (Ok m) = (vs : Items) × (as_array v ≡ Some vs) × AreWithin m vs t z
 EntersArray want v t z (Err e) = (t ≡ z) × (as_array v ≡ None) × IsUnexpected e × Says (kind v) want e
 
--- the pairs of the map v are at t; or v is no map and was passed
+-- The pairs of the map v are to be read at t. Or v is no map and was skipped.
 abbrev pub EntersMap : Item → State → State → Result MapEntries CoseError → Type 0
 EntersMap v t z (Ok m) = (ps : Pairs) × (as_map v ≡ Some ps) × PairsWithin m ps t z
 EntersMap v t z (Err e) = (t ≡ z) × (as_map v ≡ None) × IsUnexpected e × Says (kind v) (codes "map") e
 
--- the next of the elements is at t; or none is left
+-- If true, the next element is at t, and the others are to be read after it. If false, no element is left.
 abbrev pub Nexts : Items → State → State → ArrayElements → Bool → Type 0
 Nexts vs t z m true = (v : Item) × (others : Items) × (mid : State) × (vs ≡ item v others) × ItemAt v t mid × AreWithin m others mid z
 Nexts vs t z m false = (vs ≡ no_items) × AreWithin m no_items t z
 
--- the next of the elements is at t; or none is left, the array was skipped, and the error says with `want` that it has too few
+-- The next element is at t. Or no element is left, the array was skipped, and the error says with `want` that there are
+-- too few.
 abbrev pub NextPlace : List ℕ → Items → State → State → ArrayElements → Result (Unit {0}) CoseError → Type 0
 NextPlace want vs t z m (Ok x) = (v : Item) × (others : Items) × (mid : State) × (vs ≡ item v others) × ItemAt v t mid × AreWithin m others mid z
 NextPlace want vs t z m (Err e) = (vs ≡ no_items) × (t ≡ z) × IsWrongLength want e
 
--- the value of the next pair is at t, whose key was read as this; or no pair is left; or the key is at fault, and the value was
--- passed
+-- The key of the next pair was read, and its value is at t. Or no pair is left. Or the key has a fault, and the value
+-- was skipped.
 abbrev pub NextsKey : {K A : Type 0} → Shape A → (K → A) → Pairs → State → State → MapEntries → Result (Option K) CoseError → Type 0
 NextsKey s view ps t z m (Ok (Some key)) =
     (k : Item) × (v : Item) × (others : Pairs) × (mid : State) × (ps ≡ pair k v others) × s.describes k (view key) × ItemAt v t mid × PairsWithin m others mid z
 NextsKey s view ps t z m (Ok None) = (ps ≡ no_pairs) × PairsWithin m no_pairs t z
 NextsKey s view ps t z m (Err e) = (k : Item) × (v : Item) × (others : Pairs) × (ps ≡ pair k v others) × PairsWithin m others t z × UnlessMemory e (s.faults k)
 
--- ---- how far reading still goes
+-- ---- how much is left to read
 
--- the bytes that are left
+-- The number of bytes left.
 abbrev pub length_left : State → ℕ
 length_left (tree w) = 0
 length_left (lent s) = length s
 
--- how deep a tree is, or how many bytes are left
+-- The depth of a tree, or the number of bytes left.
 abbrev pub input_size : State → ℕ
 input_size (tree w) = depth w
 input_size (lent s) = length s
 
--- how much is still to be read of an array: its reader ends, since this falls
+-- The depth of the elements left in a tree, or the number of bytes left. Recursive readers end because this falls.
 abbrev pub items_size : ArrayElements → State → ℕ
 items_size (items.Tree it) s = items_depth (value_items (into_iter_items it))
 items_size (items.Lent p) s = length_left s
 
--- how much is still to be read of a map
+-- The depth of the pairs left in a tree, or the number of bytes left.
 abbrev pub pairs_size : MapEntries → State → ℕ
 pairs_size (pairs.Tree it) s = pairs_depth (value_pairs (into_iter_items it))
 pairs_size (pairs.Lent p) s = length_left s
 
--- how many turns there are at the most
+-- The most elements of an array that can still be read.
 abbrev pub items_turns : ArrayElements → State → ℕ
 items_turns (items.Tree it) s = items_count (value_items (into_iter_items it))
 items_turns (items.Lent p) s = length_left s
 
--- how many pairs of a map can still come
+-- The most pairs of a map that can still be read.
 abbrev pub pairs_turns : MapEntries → State → ℕ
 pairs_turns (pairs.Tree it) s = pairs_count (value_pairs (into_iter_items it))
 pairs_turns (pairs.Lent p) s = length_left s
 
--- of bytes some were passed
+-- If s is bytes, fewer of them are left at t.
 abbrev pub GoesBehind : State → State → Type 0
 GoesBehind (tree w) t = ⊤
 GoesBehind (lent s) t = length_left t < length s
 
--- Reading goes forward: from s to t, which is not further from the end, and is nearer to it where the result is Ok. Where an
--- item is at s, t is just behind it, and P holds of the item
+-- Reading goes forward from s to t. At t there are at most as many bytes left as at s. If the result is `Ok` and s is
+-- bytes, there are fewer. If an item is at s, t is the input just after it, and P holds of the item.
 pub record ReadsForward {A E : Type 0} (s t : State) (result : Result A E) (P : Item → Type 0) : Type 0 where
   pub shrinks : length_left t ≤ length_left s
   pub strictly : OnOk result (GoesBehind s t)

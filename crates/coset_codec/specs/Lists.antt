@@ -13,19 +13,19 @@ use Rattle.coset_codec.specs.declared.error.CallError.{CallError}
 use Rattle.coset_codec.specs.declared.error.CallError.TheVariants.{Coset, Caller}
 use Rattle.coset_codec.specs.Shape.{Shape, Each, EachFaults, images}
 
--- Of all the elements of a list, so_far was read, and left are still to come: whatever these are read as ends what was
--- read, and what is wrong with them is wrong with the list
+-- Of all the elements of a list, some were read as so_far, and those left are still to be read. The values of those
+-- left complete the list, and a fault in one of them is a fault in the list.
 pub record Continues (A : Type 0) (r : Item → A → Type 0) (f : Item → CoseError → Type 0) (all : Items) (so_far : List A) (left : Items) : Type 0 where
   pub ends : (zs : List A) → Each r left zs → Each r all (so_far ++ zs)
   pub blames : (e : CoseError) → EachFaults f left e → EachFaults f all e
 
--- Reading items one after the other: the values that they represent, or, out of memory aside, an error that names a
--- fault in one of them
+-- Reading items one after the other gives the values that they represent. Otherwise the error names a fault in one of
+-- them, or is `OutOfMemory`.
 abbrev pub ReadsEach : {T A : Type 0} → Shape A → (T → A) → Items → Result (Vec T Global) CoseError → Type 0
 ReadsEach s view vs (Ok all) = Each s.describes vs (map view all.items)
 ReadsEach s view vs (Err e) = UnlessMemory e (EachFaults s.faults vs)
 
--- the last of these has no image, and those before it have one each
+-- The last value has no image, and each value before it has one.
 pub record LastHasNoImage (A : Type 0) (image : A → Option Item) (xs : List A) : Type 0 where
   pub before : List A
   pub last : A
@@ -34,22 +34,22 @@ pub record LastHasNoImage (A : Type 0) (image : A → Option Item) (xs : List A)
   pub images_before : images image before ≡ Some written
   pub no_image : image last ≡ None
 
--- as many of the ones as of the others, each related to its counterpart
+-- The two lists are equally long, and R relates each element to its counterpart.
 abbrev pub EachWith : {A B : Type 0} → (A → B → Type 0) → List A → List B → Type 0
 EachWith R [] [] = ⊤
 EachWith R (x ∷ xs) (y ∷ ys) = R x y × EachWith R xs ys
 EachWith R xs ys = ⊥
 
--- P holds of each of them
+-- P holds of each element.
 abbrev pub EachHas : {A : Type 0} → (A → Type 0) → List A → Type 0
 EachHas P [] = ⊤
 EachHas P (x ∷ xs) = P x × EachHas P xs
 
--- one of the values is refused, and those before it aren't
+-- One of the values is refused, and the values before it are not.
 abbrev pub FirstRefused : {A B : Type 0} → (A → B → Type 0) → (A → Type 0) → List A → Type 0
 FirstRefused {A} {B} R P xs = (before : List A) × (made : List B) × (x : A) × (after : List A) × (xs ≡ before ++ x ∷ after) × EachWith R before made × P x
 
--- memory ran out, or one of the values is refused with this error, and those before it aren't
+-- An allocation failed. Or one of the values is refused with this error, and the values before it are not.
 abbrev pub RefusesElement : {A B E : Type 0} → (A → B → Type 0) → (A → E → Type 0) → List A → CallError E → Type 0
 RefusesElement R P xs (Coset e) = e ≡ OutOfMemory
 RefusesElement R P xs (Caller e) = FirstRefused R (λ x. P x e) xs
@@ -58,6 +58,7 @@ abbrev pub NoArray : {E : Type 0} → Item → CallError E → Type 0
 NoArray v (Coset e) = (as_array v ≡ None) × IsUnexpected e × Says (kind v) (codes "array") e
 NoArray v (Caller e) = ⊥
 
--- the item is no array; or one of its elements is refused so, of values that represent them
+-- The item is no array, or one of its elements is refused with this error. The elements are given as values that
+-- represent them.
 abbrev pub RefusesArray : {B E : Type 0} → (Value → B → Type 0) → (Value → E → Type 0) → Item → CallError E → Type 0
 RefusesArray R P v e = NoArray v e ⊎ ((vs : List Value) × (as_array v ≡ Some (value_items vs)) × RefusesElement R P vs e)

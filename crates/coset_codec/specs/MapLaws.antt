@@ -1,4 +1,4 @@
--- What holds of maps with labels, and of reading them pair by pair, where the labels and the values of fields have laws.
+-- Laws of maps with labels and of reading them pair by pair, from the laws of labels and of fields' values.
 use Rattle.std.specs.Prelude.{filter, is_some}
 use Rattle.std.specs.Cmp.{both_ways}
 use Rattle.std.specs.List.{IsDistinct, AllByRecursion, list_all}
@@ -24,7 +24,7 @@ use Rattle.coset_codec.specs.Maps.{with_pair, and_pairs, SoFar, Adds, Refuses}
 
 -- ---- lists and tests
 
--- what holds of each element
+-- A property of each element.
 all_append : {X : Type 0} (P : X → Type 0) (xs ys : List X) → AllByRecursion P xs → AllByRecursion P ys → AllByRecursion P (xs ++ ys)
 all_append P [] ys h k = k
 all_append P (x ∷ xs) ys h k = (h.0, all_append P xs ys h.1 k)
@@ -41,11 +41,11 @@ all_filter {X} P t (x ∷ xs) h = go (t x) (all_filter P t xs h.1)
     go true k = (h.0, k)
     go false k = k
 
--- in another order
+-- The same for the elements in another order.
 all_moved : {X : Type 0} (P : X → Type 0) (xs ys : List X) → IsPermutation xs ys → AllByRecursion P xs → AllByRecursion P ys
 all_moved P xs ys m h = recursion_from_All P ys (All-permutation P xs ys m (All-from_recursion P xs h))
 
--- what a filter keeps, and where it keeps all or nothing
+-- The elements that a filter keeps, and when a filter keeps all of them or none.
 filter_passing : {X : Type 0} (t : X → Bool) (xs : List X) → AllByRecursion (λ y. t y ≡ true) (filter t xs)
 filter_passing t [] = tt
 filter_passing t (x ∷ xs) = go (t x) refl (filter_passing t xs)
@@ -62,7 +62,7 @@ filter_none : {X : Type 0} (t : X → Bool) (xs : List X) → AllByRecursion (λ
 filter_none t [] h = refl
 filter_none t (x ∷ xs) h = rw h.0 (filter_none t xs h.1)
 
--- a filter with one more element at the end, which passes or not
+-- A filter over a list with one more element at the end, which passes or not.
 pub filter_kept : {X : Type 0} (t : X → Bool) (xs : List X) (x : X) → t x ≡ true → filter t (xs ++ x ∷ []) ≡ filter t xs ++ x ∷ []
 filter_kept t xs x h = filter-append t xs (x ∷ []) ∙ rw h refl
 
@@ -70,7 +70,7 @@ pub filter_left : {X : Type 0} (t : X → Bool) (xs : List X) (x : X) → t x �
 filter_left t [] x h = rw h refl
 filter_left t (y ∷ xs) x h = ap (λ ys. cond (t y) (y ∷ ys) ys) (filter_left t xs x h)
 
--- looking up with one more pair at the end
+-- A look-up among pairs with one more at the end.
 pub lookup_new : {N X : Type 0} (t : N → Bool) (es : List (N × X)) (m : N) (v : X) → lookup t es ≡ None → t m ≡ true → lookup t (es ++ (m, v) ∷ []) ≡ Some v
 lookup_new t [] m v n h = rw h refl
 lookup_new t (e ∷ es) m v n h = go (lookup_new t es m v) (t e.0) n
@@ -84,39 +84,39 @@ pub lookup_other : {N X : Type 0} (t : N → Bool) (es : List (N × X)) (m : N) 
 lookup_other t [] m v h = rw h refl
 lookup_other t (e ∷ es) m v h = ap (cond (t e.0) (Some e.1)) (lookup_other t es m v h)
 
--- the cases of `Where`
+-- The two cases of `IfThenElse`.
 by_where : {P Q R : Type 0} (b : Bool) → IfThenElse b P Q → (b ≡ true → P → R) → (b ≡ false → Q → R) → R
 by_where true w f g = f refl w
 by_where false w f g = g refl w
 
--- ---- names and values held
+-- ---- labels, and the values of fields
 
--- labels whose shape has laws, and the test says whether two labels are one
+-- The shape of the labels has laws, and the test says whether two labels are the same.
 pub record LawfulNames (N : Type 0) (n : Names N) : Type 0 where
   pub shape : Lawful N n.shape
   pub same_is : (l m : N) → n.same l m ≡ true → l ≡ m
   pub same_self : (l : N) → n.same l l ≡ true
 
--- a label that is written flat
+-- A label whose item has depth 0.
 pub record Flat (N : Type 0) (n : Names N) (l : N) : Type 0 where
   pub key : Item
   pub is_image : n.shape.image l ≡ Some key
   pub described : n.shape.describes key l
   pub is_flat : depth key ≡ 0
 
--- a value, where there is one, is no deeper than d
+-- The item, if there is one, is at most d deep.
 abbrev pub Within : ℕ → Option Item → Type 0
 Within d (Some v) = depth v ≤ d
 Within d None = Unit {0}
 
--- x is written as a value that represents x and is no deeper than d, or is left out
+-- x is written as an item that represents x and is at most d deep, or is left out.
 pub record AgainFieldShape (A : Type 0) (h : FieldShape A) (d : ℕ) (x : A) : Type 0 where
   pub value : Option Item
   pub is_image : h.image x ≡ Some value
   pub described : h.describes value x
   pub shallow : Within d value
 
--- `apart`: no value is read both from an item and from none
+-- `apart`: no value is represented both by an item and by the absence of one.
 pub record LawfulFieldShape (A : Type 0) (h : FieldShape A) : Type 0 where
   pub unique : (o : Option Item) (x y : A) → h.describes o x → h.describes o y → x ≡ y
   pub again : (d : ℕ) (o : Option Item) (x : A) → Within d o → h.describes o x → AgainFieldShape A h d x
@@ -125,7 +125,7 @@ pub record LawfulFieldShape (A : Type 0) (h : FieldShape A) : Type 0 where
 
 module _ {A : Type 0} (absent : A) (shows : A → Bool) (hidden : shows absent ≡ false) (shown : (x : A) → shows x ≡ false → x ≡ absent) (s : Shape A)
     (never : (v : Item) → s.describes v absent → ⊥) (l : Lawful A s) where
-  -- a value, or `absent`
+  -- An item represents at most one value, and the absence of one represents `absent` alone.
   field_shape_unique : (o : Option Item) (x y : A) → (field_shape absent shows s).describes o x → (field_shape absent shows s).describes o y → x ≡ y
   field_shape_unique (Some v) x y p q = l.unique v x y p q
   field_shape_unique None x y p q = p ∙ sym q
@@ -147,7 +147,7 @@ module _ {A : Type 0} (absent : A) (shows : A → Bool) (hidden : shows absent �
   pub field_shape_laws : LawfulFieldShape A (field_shape absent shows s)
   field_shape_laws = record { unique = field_shape_unique; again = field_shape_again; sound = l.sound; apart = field_shape_apart }
 
--- what is left out
+-- A value that is left out is `None`.
 none_hidden : {A : Type 0} (x : Option A) → is_some x ≡ false → x ≡ None
 none_hidden (Some x) h = absurd (true≢false h)
 none_hidden None h = refl
@@ -164,7 +164,7 @@ unless_empty_laws s never l = field_shape_laws [] is_nonempty refl empty_hidden 
 
 -- ---- fields
 
--- a pair whose key is written, and neither part is deeper than d
+-- A pair whose key has an item. Neither the key nor the value is deeper than d.
 pub record Writable (N : Type 0) (n : Names N) (d : ℕ) (e : N × Item) : Type 0 where
   pub key : Item
   pub is_image : n.shape.image e.0 ≡ Some key
@@ -172,25 +172,25 @@ pub record Writable (N : Type 0) (n : Names N) (d : ℕ) (e : N × Item) : Type 
   pub shallow_key : depth key ≤ d
   pub shallow : depth e.1 ≤ d
 
--- pairs that are written, and are no deeper than d
+-- Pairs that have items and are at most d deep.
 record Written (N : Type 0) (n : Names N) (d : ℕ) (es : List (N × Item)) : Type 0 where
   pub pairs : Pairs
   pub is_image : named_image n.shape.image es ≡ Some pairs
   pub named : Named n.shape.describes pairs es
   pub shallow : pairs_depth pairs ≤ d
 
--- no pair has the label l
+-- No pair has the label l.
 abbrev pub IsNew : {N : Type 0} → Names N → N → List (N × Item) → Type 0
 IsNew n l es = AllByRecursion (λ m. n.same l m ≡ false) (keys_of es)
 
--- each pair's label has a field, or none's does
+-- The label of each pair has a field (`IsCore`), or none of the labels has one (`IsRest`).
 abbrev pub IsCore : {N : Type 0} → Names N → List N → List (N × Item) → Type 0
 IsCore n labels es = AllByRecursion (λ e. is_core n labels e.0 ≡ true) es
 
 abbrev pub IsRest : {N : Type 0} → Names N → List N → List (N × Item) → Type 0
 IsRest n labels es = AllByRecursion (λ e. is_core n labels e.0 ≡ false) es
 
--- x is written as fields that represent it, with whatever other pairs
+-- x is written as fields that represent x, whatever other pairs follow.
 pub record AgainFields (N A : Type 0) (n : Names N) (fs : Fields N A) (d : ℕ) (x : A) : Type 0 where
   pub entries : List (N × Item)
   pub is_image : fs.image x ≡ Some entries
@@ -199,8 +199,9 @@ pub record AgainFields (N A : Type 0) (n : Names N) (fs : Fields N A) (d : ℕ) 
   pub distinct : IsDistinct n.same (keys_of entries)
   pub writable : AllByRecursion (Writable N n d) entries
 
--- `frame` and `other`: a pair that is no field's changes nothing, first or last. `takes` and `fresh`: a pair is taken
--- where its label is new, and only there. `repeated`: what repeats is there
+-- `frame` and `other`: a pair without a field changes nothing, first or last. `takes`: if a pair with a new label turns
+-- x into y, the pairs with it at the end represent y. `fresh`: a pair turns x into another value only if its label is
+-- new. `repeated`: a label that repeats is there already.
 pub record LawfulFields (N A : Type 0) (n : Names N) (fs : Fields N A) : Type 0 where
   pub unique : (es : List (N × Item)) (x y : A) → fs.describes es x → fs.describes es y → x ≡ y
   pub frame : (m : N) (v : Item) (es : List (N × Item)) (x : A) → is_core n fs.labels m ≡ false → fs.describes es x → fs.describes ((m, v) ∷ es) x
@@ -212,7 +213,7 @@ pub record LawfulFields (N A : Type 0) (n : Names N) (fs : Fields N A) : Type 0 
   pub fresh : (es : List (N × Item)) (x y : A) (m : N) (v : Item) → fs.describes es x → fs.takes m v x y → lookup (n.same m) es ≡ None
   pub repeated : (es : List (N × Item)) (x : A) (m : N) → fs.describes es x → fs.repeats m x → lookup (n.same m) es ≡ None → ⊥
 
--- ---- one more pair at the end, and then others
+-- ---- one more pair at the end, and then other pairs
 
 pub and_pairs-with : (ps : Pairs) (k v : Item) (more : Pairs) → and_pairs (with_pair ps k v) more ≡ and_pairs ps (pair k v more)
 and_pairs-with no_pairs k v more = refl
@@ -222,7 +223,7 @@ pub and_pairs-none : (ps : Pairs) → and_pairs ps no_pairs ≡ ps
 and_pairs-none no_pairs = refl
 and_pairs-none (pair j w ps) = ap (pair j w) (and_pairs-none ps)
 
--- what is said of the pair
+-- A property of the added pair holds of one of the pairs.
 some_last : (P : Item → Item → Type 0) (ps : Pairs) (k v : Item) (more : Pairs) → P k v → SomePair P (and_pairs (with_pair ps k v) more)
 some_last P no_pairs k v more h = inl h
 some_last P (pair j w ps) k v more h = inr (some_last P ps k v more h)
@@ -232,7 +233,7 @@ pub key_fault : {N A : Type 0} (n : Names N) (fs : Fields N A) (ps : Pairs) (k v
 key_fault n fs ps k v e f more = inl (some_last (PairFaults n fs e) ps k v more (inl f))
 
 module _ {N : Type 0} (r : Item → N → Type 0) where
-  -- labels of one pair more, and of others
+  -- The labels of one more pair, and of other pairs after it.
   named_snoc : (ps : Pairs) (es : List (N × Item)) (k v : Item) (m : N) → Named r ps es → r k m → Named r (with_pair ps k v) (es ++ (m, v) ∷ [])
   named_snoc no_pairs [] k v m p q = (q, refl, tt)
   named_snoc no_pairs (e ∷ es) k v m p q = absurd p
@@ -258,13 +259,13 @@ module _ {N : Type 0} (r : Item → N → Type 0) where
   twice_last (pair j w ps) k v l more (inl h) q = inl (l, h, label_last ps k v l more q)
   twice_last (pair j w ps) k v l more (inr h) q = inr (twice_last ps k v l more h q)
 
--- a map is its pairs
+-- A map is the item of its pairs.
 as_map-is : (v : Item) (ps : Pairs) → as_map v ≡ Some ps → dict ps ≡ v
 as_map-is (dict qs) ps p = cc
 as_map-is _ ps p = absurd (cc)
 
 module _ {N : Type 0} (n : Names N) where
-  -- where no pair has the label, none is found, and the other way round
+  -- A look-up finds nothing if and only if no pair has the label.
   pub lookup_none : (l : N) (es : List (N × Item)) → IsNew n l es → lookup (n.same l) es ≡ None
   lookup_none l [] h = refl
   lookup_none l (e ∷ es) h = rw h.0 (lookup_none l es h.1)
@@ -278,7 +279,7 @@ module _ {N : Type 0} (n : Names N) where
       go ih true q k = absurd (cc)
       go ih false q k = (q, ih k)
 
-  -- none of more pairs, or of fewer
+  -- A label stays new among more such pairs, or among fewer.
   new_append : (l : N) (es fs : List (N × Item)) → IsNew n l es → IsNew n l fs → IsNew n l (es ++ fs)
   new_append l [] fs h k = k
   new_append l (e ∷ es) fs h k = (h.0, new_append l es fs h.1 k)
@@ -291,7 +292,7 @@ module _ {N : Type 0} (n : Names N) where
       go true k = (h.0, k)
       go false k = k
 
-  -- what is kept as the rest
+  -- The pairs that are kept as the rest.
   pub rest_apart : (labels : List N) (es : List (N × Item)) → IsRest n labels (rest_of n labels es)
   rest_apart labels es =
       all_map (λ e. not (is_core n labels e.0) ≡ true) (λ e. is_core n labels e.0 ≡ false) (λ e q. not-true (is_core n labels e.0) q) (rest_of n labels es)
@@ -307,7 +308,7 @@ module _ {N : Type 0} (n : Names N) where
   pub rest_distinct : (labels : List N) (es rs : List (N × Item)) → rs ≡ rest_of n labels es → IsDistinct n.same (keys_of es) → IsDistinct n.same (keys_of rs)
   rest_distinct labels es rs r d = subst (λ xs. IsDistinct n.same (keys_of xs)) (sym r) (IsDistinct-keys_filter n.same (λ e. not (is_core n labels e.0)) es d)
 
-  -- a value that is found is no deeper than all are
+  -- A value that is found is no deeper than all values.
   lookup_within : (d : ℕ) (l : N) (es : List (N × Item)) → AllByRecursion (λ e. depth e.1 ≤ d) es → Within d (lookup (n.same l) es)
   lookup_within d l [] h = tt
   lookup_within d l (e ∷ es) h = go (n.same l e.0) (lookup_within d l es h.1)
@@ -316,7 +317,7 @@ module _ {N : Type 0} (n : Names N) where
       go true k = h.0
       go false k = k
 
-  -- the test that a label is new
+  -- The test whether a label is new.
   new_tested : (l : N) (ls : List N) → list_all (λ m. not (n.same l m)) ls ≡ true → AllByRecursion (λ m. n.same l m ≡ false) ls
   new_tested l [] h = tt
   new_tested l (m ∷ ls) h = let k = and_parts (not (n.same l m)) (list_all (λ m. not (n.same l m)) ls) h in (not-true (n.same l m) k.0, new_tested l ls k.1)
@@ -325,7 +326,7 @@ module _ {N : Type 0} (n : Names N) where
   tested_new l [] h = refl
   tested_new l (m ∷ ls) h = rw h.0 (tested_new l ls h.1)
 
-  -- the test of distinctness
+  -- The test whether labels are distinct.
   pub tested_distinct : (ls : List N) → IsDistinct n.same ls → are_distinct n.same ls ≡ true
   unfolding IsDistinct
   tested_distinct [] h = refl
@@ -337,13 +338,13 @@ module _ {N : Type 0} (n : Names N) where
   distinct_tested (l ∷ ls) h = let k = and_parts (list_all (λ m. not (n.same l m)) ls) (are_distinct n.same ls) h in
       (new_tested l ls k.0, distinct_tested ls k.1)
 
-  -- the rest may be written where its labels are distinct
+  -- The rest may be written if its labels are distinct.
   may_write_distinct : (checks : Bool) (rest : List (N × Item)) → IsDistinct n.same (keys_of rest) → may_write n checks rest ≡ true
   may_write_distinct true rest d = tested_distinct (keys_of rest) d
   may_write_distinct false rest d = refl
 
 module _ {N : Type 0} (n : Names N) (laws : LawfulNames N n) where
-  -- the test of labels says whether they are one
+  -- The test of labels says whether two labels are the same.
   pub not_same : (l m : N) → (l ≡ m → ⊥) → n.same l m ≡ false
   not_same l m h = false_from_ne_true (n.same l m) (λ p. h (laws.same_is l m p))
 
@@ -353,13 +354,13 @@ module _ {N : Type 0} (n : Names N) (laws : LawfulNames N n) where
   pub flip : (l m : N) → n.same l m ≡ false → n.same m l ≡ false
   flip l m h = not_same m l (λ p. apart_of l m h (sym p))
 
-  -- and returns the same the other way round
+  -- The test is symmetric.
   same_flips : (l m : N) → n.same l m ≡ n.same m l
   same_flips l m =
       both_ways (n.same l m) (n.same m l) (λ h. subst (λ k. n.same k l ≡ true) (laws.same_is l m h) (laws.same_self l))
       (λ h. subst (λ k. n.same k m ≡ true) (laws.same_is m l h) (laws.same_self m))
 
-  -- the label of a field is no label of the rest
+  -- A label of a field is no label of the rest.
   pub core_apart : (labels : List N) (l m : N) → is_core n labels l ≡ false → is_core n labels m ≡ true → l ≡ m → ⊥
   core_apart labels l m p q e = true≢false (sym q ∙ (ap (is_core n labels) (sym e) ∙ p))
 
@@ -369,7 +370,7 @@ module _ {N : Type 0} (n : Names N) (laws : LawfulNames N n) where
   core_rest : (labels : List N) (l m : N) → is_core n labels l ≡ true → is_core n labels m ≡ false → n.same l m ≡ false
   core_rest labels l m p q = flip m l (rest_core labels m l q p)
 
-  -- so a field's label is new among the rest, and one of the rest among the fields
+  -- So a label of a field is new among the rest, and a label of the rest is new among the fields.
   new_core : (labels : List N) (l : N) (es : List (N × Item)) → is_core n labels l ≡ false → IsCore n labels es → IsNew n l es
   new_core labels l [] p h = tt
   new_core labels l (e ∷ es) p h = (rest_core labels l e.0 p h.0, new_core labels l es p h.1)
@@ -378,7 +379,7 @@ module _ {N : Type 0} (n : Names N) (laws : LawfulNames N n) where
   new_rest labels l [] p h = tt
   new_rest labels l (e ∷ es) p h = (core_rest labels l e.0 p h.0, new_rest labels l es p h.1)
 
-  -- a label that no pair has, and then a pair with it
+  -- Distinct labels stay distinct if a pair with a new label is added.
   pub distinct_snoc : (es : List (N × Item)) (m : N) (v : Item) → IsDistinct n.same (keys_of es) → IsNew n m es
       → IsDistinct n.same (keys_of (es ++ (m, v) ∷ []))
   unfolding IsDistinct
@@ -403,7 +404,7 @@ module _ {N : Type 0} (n : Names N) (laws : LawfulNames N n) where
 
   module _ {A B : Type 0} (l : N) (flat : Flat N n l) (h : FieldShape A) (hl : LawfulFieldShape A h) (fs : Fields N B) (fl : LawfulFields N B n fs)
       (new : is_core n fs.labels l ≡ false) where
-    -- a label that is no field's is not l, and none of the other fields'
+    -- A label without a field differs from l and from the labels of the other fields.
     others : (m : N) → is_core n (l ∷ fs.labels) m ≡ false → (n.same l m ≡ false) × (is_core n fs.labels m ≡ false)
     others m c = let k : (n.same m l ≡ false) × (is_core n fs.labels m ≡ false) = or_parts (n.same m l) (is_core n fs.labels m) c in (flip m l k.0, k.1)
 
@@ -417,16 +418,16 @@ module _ {N : Type 0} (n : Names N) (laws : LawfulNames N n) where
     is_field : is_core n (l ∷ fs.labels) l ≡ true
     is_field = or_left (n.same l l) (is_core n fs.labels l) (laws.same_self l)
 
-    -- l is the label of no other field's pair
+    -- l is the label of no other field.
     not_other : (m : N) → n.same l m ≡ true → is_core n fs.labels m ≡ false
     not_other m q = subst (λ k. is_core n fs.labels k ≡ false) (laws.same_is l m q) new
 
-    -- a pair of no field before the others
+    -- A pair without a field, before the other pairs.
     field_frame : (m : N) (v : Item) (es : List (N × Item)) (x : A × B) → is_core n (l ∷ fs.labels) m ≡ false → (field n l h fs).describes es x
         → (field n l h fs).describes ((m, v) ∷ es) x
     field_frame m v es x c p = (rw (others m c).0 p.0, fl.frame m v es x.1 (others m c).1 p.1)
 
-    -- what is written
+    -- The field as it is written.
     put_described :
         (o : Option Item) (cs : List (N × Item)) (x : A × B) → h.describes o x.0 → IsCore n fs.labels cs
         → ((more : List (N × Item)) → IsRest n fs.labels more → fs.describes (cs ++ more) x.1)
@@ -467,7 +468,7 @@ module _ {N : Type 0} (n : Names N) (laws : LawfulNames N n) where
           writable = put_writable d a.value b.entries a.shallow b.writable;
         }
 
-    -- faults
+    -- Faults in the field's value.
     field_sound : (es : List (N × Item)) (x : A × B) (m : N) (v : Item) (e : CoseError) → (field n l h fs).describes es x → lookup (n.same m) es ≡ Some v
         → (field n l h fs).faults m v e → ⊥
     field_sound es x m v e p q f =
@@ -475,12 +476,12 @@ module _ {N : Type 0} (n : Names N) (laws : LawfulNames N n) where
         (λ c g. hl.sound v x.0 e (subst (λ o. h.describes o x.0) (ap (λ k. lookup (n.same k) es) (laws.same_is l m c) ∙ q) p.0) g)
         (λ c g. fl.sound es x.1 m v e p.1 q g)
 
-    -- one more pair at the end
+    -- A pair without a field, after the other pairs.
     field_other : (es : List (N × Item)) (x : A × B) (m : N) (v : Item) → is_core n (l ∷ fs.labels) m ≡ false → (field n l h fs).describes es x
         → (field n l h fs).describes (es ++ (m, v) ∷ []) x
     field_other es x m v c p = (rw (lookup_other (n.same l) es m v (others m c).0) p.0, fl.other es x.1 m v (others m c).1 p.1)
 
-    -- a pair of this field, and one of another
+    -- A pair of this field (`take_here`), or of another field (`take_there`).
     take_here :
         (es : List (N × Item)) (x y : A × B) (m : N) (v : Item) → lookup (n.same m) es ≡ None → (field n l h fs).describes es x → n.same l m ≡ true
         → h.describes (Some v) y.0 → x.1 ≡ y.1
@@ -503,7 +504,7 @@ module _ {N : Type 0} (n : Names N) (laws : LawfulNames N n) where
         → (field n l h fs).describes (es ++ (m, v) ∷ []) y
     field_takes es x y m v k p t = by_where (n.same l m) t (λ c g. take_here es x y m v k p c g.1 g.2) (λ c g. take_there es x y m v k p c g.0 g.1)
 
-    -- where none is described, none is there
+    -- If the absence of an item represents x, there is no item.
     none_there : (o : Option Item) (x : A) → h.describes o x → h.describes None x → o ≡ None
     none_there (Some v) x p q = absurd (hl.apart v x p q)
     none_there None x p q = refl
@@ -537,7 +538,7 @@ module _ {N : Type 0} (n : Names N) (laws : LawfulNames N n) where
 
   -- ---- distinct labels
 
-  -- fields, and then others
+  -- Pairs of fields, and then other pairs.
   distinct_append :
       (labels : List N) (cs rs : List (N × Item)) → IsCore n labels cs → IsRest n labels rs → IsDistinct n.same (keys_of cs) → IsDistinct n.same (keys_of rs)
       → IsDistinct n.same (keys_of (cs ++ rs))
@@ -545,7 +546,7 @@ module _ {N : Type 0} (n : Names N) (laws : LawfulNames N n) where
   distinct_append labels [] rs c r p q = q
   distinct_append labels (e ∷ cs) rs c r p q = (new_append n e.0 cs rs p.0 (new_rest labels e.0 rs c.0 r), distinct_append labels cs rs c.1 r p.1 q)
 
-  -- a label that no pair has among those that pass, and that no other could have
+  -- A label is new if it is new among the pairs that pass, and differs from the labels of all others.
   new_filtered : (t : N × Item → Bool) (l : N) → ((e : N × Item) → t e ≡ false → n.same l e.0 ≡ false) → (es : List (N × Item)) → IsNew n l (filter t es)
       → IsNew n l es
   new_filtered t l f [] h = tt
@@ -556,7 +557,7 @@ module _ {N : Type 0} (n : Names N) (laws : LawfulNames N n) where
       go ih true q k = (k.0, ih k.1)
       go ih false q k = (f e q, ih k)
 
-  -- a field's label is new if it is among the fields, and another if it is among the rest
+  -- A label of a field is new if it is new among the fields. Another label is new if it is new among the rest.
   pub new_field : (labels : List N) (l : N) (es : List (N × Item)) → is_core n labels l ≡ true → IsNew n l (filter (λ e. is_core n labels e.0) es)
       → IsNew n l es
   new_field labels l es c h = new_filtered (λ e. is_core n labels e.0) l (λ e q. core_rest labels l e.0 c q) es h
@@ -564,7 +565,7 @@ module _ {N : Type 0} (n : Names N) (laws : LawfulNames N n) where
   pub new_other : (labels : List N) (l : N) (es : List (N × Item)) → is_core n labels l ≡ false → IsNew n l (rest_of n labels es) → IsNew n l es
   new_other labels l es c h = new_filtered (λ e. not (is_core n labels e.0)) l (λ e q. rest_core labels l e.0 c (not-false (is_core n labels e.0) q)) es h
 
-  -- so where the labels of the fields are distinct, and those of the rest, all are
+  -- So all labels are distinct if those of the fields are, and those of the rest are.
   distinct_both :
       (labels : List N) (es : List (N × Item)) → IsDistinct n.same (keys_of (filter (λ e. is_core n labels e.0) es))
       → IsDistinct n.same (keys_of (rest_of n labels es)) → IsDistinct n.same (keys_of es)
@@ -586,7 +587,7 @@ module _ {N : Type 0} (n : Names N) (laws : LawfulNames N n) where
 
   -- ---- the whole map
 
-  -- the pairs' labels
+  -- The labels of the pairs are unique.
   pub named_unique : (ps : Pairs) (es fs : List (N × Item)) → Named n.shape.describes ps es → Named n.shape.describes ps fs → es ≡ fs
   named_unique no_pairs [] [] p q = refl
   named_unique no_pairs [] (f ∷ fs) p q = absurd q
@@ -619,7 +620,7 @@ module _ {N : Type 0} (n : Names N) (laws : LawfulNames N n) where
         shallow = omega (arith, a.shallow_key, a.shallow, b.shallow);
       }
 
-  -- a label of the pairs is not new
+  -- A label of the pairs is not new.
   pub not_new : (ps : Pairs) (es : List (N × Item)) (l : N) → Named n.shape.describes ps es → HasLabel n.shape.describes l ps → IsNew n l es → ⊥
   not_new no_pairs es l p h a = h
   not_new (pair k v ps) [] l p h a = p
@@ -634,7 +635,7 @@ module _ {N : Type 0} (n : Names N) (laws : LawfulNames N n) where
       (subst (λ m. HasLabel n.shape.describes m ps) (laws.shape.unique k g.0 e.0 g.1 p.0) g.2) d.0
   not_distinct (pair k v ps) (e ∷ es) p (inr g) d = not_distinct ps es p.2 g d.1
 
-  -- and what is not new is a label of the pairs
+  -- A label that is not new is a label of the pairs.
   pub has_label : (ps : Pairs) (es : List (N × Item)) (l : N) → Named n.shape.describes ps es → (IsNew n l es → ⊥) → HasLabel n.shape.describes l ps
   has_label no_pairs [] l p h = absurd (h tt)
   has_label no_pairs (e ∷ es) l p h = absurd p
@@ -657,7 +658,7 @@ module _ {N : Type 0} (n : Names N) (laws : LawfulNames N n) where
       go true q ih = inr (ih (λ d. h (new_tested n e.0 (keys_of es) q, d)))
       go false q ih = inl (e.0, p.0, has_label ps es e.0 p.2 (λ a. true≢false (sym (tested_new n e.0 (keys_of es) a) ∙ q)))
 
-  -- what is found among some pairs is found among them and one with another label before them
+  -- A look-up finds the same value after a pair with another label is put in front.
   pub lookup_later : (e : N × Item) (es : List (N × Item)) (m : N) (v : Item) → IsNew n e.0 es → lookup (n.same m) es ≡ Some v
       → lookup (n.same m) (e ∷ es) ≡ Some v
   lookup_later e es m v a q = go (n.same m e.0) refl
@@ -667,7 +668,7 @@ module _ {N : Type 0} (n : Names N) (laws : LawfulNames N n) where
       go false c = q
 
   module _ {A : Type 0} (checks : Bool) (fs : Fields N A) (fl : LawfulFields N A n fs) where
-    -- the laws of what a map's pairs say
+    -- The laws of `Entries`.
     entries_unique : (ps : Pairs) (x y : A × List (N × Item)) → Entries N A n fs ps x → Entries N A n fs ps y → x ≡ y
     entries_unique ps x y p q =
         let e : p.entries ≡ q.entries = named_unique ps p.entries q.entries p.named q.named in
@@ -675,7 +676,7 @@ module _ {N : Type 0} (n : Names N) (laws : LawfulNames N n) where
         let r : x.1 ≡ y.1 = p.rest ∙ (ap (rest_of n fs.labels) e ∙ sym q.rest) in
         λ i. (f i, r i)
 
-    -- no fault is in a pair, where the labels are distinct and what a look-up finds has none
+    -- No pair has a fault if the labels are distinct, and if no value that a look-up finds has a fault.
     pairs_sound :
         (e : CoseError) (ps : Pairs) (es : List (N × Item)) → Named n.shape.describes ps es → IsDistinct n.same (keys_of es)
         → ((m : N) (v : Item) → lookup (n.same m) es ≡ Some v → fs.faults m v e → ⊥)
@@ -693,7 +694,7 @@ module _ {N : Type 0} (n : Names N) (laws : LawfulNames N n) where
     entries_sound ps x e p (inl f) = pairs_sound e ps p.entries p.named p.distinct (λ m v q g. fl.sound p.entries x.0 m v e p.fields q g) f
     entries_sound ps x e p (inr f) = not_distinct ps p.entries p.named f.0 p.distinct
 
-    -- the fields, and the rest in any order: they are written as an item that represents them
+    -- Fields, and a rest in any order, are written as an item that represents them.
     entries_arranged : (ps : Pairs) (x : A × List (N × Item)) (rs : List (N × Item)) → Entries N A n fs ps x → IsPermutation x.1 rs
         → Again (A × List (N × Item)) (labelled_by checks n fs) (dict ps) (x.0, rs)
     entries_arranged ps x rs p moved =
@@ -737,7 +738,7 @@ module _ {N : Type 0} (n : Names N) (laws : LawfulNames N n) where
         all : Written N n (pairs_depth ps) (core.entries ++ rs)
         all = written (pairs_depth ps) (core.entries ++ rs) (all_append (Writable N n (pairs_depth ps)) core.entries rs core.writable writable_rest)
 
-    -- so what a map represents is written with its rest in any order
+    -- So a value that a map represents can be written with its rest in any order.
     pub labelled_arranged : (v : Item) (x : A × List (N × Item)) (rs : List (N × Item)) → (labelled_by checks n fs).describes v x → IsPermutation x.1 rs
         → Again (A × List (N × Item)) (labelled_by checks n fs) v (x.0, rs)
     labelled_arranged v x rs p moved = subst (λ w. Again (A × List (N × Item)) (labelled_by checks n fs) w (x.0, rs)) (as_map-is v p.0 p.1)
@@ -759,12 +760,12 @@ module _ {N : Type 0} (n : Names N) (laws : LawfulNames N n) where
         }
 
   module _ {A : Type 0} (fs : Fields N A) (fl : LawfulFields N A n fs) where
-    -- no pairs yet
+    -- No pairs yet.
     pub so_far_none : (x : A) → fs.describes [] x → SoFar N A n fs no_pairs (x, [])
     unfolding IsDistinct
     so_far_none x p = record { entries = []; named = tt; once = tt; fields = p; rest = refl }
 
-    -- one more, of a field or of the rest
+    -- One more pair, of a field (`more_field`) or of the rest (`more_rest`).
     more_field :
         (ps : Pairs) (k v : Item) (m : N) (x y : A × List (N × Item)) → SoFar N A n fs ps x → n.shape.describes k m → is_core n fs.labels m ≡ true
         → fs.takes m v x.0 y.0 × (y.1 ≡ x.1) → SoFar N A n fs (with_pair ps k v) y
@@ -796,7 +797,7 @@ module _ {N : Type 0} (n : Names N) (laws : LawfulNames N n) where
         → SoFar N A n fs (with_pair ps k v) y
     so_far_more ps k v m x y s q a = by_where (is_core n fs.labels m) a (more_field ps k v m x y s q) (more_rest ps k v m x y s q)
 
-    -- all of them
+    -- All the pairs.
     pub so_far_all : (ps : Pairs) (x : A × List (N × Item)) → SoFar N A n fs ps x → IsDistinct n.same (keys_of x.1) → Entries N A n fs ps x
     so_far_all ps x s d =
         record {
@@ -807,14 +808,14 @@ module _ {N : Type 0} (n : Names N) (laws : LawfulNames N n) where
           rest = s.rest;
         }
 
-    -- or a label of the rest occurs twice, whatever pairs come after
+    -- Or a label of the rest occurs twice, whatever pairs follow.
     pub so_far_twice : (ps : Pairs) (x : A × List (N × Item)) → SoFar N A n fs ps x → are_distinct n.same (keys_of x.1) ≡ false → (more : Pairs)
         → Twice n.shape.describes (and_pairs ps more)
     so_far_twice ps x s h more =
         twice_and n.shape.describes ps more
         (twice ps s.entries s.named (λ d. true≢false (sym (tested_distinct n (keys_of x.1) (rest_distinct n fs.labels s.entries x.1 s.rest d)) ∙ h)))
 
-    -- what is refused is at fault, whatever pairs come after
+    -- A pair that is refused has a fault, whatever pairs follow.
     refused :
         (ps : Pairs) (k v : Item) (m : N) (x : A × List (N × Item)) (e : CoseError) → SoFar N A n fs ps x → n.shape.describes k m
         → (fs.repeats m x.0 × (e ≡ DuplicateMapKey)) ⊎ fs.faults m v e → (more : Pairs)

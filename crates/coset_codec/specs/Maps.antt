@@ -1,5 +1,5 @@
--- Maps whose keys are labels, no two of them one: some labels have a field each, and all other pairs are kept in
--- order (RFC 8152, sections 1.4 and 3).
+-- Maps whose keys are labels, all different. Some labels have a field each. All other pairs are the rest, which keeps
+-- its order (RFC 8152, sections 1.4 and 3).
 use Rattle.std.specs.Prelude.{◌≡◌, ◌⊎◌, ◌&&◌, List, [], ◌∷◌, ◌++◌, Option, Some, None, Bool, true, false, not, filter, option_map, is_some, ⊤}
 use Rattle.std.specs.List.{IsDistinct, list_any, list_all}
 use Rattle.std.specs.Map.{keys_of, lookup}
@@ -10,43 +10,43 @@ use Rattle.coset_codec.specs.declared.error.CoseError.TheVariants as errors
 use Rattle.coset_codec.specs.Errors.{IsUnexpected}
 use Rattle.coset_codec.specs.Shape.{Shape, both, present}
 
--- which keys are labels, and the test whether two labels are one
+-- Which keys are labels, and a test whether two labels are the same.
 pub record Names (N : Type 0) : Type 1 where
   pub shape : Shape N
   pub same : N → N → Bool
 
 -- ---- the pairs by label
 
--- the pairs, each with its key's label
+-- The pairs, each with the label of its key.
 abbrev pub Named : {N : Type 0} → (Item → N → Type 0) → Pairs → List (N × Item) → Type 0
 Named r no_pairs [] = ⊤
 Named r no_pairs (e ∷ es) = ⊥
 Named r (pair k v ps) [] = ⊥
 Named r (pair k v ps) (e ∷ es) = r k e.0 × (v ≡ e.1) × Named r ps es
 
--- the pairs that labels and values are written as, where each label is written
+-- The pairs that labels and values are written as, if each label has an item.
 abbrev pub named_image : {N : Type 0} → (N → Option Item) → List (N × Item) → Option Pairs
 named_image f [] = Some no_pairs
 named_image f (e ∷ es) = both (λ k ps. pair k e.1 ps) (f e.0) (named_image f es)
 
--- a pair whose key is labelled l
+-- One of the pairs has a key with the label l.
 abbrev pub HasLabel : {N : Type 0} → (Item → N → Type 0) → N → Pairs → Type 0
 HasLabel r l no_pairs = ⊥
 HasLabel r l (pair k v ps) = r k l ⊎ HasLabel r l ps
 
--- two keys with one label
+-- Two keys have the same label.
 abbrev pub Twice : {N : Type 0} → (Item → N → Type 0) → Pairs → Type 0
 Twice r no_pairs = ⊥
 Twice {N} r (pair k v ps) = ((l : N) × r k l × HasLabel r l ps) ⊎ Twice r ps
 
--- one of the pairs
+-- P holds of one of the pairs.
 abbrev pub SomePair : (Item → Item → Type 0) → Pairs → Type 0
 SomePair P no_pairs = ⊥
 SomePair P (pair k v ps) = P k v ⊎ SomePair P ps
 
 -- ---- fields
 
--- what a field makes of its value, or of there being none
+-- The shape of a field: which values its item, or the absence of an item, represents.
 pub record FieldShape (A : Type 0) : Type 1 where
   pub describes : Option Item → A → Type 0
   pub image : A → Option (Option Item)
@@ -56,12 +56,12 @@ abbrev pub FieldShapeDescribes : {A : Type 0} → A → (Item → A → Type 0) 
 FieldShapeDescribes absent r (Some v) x = r v x
 FieldShapeDescribes absent r None x = x ≡ absent
 
--- the value that a field is written as, where it is there; nothing where it is absent
+-- The item that a field is written as if it is present, and nothing if it is absent.
 abbrev pub field_shape_image : Bool → Option Item → Option (Option Item)
 field_shape_image true o = option_map Some o
 field_shape_image false o = Some None
 
--- Where there is no value, x is `absent`; `shows x` says whether x is written
+-- If there is no item, x is `absent`. `shows x` says whether x is written.
 abbrev pub field_shape : {A : Type 0} → A → (A → Bool) → Shape A → FieldShape A
 field_shape absent shows s = record {
   describes = FieldShapeDescribes absent s.describes;
@@ -69,7 +69,7 @@ field_shape absent shows s = record {
   faults = s.faults;
 }
 
--- a value that may be left out
+-- A value that may be left out.
 abbrev pub optional : {A : Type 0} → Shape A → FieldShape (Option A)
 optional s = field_shape None is_some (present s)
 
@@ -77,25 +77,26 @@ abbrev pub is_nonempty : {A : Type 0} → List A → Bool
 is_nonempty [] = false
 is_nonempty (x ∷ xs) = true
 
--- a list that is left out where it is empty, and only there
+-- A list that is left out if and only if it is empty.
 abbrev pub unless_empty : {A : Type 0} → Shape (List A) → FieldShape (List A)
 unless_empty s = field_shape [] is_nonempty s
 
--- x says that there is no value yet, and y is what the value v makes
+-- x says that there is no value yet, and the item v represents y.
 abbrev pub TakesValue : {A : Type 0} → FieldShape A → Item → A → A → Type 0
 TakesValue h v x y = h.describes None x × h.describes (Some v) y
 
--- x says that there is a value already, or something is wrong with v
+-- x says that there is a value already, or the error names a fault in v.
 abbrev pub RefusesValue : {A : Type 0} → FieldShape A → Item → A → CoseError → Type 0
 RefusesValue h v x e = ((h.describes None x → ⊥) × (e ≡ errors.DuplicateMapKey)) ⊎ h.faults v e
 
--- P where the test holds, else Q
+-- P if the test is true, else Q.
 abbrev pub IfThenElse : Bool → Type 0 → Type 0 → Type 0
 IfThenElse true P Q = P
 IfThenElse false P Q = Q
 
--- Some fields, in the order in which they are written. Of a pair with label m and value v: `takes m v x y` says that
--- x becomes y with it, `repeats m x` that x has the field of label m already, and `faults m v e` what is wrong with v
+-- Some fields, in the order in which they are written. The last three are about a pair with label m and value v.
+-- `takes m v x y`: the pair turns x into y. `repeats m x`: x has the field of label m already. `faults m v e`: the
+-- error e names a fault in v.
 pub record Fields (N A : Type 0) : Type 1 where
   pub labels : List N
   pub describes : List (N × Item) → A → Type 0
@@ -131,20 +132,20 @@ field n l h fs = record {
 
 -- ---- maps
 
--- a label has a field
+-- The label l has a field.
 abbrev pub is_core : {N : Type 0} → Names N → List N → N → Bool
 is_core n labels l = list_any (n.same l) labels
 
--- the pairs whose labels have no field
+-- The pairs whose labels have no field.
 abbrev pub rest_of : {N : Type 0} → Names N → List N → List (N × Item) → List (N × Item)
 rest_of n labels es = filter (λ e. not (is_core n labels e.0)) es
 
--- no two of these are the same by that test
+-- No two labels are the same by that test.
 abbrev pub are_distinct : {N : Type 0} → (N → N → Bool) → List N → Bool
 are_distinct same [] = true
 are_distinct same (l ∷ ls) = list_all (λ m. not (same l m)) ls && are_distinct same ls
 
--- Each key has a label, and no two have the same; the fields; and the rest
+-- Each key has a label, and no two labels are the same. x is the fields and the rest.
 pub record Entries (N A : Type 0) (n : Names N) (fs : Fields N A) (ps : Pairs) (x : A × List (N × Item)) : Type 0 where
   pub entries : List (N × Item)
   pub named : Named n.shape.describes ps entries
@@ -152,7 +153,7 @@ pub record Entries (N A : Type 0) (n : Names N) (fs : Fields N A) (ps : Pairs) (
   pub fields : fs.describes entries x.0
   pub rest : x.1 ≡ rest_of n fs.labels entries
 
--- What is wrong with a key, or with the value of a field
+-- The error names a fault in a key, or in the value of a field.
 abbrev pub PairFaults : {N A : Type 0} → Names N → Fields N A → CoseError → Item → Item → Type 0
 PairFaults {N} n fs e k v = n.shape.faults k e ⊎ ((m : N) × n.shape.describes k m × fs.faults m v e)
 
@@ -164,7 +165,7 @@ entries_image n true rest (Some es) = option_map dict (named_image n.shape.image
 entries_image n true rest None = None
 entries_image n false rest o = None
 
--- Whether the rest may be written: where `checks` says that its labels are looked at, no two may be the same
+-- True if the rest may be written. If `checks` is true, no two labels of the rest may be the same.
 abbrev pub may_write : {N : Type 0} → Names N → Bool → List (N × Item) → Bool
 may_write n true rest = are_distinct n.same (keys_of rest)
 may_write n false rest = true
@@ -176,7 +177,7 @@ labelled_by {N} {A} checks n fs = record {
   faults = λ v e. ((as_map v ≡ None) × IsUnexpected e) ⊎ ((ps : Pairs) × (as_map v ≡ Some ps) × MapFaults n fs ps e);
 }
 
--- {fields, * label => any}, written only where no label of the rest occurs twice
+-- {fields, * label => any}, written only if no label of the rest occurs twice
 abbrev pub labelled : {N A : Type 0} → Names N → Fields N A → Shape (A × List (N × Item))
 labelled n fs = labelled_by true n fs
 
@@ -186,17 +187,17 @@ labelled_freely n fs = labelled_by false n fs
 
 -- ---- pair by pair
 
--- one more pair at the end
+-- The pairs, with one more at the end.
 abbrev pub with_pair : Pairs → Item → Item → Pairs
 with_pair no_pairs k v = pair k v no_pairs
 with_pair (pair j w ps) k v = pair j w (with_pair ps k v)
 
--- some pairs, and then others
+-- Some pairs, followed by others.
 abbrev pub and_pairs : Pairs → Pairs → Pairs
 and_pairs no_pairs qs = qs
 and_pairs (pair k v ps) qs = pair k v (and_pairs ps qs)
 
--- What the pairs so far make, before it was asked whether labels of the rest repeat
+-- The value that the pairs read so far make, before a check for repeated labels in the rest.
 pub record SoFar (N A : Type 0) (n : Names N) (fs : Fields N A) (ps : Pairs) (x : A × List (N × Item)) : Type 0 where
   pub entries : List (N × Item)
   pub named : Named n.shape.describes ps entries
@@ -204,36 +205,36 @@ pub record SoFar (N A : Type 0) (n : Names N) (fs : Fields N A) (ps : Pairs) (x 
   pub fields : fs.describes entries x.0
   pub rest : x.1 ≡ rest_of n fs.labels entries
 
--- with a pair of label m and value v, x becomes y
+-- A pair with label m and value v turns x into y.
 abbrev pub Adds : {N A : Type 0} → Names N → Fields N A → N → Item → A × List (N × Item) → A × List (N × Item) → Type 0
 Adds n fs m v x y = IfThenElse (is_core n fs.labels m) (fs.takes m v x.0 y.0 × (y.1 ≡ x.1)) ((x.0 ≡ y.0) × (y.1 ≡ x.1 ++ (m, v) ∷ []))
 
--- why x refuses a pair of label m and value v
+-- The error says why x refuses a pair with label m and value v.
 abbrev pub Refuses : {N A : Type 0} → Names N → Fields N A → N → Item → A × List (N × Item) → CoseError → Type 0
 Refuses n fs m v x e = IfThenElse (is_core n fs.labels m) ((fs.repeats m x.0 × (e ≡ errors.DuplicateMapKey)) ⊎ fs.faults m v e) ⊥
 
--- of all the pairs some were read, which make x, and left are still to come
+-- Of all the pairs, some were read and make x, and those left are still to be read.
 pub record Walks (N A : Type 0) (n : Names N) (fs : Fields N A) (all : Pairs) (x : A × List (N × Item)) (left : Pairs) : Type 0 where
   pub done : Pairs
   pub parts : all ≡ and_pairs done left
   pub so_far : SoFar N A n fs done x
 
--- x takes the pair of this key and value and becomes y
+-- The pair of this key and value turns x into y.
 abbrev pub TakesKey : {N A : Type 0} → Names N → Fields N A → Item → Item → A × List (N × Item) → A × List (N × Item) → Type 0
 TakesKey {N} n fs k v x y = (m : N) × n.shape.describes k m × Adds n fs m v x y
 
--- why x refuses the pair of this key and value
+-- The error says why x refuses the pair of this key and value.
 abbrev pub RefusesKey : {N A : Type 0} → Names N → Fields N A → Item → Item → A × List (N × Item) → CoseError → Type 0
 RefusesKey {N} n fs k v x e = n.shape.faults k e ⊎ ((m : N) × n.shape.describes k m × Refuses n fs m v x e)
 
--- why a label is refused for what was taken before it, whatever its value is
+-- The error says why a label is refused after the pairs before it, whatever its value.
 abbrev pub Excludes : Type 0 → Type 0 → Type 1
 Excludes N A = N → A × List (N × Item) → CoseError → Type 0
 
 abbrev pub ExcludesKey : {N A : Type 0} → Names N → Excludes N A → Item → A × List (N × Item) → CoseError → Type 0
 ExcludesKey {N} n excludes k x e = (m : N) × n.shape.describes k m × excludes m x e
 
--- the first pairs make what excludes the next one's label
+-- The first pairs make a value that excludes the label of the next pair.
 pub record IsExcluded (N A : Type 0) (n : Names N) (fs : Fields N A) (excludes : Excludes N A) (ps : Pairs) (e : CoseError) : Type 0 where
   pub key : Item
   pub value : Item
@@ -242,6 +243,6 @@ pub record IsExcluded (N A : Type 0) (n : Names N) (fs : Fields N A) (excludes :
   pub walked : Walks N A n fs ps before (pair key value left)
   pub excluded : ExcludesKey n excludes key before e
 
--- what is wrong with an item that is read pair by pair
+-- The error names a fault in an item that is read pair by pair.
 abbrev pub GatherFaults : {N A : Type 0} → Names N → Fields N A → Excludes N A → Item → CoseError → Type 0
 GatherFaults {N} {A} n fs excludes v e = (labelled n fs).faults v e ⊎ ((ps : Pairs) × (as_map v ≡ Some ps) × IsExcluded N A n fs excludes ps e)

@@ -1,4 +1,4 @@
--- What is described plain or under a tag (RFC 8152, section 2: `COSE_Tagged_Message / COSE_Untagged_Message`).
+-- Values that are described plain or under a tag (RFC 8152, section 2: `COSE_Tagged_Message / COSE_Untagged_Message`).
 use Rattle.std.proofs.Common.{◌≡◌, ◌⊎◌, ◌==◌, ℕ, Option, Some, None, Bool, true, false, cond, refl, sym, ap, subst, inl, inr, arith}
 use Rattle.std.proofs.lemmas.Bool.{eqb-true}
 use Rattle.coset_value.specs.Item.{Item, integer, bytes, float, text, boolean, null, tag, array, dict}
@@ -6,7 +6,7 @@ use Rattle.coset_value.specs.Parts.{as_tag}
 use Rattle.coset_codec.specs.Shape.{Shape, tagged}
 use Rattle.coset_codec.specs.ShapeLaws.{some-one}
 
--- what a tag of that number encloses, and any other item as it is
+-- The item that a tag of that number encloses, or any other item unchanged.
 abbrev pub or_enclosed : ℕ → Item → Option (ℕ × Item) → Item
 or_enclosed number v None = v
 or_enclosed number v (Some t) = cond (t.0 == number) t.1 v
@@ -14,7 +14,7 @@ or_enclosed number v (Some t) = cond (t.0 == number) t.1 v
 abbrev pub untagged : ℕ → Item → Item
 untagged number v = or_enclosed number v (as_tag v)
 
--- s / #6.number(s), where s describes no tag of that number
+-- s / #6.number(s), if s describes no tag of that number
 abbrev pub perhaps_tagged : {A : Type 0} → ℕ → Shape A → Shape A
 perhaps_tagged number s = record {
   describes = λ v x. s.describes (untagged number v) x;
@@ -22,13 +22,13 @@ perhaps_tagged number s = record {
   faults = λ v e. s.faults (untagged number v) e;
 }
 
--- s describes no tag of that number
+-- The shape s describes no tag of that number.
 abbrev pub DescribesNoTag : {A : Type 0} → ℕ → Shape A → Type 0
 DescribesNoTag {A} number s = (w : Item) (x : A) → s.describes (tag number w) x → ⊥
 
 -- ---- the laws
 
--- an item is a tag of that number, or is as it is without one
+-- An item is a tag of that number, or `untagged` leaves it unchanged.
 untagged_cases : (number : ℕ) (v : Item) → ((w : Item) × (as_tag v ≡ Some (number, w)) × (untagged number v ≡ w)) ⊎ (untagged number v ≡ v)
 untagged_cases number (tag t w) = go (t == number) refl
   where
@@ -59,7 +59,7 @@ as_tag-is null t w p = absurd (cc)
 as_tag-is (dict ps) t w p = absurd (cc)
 
 module _ {A : Type 0} (number : ℕ) (s : Shape A) where
-  -- what is described plain or under the tag is described by the one or by the other
+  -- A value described plain or under the tag is described by one of the two shapes.
   pub perhaps_tagged_is : (v : Item) (x : A) → (perhaps_tagged number s).describes v x → s.describes v x ⊎ (tagged number s).describes v x
   perhaps_tagged_is v x p =
       elim (untagged_cases number v) [

@@ -1,4 +1,5 @@
--- The laws of types that hold others of themselves, from those of the step: the shape is the step's over itself.
+-- Laws of types that contain others of their own type, from the laws of the step. The recursive shape equals the step
+-- over itself.
 use Rattle.std.proofs.Common.{◌≡◌, ◌≤◌, ◌+◌, ℕ, zero, suc, List, [], ◌∷◌, Bool, Option, refl, sym, ◌∙◌, inl, inr, arith}
 use Rattle.coset_value.specs.Item.{Item, Items, no_items, item}
 use Rattle.coset_codec.specs.declared.error.CoseError.{CoseError}
@@ -8,21 +9,22 @@ use Rattle.coset_codec.specs.Shape.{EachFaults, any_number, list_of, optional_la
 use Rattle.coset_codec.specs.Shape.{LastFaults}
 use Rattle.coset_codec.specs.ShapeLaws.{Again, Lawful}
 
--- ---- shapes that pass on to others
+-- ---- shapes that describe no more than others
 
--- what s describes one of the shapes t does, and its faults are those of one
+-- Each value that s describes is described by one of the shapes t. Each fault of s is a fault of one of them.
 pub record Passes (I : Type 0) (A : Type 0) (s : Shape A) (t : I → Shape A) : Type 0 where
   pub describes : (v : Item) (x : A) → s.describes v x → (i : I) × (t i).describes v x
   pub faults : (v : Item) (e : CoseError) → s.faults v e → (i : I) × (t i).faults v e
 
--- as Passes, of the elements of arrays; one number of them is wrong where the other is
+-- The same as `Passes`, for the elements of arrays. A number of elements is wrong for s if and only if it is wrong for
+-- t.
 pub record PassesElements (I : Type 0) (A : Type 0) (s : Elements A) (t : I → Elements A) : Type 0 where
   pub describes : (vs : Items) (x : A) → s.describes vs x → (i : I) × (t i).describes vs x
   pub wrong_length : (i : I) (vs : Items) → s.wrong_length vs → (t i).wrong_length vs
   pub fits : (i : I) (vs : Items) → (t i).wrong_length vs → s.wrong_length vs
   pub faults : (vs : Items) (e : CoseError) → s.faults vs e → (i : I) × (t i).faults vs e
 
--- two shapes alone
+-- `Passes` for two single shapes.
 abbrev pub Below : (A : Type 0) → Shape A → Shape A → Type 0
 Below A s t = Passes (Unit {0}) A s (λ i. t)
 
@@ -31,7 +33,7 @@ pub below : {A : Type 0} (s t : Shape A) → ((v : Item) (x : A) → s.describes
 below s t d f = record { describes = λ v x h. (tt, d v x h); faults = λ v e h. (tt, f v e h) }
 
 module _ {I : Type 0} (some : I) where
-  -- an array, by its elements
+  -- An array, by its elements.
   faults_pass : {A : Type 0} (s : Elements A) (t : I → Elements A) → PassesElements I A s t → (vs : Items) (e : CoseError) → ElementsFaults s vs e → (i : I)
       × ElementsFaults (t i) vs e
   faults_pass s t p vs e (inl h) = (some, inl (p.wrong_length some vs h.0, h.1))
@@ -45,7 +47,7 @@ module _ {I : Type 0} (some : I) where
   pub array_passes : {A : Type 0} (s : Elements A) (t : I → Elements A) → PassesElements I A s t → Passes I A (array_of s) (λ i. array_of (t i))
   array_passes s t p = record { describes = λ v x h. let g = p.describes h.0 x h.2 in (g.0, (h.0, h.1, g.1)); faults = array_faults s t p }
 
-  -- a place before others
+  -- An element before others.
   module _ {A B : Type 0} (a : Shape A) (s : Elements B) (t : I → Elements B) (p : PassesElements I B s t) where
     then_describes : (vs : Items) (x : A × B) → (a then s).describes vs x → (i : I) × (a then t i).describes vs x
     then_describes no_items x h = absurd h
@@ -67,7 +69,7 @@ module _ {I : Type 0} (some : I) where
     pub then_passes : PassesElements I (A × B) (a then s) (λ i. a then t i)
     then_passes = record { describes = then_describes; wrong_length = then_wrong_length; fits = then_fits; faults = then_faults }
 
-  -- a last place that may be missing
+  -- A last element that may be missing.
   module _ {A : Type 0} (absent : A) (shows : A → Bool) (s : Shape A) (t : I → Shape A) (p : Passes I A s t) where
     last_describes : (vs : Items) (x : A) → LastDescribes absent s.describes vs x → (i : I) × LastDescribes absent (t i).describes vs x
     last_describes no_items x h = (some, h)
@@ -81,12 +83,12 @@ module _ {I : Type 0} (some : I) where
     pub optional_last_passes : PassesElements I A (optional_last absent shows s) (λ i. optional_last absent shows (t i))
     optional_last_passes = record { describes = last_describes; wrong_length = λ i vs h. h; fits = λ i vs h. h; faults = last_faults }
 
--- what is seen otherwise
+-- A shape that is seen as another type.
 pub mapped_passes : {I A B : Type 0} (to : A → B) (from : B → A) (s : Shape A) (t : I → Shape A) → Passes I A s t
     → Passes I B (mapped to from s) (λ i. mapped to from (t i))
 mapped_passes to from s t p = record { describes = λ v x h. p.describes v (from x) h; faults = p.faults }
 
--- a list, where each of its elements passes on to the same shape
+-- A list, whose elements all pass on to the same shape.
 module _ {A : Type 0} (s t : Shape A) (p : Below A s t) where
   each_above : (vs : Items) (xs : List A) → Each s.describes vs xs → Each t.describes vs xs
   each_above no_items [] h = h
@@ -110,11 +112,11 @@ module _ {A : Type 0} (s t : Shape A) (p : Below A s t) where
             (tt, each_faults_above vs e h);
       })
 
--- ---- types that hold others of themselves
+-- ---- types that contain others of their own type
 
--- What is asked of a step and of how values are written: the step's shape is lawful where that of the parts is; it
--- describes no less where that of the parts doesn't; it needs no more than so many parts one inside another for an item
--- that is finite; and a value is written as the step says where the parts are written so
+-- The premises on a step and on `image`. `lawful`: the step's shape is lawful if the shape of the parts is. `rises`:
+-- the step describes no less if the shape of the parts describes no less. `gathers`: an item needs only a finite
+-- nesting of parts. `written`: a value is written as `image` says if its parts are.
 pub record Step (A : Type 0) (step : Shape A → Shape A) (image : A → Option Item) : Type 1 where
   pub lawful : (s : Shape A) → Lawful A s → Lawful A (step s)
   pub rises : (s t : Shape A) → Below A s t → Below A (step s) (step t)
@@ -131,12 +133,13 @@ module _ {A : Type 0} (step : Shape A → Shape A) (image : A → Option Item) (
   lawful_nested zero = record { unique = λ v x y p q. absurd p; again = λ v x p. absurd p; sound = λ v x e p f. p }
   lawful_nested (suc n) = k.lawful (nested step image n) (lawful_nested n)
 
-  -- each is written so, however many there may be
+  -- Each value is written as `image` says, at any nesting.
   pub written_nested : (n : ℕ) (x : A) → (nested step image n).image x ≡ image x
   written_nested zero x = refl
   written_nested (suc n) x = k.written (nested step image n) (written_nested n) x
 
-  -- an item represents at most one, what was read is written and read again, and no fault is where a value does
+  -- An item represents at most one value. A value that was read is written and read again. An item that represents a
+  -- value has no fault.
   pub recursive_laws : Lawful A (recursive step image)
   recursive_laws =
       record {
@@ -151,7 +154,7 @@ module _ {A : Type 0} (step : Shape A → Shape A) (image : A → Option Item) (
             (lawful_nested n).sound v x e ((up p.0 n (omega arith)).describes v x p.1).1 ((up f.0 n (omega arith)).faults v e f.1).1;
       }
 
-  -- some parts, each of so many one inside another, are all of the greatest number
+  -- Parts that are each nested finitely all fit one common nesting.
   each_gathered : (vs : Items) (xs : List A) → Each (recursive step image).describes vs xs → (n : ℕ) × Each (nested step image n).describes vs xs
   each_gathered no_items [] h = (0, h)
   each_gathered no_items (x ∷ xs) h = absurd h
@@ -171,14 +174,14 @@ module _ {A : Type 0} (step : Shape A → Shape A) (image : A → Option Item) (
       array_passes 0 (any_number (recursive step image)) (λ n. any_number (nested step image n))
       (record { describes = each_gathered; wrong_length = λ i vs h. h; fits = λ i vs h. h; faults = each_faults_gathered })
 
-  -- the step over it describes what it does, and has its faults
+  -- The step over the recursive shape describes no more than the recursive shape, and has no more faults.
   pub recursive_step : Below A (step (recursive step image)) (recursive step image)
   recursive_step =
       let g = k.gathers (recursive step image) (nested step image) list_gathered in
       below (step (recursive step image)) (recursive step image) (λ v x h. let p = g.describes v x h in (suc p.0, p.1))
       (λ v e h. let p = g.faults v e h in (suc p.0, p.1))
 
-  -- and nothing else
+  -- Conversely, the recursive shape describes no more than the step over it, and has no more faults.
   inside : (n : ℕ) → Below A (nested step image n) (recursive step image)
   inside n = below (nested step image n) (recursive step image) (λ v x h. (n, h)) (λ v e h. (n, h))
 

@@ -1,4 +1,4 @@
--- The rest of a map as it lies in memory, and as contracts see it: whether its labels repeat, and what it is written as.
+-- The rest of a map, in memory and as contracts see it: whether its labels repeat, and what it is written as.
 use Rattle.std.proofs.Common.{◌≡◌, ◌&&◌, List, [], ◌∷◌, map, Option, None, Bool, true, false, not, refl, sym, ◌∙◌, ap}
 use Rattle.std.specs.Prelude.{Result, Ok, Err, IfOk}
 use Rattle.std.specs.List.{list_all}
@@ -6,16 +6,16 @@ use Rattle.std.specs.Map.{keys_of}
 use Rattle.coset_value.specs.Item.{Item}
 use Rattle.coset_codec.specs.Maps.{Names, are_distinct, entries_image, may_write}
 
--- what holds of each answer holds of the answer
+-- If P implies Q, and P holds of the value in `Ok`, so does Q.
 pub if_ok : {T E : Type 0} (r : Result T E) (P Q : T → Type 0) → ((x : T) → P x → Q x) → IfOk r P → IfOk r Q
 if_ok (Ok x) P Q f h = f x h
 if_ok (Err e) P Q f h = tt
 
--- a pair as contracts see it
+-- A pair as contracts see it.
 abbrev pub as_view : {K N V : Type 0} → (K → N) → (V → Item) → K × V → N × Item
 as_view view value_item e = (view e.0, value_item e.1)
 
--- Labels that are equal in memory exactly where they are the same as they are seen
+-- Two labels are equal in memory if and only if contracts see the same label.
 module _ {K N V : Type 0} (view : K → N) (value_item : V → Item) (eq : K → K → Bool) (same : N → N → Bool) (agree : (a b : K) → eq a b ≡ same (view a)
     (view b)) where
   all-apart : (k : K) (es : List (K × V)) → list_all (λ m. not (eq k m)) (keys_of es)
@@ -27,7 +27,7 @@ module _ {K N V : Type 0} (view : K → N) (value_item : V → Item) (eq : K →
   are_distinct-view [] = refl
   are_distinct-view (e ∷ es) = λ i. all-apart e.0 es i && are_distinct-view es i
 
-  -- what was asked of the labels in memory, as they are seen
+  -- A test for repeated labels in memory gives the same result for the labels as contracts see them.
   pub repeats-view : (b : Bool) (es : List (K × V)) → b ≡ not (are_distinct eq (keys_of es))
       → b ≡ not (are_distinct same (keys_of (map (as_view view value_item) es)))
   repeats-view b es p = p ∙ ap not (are_distinct-view es)
@@ -44,7 +44,7 @@ module _ {K N V : Type 0} (view : K → N) (value_item : V → Item) (eq : K →
       → are_distinct same (keys_of (map (as_view view value_item) es)) ≡ false
   repeated-view b es p q = sym (are_distinct-view es) ∙ (not-not b (are_distinct eq (keys_of es)) p ∙ ap not q)
 
--- no map is written where labels of the rest repeat and that is looked at
+-- No map is written if labels of the rest repeat and that is checked.
 pub no-entries : {N : Type 0} (n : Names N) (rest : List (N × Item)) (o : Option (List (N × Item))) → are_distinct n.same (keys_of rest) ≡ false
     → entries_image n (may_write n true rest) rest o ≡ None
 no-entries n rest o e = ap (λ b. entries_image n b rest o) e

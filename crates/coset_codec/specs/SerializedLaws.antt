@@ -1,4 +1,4 @@
--- What holds of byte strings that hold an item, where its shape has laws.
+-- Laws of byte strings that contain an encoded item, from the laws of that item's shape.
 use Rattle.std.proofs.Common.{◌≡◌, ℕ, List, [], ◌∷◌, Option, Some, Bool, option_map, refl, sym, ◌∙◌, ap, subst, inl, inr, arith}
 use Rattle.coset_value.specs.Item.{Item, bytes}
 use Rattle.coset_cbor.specs.Grammar.{IsItem}
@@ -8,7 +8,7 @@ use Rattle.coset_codec.specs.Shape.{Shape}
 use Rattle.coset_codec.specs.ShapeLaws.{Again, Lawful, some-one, some-none}
 use Rattle.coset_codec.specs.Serialized.{ContentDescribes, ContentFaults, content_bytes, serialized_or_empty}
 
--- bytes are one item at most
+-- Bytes are at most one item.
 same_item : (s : List ℕ) (v w : Item) → IsItem s v → IsItem s w → v ≡ w
 same_item s v w p q = (encodings_differ v w s s [] [] p.0 q.0 refl).0
 

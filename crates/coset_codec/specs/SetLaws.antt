@@ -1,5 +1,5 @@
--- What holds of sets: of a list there is one set, which grows by `insert_key` as the list does at its end; and the laws
--- of the shapes of sets.
+-- Laws of sets. A list has one set, and if the list grows at its end, the set grows by `insert_key`. Also the laws of
+-- the shapes of sets.
 use Rattle.std.proofs.Common.{◌≡◌, ◌⊎◌, ◌≤◌, ℕ, suc, List, [], ◌∷◌, ◌++◌, length, get_or, All, Contains, refl, sym, ◌∙◌, ap, ap₂, subst, true, false}
 use Rattle.std.proofs.Common.{true≢false, length-append, inl, inr, arith, Ordering, Less, Equal, Greater}
 use Rattle.std.specs.Cmp.{IsTotalOrder, both_ways}
@@ -23,31 +23,31 @@ use Rattle.coset_codec.specs.Sets.{IsSetOf, IsDistinctBy, HasElement, Repeats, d
 -- ---- sets of lists
 
 module _ {A : Type 0} {cmp : A → A → Ordering} where
-  -- the elements of a set of a list are a set of themselves, and no two of them are the same
+  -- The set of a list is its own set, and no two of its elements are the same.
   pub set_of_itself : (xs ys : List A) → IsSetOf cmp xs ys → IsSetOf cmp ys ys
   set_of_itself xs ys m = record { sorted = m.sorted; elements = λ x. (λ c. c, λ c. c) }
 
   pub set_distinct : (xs ys : List A) → IsSetOf cmp xs ys → IsDistinctBy cmp ys
   set_distinct xs ys m = IsDistinct-from_sorted cmp ys m.sorted
 
-  -- a list that isn't empty has a set that isn't
+  -- The set of a list that is not empty is not empty.
   pub set_nonempty : (xs ys : List A) → IsNonempty xs → IsSetOf cmp xs ys → IsNonempty ys
   set_nonempty [] ys f m e = f refl
   set_nonempty (x ∷ xs) ys f m e = let c : Contains ys x = (m.elements x).1 (0, omega arith, refl) in omega (arith, c.1, ap length e)
 
-  -- what holds of each of a list holds of each element of its set
+  -- A property of each element of a list holds of each element of its set.
   pub All-set : (P : A → Type 0) (xs ys : List A) → IsSetOf cmp xs ys → All P xs → All P ys
   All-set P xs ys m h = All-weaker (Contains ys) P (λ y c. All-contains P xs y h ((m.elements y).0 c)) ys (All-contains_itself ys)
 
 module _ {A : Type 0} {cmp : A → A → Ordering} (o : IsTotalOrder cmp) (exact : CmpEqualImpliesEq cmp) where
-  -- a list and its set have the same keys
+  -- A list and its set have the same keys.
   pub set_has : (xs ys : List A) → IsSetOf cmp xs ys → (q : A) → list_any (eq_by_cmp cmp q) ys ≡ list_any (eq_by_cmp cmp q) xs
   set_has xs ys m q =
       let found = λ (ks : List A). Contains-from_any (tells_apart exact) q ks in
       let finds = λ (ks : List A). list_any-from_Contains (eq_by_cmp_equiv o) q ks in
       both_ways _ _ (λ h. finds xs ((m.elements q).0 (found ys h))) (λ h. finds ys ((m.elements q).1 (found xs h)))
 
-  -- a list has one set
+  -- A list has only one set.
   pub set_unique : (xs ys zs : List A) → IsSetOf cmp xs ys → IsSetOf cmp xs zs → ys ≡ zs
   set_unique xs ys zs m n =
       let s : BTreeSet A = record { keys = ys } in
@@ -56,7 +56,7 @@ module _ {A : Type 0} {cmp : A → A → Ordering} (o : IsTotalOrder cmp) (exact
 
   -- ---- one more element
 
-  -- the keys stay in order
+  -- `insert_key` keeps the keys in order.
   pub IsStrictlySortedBy-insert_key : (ks : List A) (k : A) → IsStrictlySortedBy cmp ks → IsStrictlySortedBy cmp (insert_key cmp ks k)
   unfolding IsStrictlySortedBy
   IsStrictlySortedBy-insert_key [] k s = (tt, tt)
@@ -80,7 +80,7 @@ module _ {A : Type 0} {cmp : A → A → Ordering} (o : IsTotalOrder cmp) (exact
           let q : cmp x k ≡ Less = o.antisymm x k ∙ ap ordering_reverse p in
           (recursion_from_All (λ y. cmp x y ≡ Less) (insert_key cmp xs k) (All-insert_key cmp k (λ y. cmp x y ≡ Less) xs above q), rest)
 
-  -- they are those that were there, and the new one
+  -- The keys are then the old keys and the new one.
   Contains-insert_key_cases : (ks : List A) (k x : A) → Contains (insert_key cmp ks k) x → Contains ks x ⊎ (k ≡ x)
   Contains-insert_key_cases ks k x =
       let P : A → Type 0 = λ y. Contains ks y ⊎ (k ≡ y) in
@@ -104,7 +104,7 @@ module _ {A : Type 0} {cmp : A → A → Ordering} (o : IsTotalOrder cmp) (exact
           ]
       by later Greater p (inr e) = Contains-append_right (y ∷ []) (insert_key cmp ys k) x (later (inr e))
 
-  -- the set of a list with one more element at its end
+  -- The set of a list with one more element at its end.
   pub set_push : (xs ys : List A) (k : A) → IsSetOf cmp xs ys → IsSetOf cmp (xs ++ k ∷ []) (insert_key cmp ys k)
   set_push xs ys k m =
       record {
@@ -116,12 +116,12 @@ module _ {A : Type 0} {cmp : A → A → Ordering} (o : IsTotalOrder cmp) (exact
         );
       }
 
-  -- a new key leaves a list with no repeats
+  -- A list without repeats stays so if a new key is added.
   pub distinct_push : (xs ys : List A) (k : A) → IsSetOf cmp xs ys → IsDistinctBy cmp xs → list_any (eq_by_cmp cmp k) ys ≡ false
       → IsDistinctBy cmp (xs ++ k ∷ [])
   distinct_push xs ys k m d h = IsDistinct-push (eq_by_cmp_equiv o) xs k d (sym (set_has xs ys m k) ∙ h)
 
-  -- a key that is there already repeats, whatever comes after it
+  -- A key that is there already repeats, whatever elements follow.
   pub repeated : (xs ys zs : List A) (k : A) → IsSetOf cmp xs ys → list_any (eq_by_cmp cmp k) ys ≡ true → IsDistinctBy cmp (xs ++ k ∷ zs) → ⊥
   repeated xs ys zs k m h d =
       let all = xs ++ k ∷ zs in
@@ -131,7 +131,7 @@ module _ {A : Type 0} {cmp : A → A → Ordering} (o : IsTotalOrder cmp) (exact
       let second : get_or all (length xs) k ≡ k = get_or-append_seam xs k zs k in
       true≢false (sym ((eq_by_cmp_equiv o).refl k) ∙ (sym (ap₂ (eq_by_cmp cmp) first second) ∙ apart))
 
--- of no elements
+-- The set of no elements.
 pub set_of_none : {A : Type 0} (cmp : A → A → Ordering) → IsSetOf cmp [] []
 unfolding IsStrictlySortedBy
 set_of_none cmp = record { sorted = tt; elements = λ x. (λ c. c, λ c. c) }
@@ -139,11 +139,11 @@ set_of_none cmp = record { sorted = tt; elements = λ x. (λ c. c, λ c. c) }
 -- ---- shapes of sets
 
 module _ {A : Type 0} (s : Shape A) where
-  -- an item of at most this depth represents x
+  -- An item of at most this depth represents x.
   abbrev HasItem : ℕ → A → Type 0
   HasItem d x = (w : Item) × s.describes w x × (depth w ≤ d)
 
-  -- each value that was read has an item among those that it was read from
+  -- Each of the values is represented by one of the items.
   each_has : (vs : Items) (xs : List A) → Each s.describes vs xs → All (HasItem (items_depth vs)) xs
   each_has no_items [] p = All-nil (HasItem 0)
   each_has no_items (x ∷ xs) p = absurd p
@@ -153,7 +153,7 @@ module _ {A : Type 0} (s : Shape A) where
       All-cons (HasItem d) x xs (v, p.0, omega arith) (All-weaker (HasItem (items_depth vs)) (HasItem d) (λ y h. (h.0, h.1, omega (arith, h.2))) xs
       (each_has vs xs p.1))
 
-  -- items of them all, one for each
+  -- If each value has an item, there is a list of items, one for each value.
   each_of : (d : ℕ) (xs : List A) → All (HasItem d) xs → (vs : Items) × Each s.describes vs xs × (items_depth vs ≤ d)
   each_of d [] h = (no_items, tt, omega arith)
   each_of d (x ∷ xs) h =
@@ -162,14 +162,14 @@ module _ {A : Type 0} (s : Shape A) where
       (item a.0 b.0, (a.1, b.1), omega (arith, a.2, b.2))
 
 module _ {A : Type 0} (cmp : A → A → Ordering) (o : IsTotalOrder cmp) (exact : CmpEqualImpliesEq cmp) (s : Shape A) (l : Lawful A s) where
-  -- what one of the items represents is one of the values
+  -- A value that one of the items represents is one of the values.
   element_contained : (vs : Items) (xs : List A) (x : A) → Each s.describes vs xs → HasElement s.describes x vs → Contains xs x
   element_contained no_items xs x p h = absurd h
   element_contained (item v vs) [] x p h = absurd p
   element_contained (item v vs) (y ∷ ys) x p (inl d) = (0, omega arith, l.unique v y x p.0 d)
   element_contained (item v vs) (y ∷ ys) x p (inr h) = Contains-append_right (y ∷ []) ys x (element_contained vs ys x p.1 h)
 
-  -- of values no two of which are the same no two items represent one
+  -- If no two values are the same, no two items represent the same value.
   no_repeats : (vs : Items) (xs : List A) → Each s.describes vs xs → IsDistinctBy cmp xs → Repeats s.describes vs → ⊥
   no_repeats no_items xs p d h = h
   no_repeats (item v vs) [] p d h = p
@@ -195,7 +195,7 @@ module _ {A : Type 0} (cmp : A → A → Ordering) (o : IsTotalOrder cmp) (exact
             ];
       }
 
-  -- each element of the set was one of the list, so it has an item
+  -- Each element of the set is an element of the list, so it has an item.
   set_again : (v : Item) (xs ys : List A) → (distinct_of cmp s).describes v xs → IsSetOf cmp xs ys → Again (List A) (distinct_of cmp s) v ys
   set_again v xs ys p m =
       let vs : Items = p.0.0.0 in

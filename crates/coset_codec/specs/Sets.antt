@@ -1,5 +1,5 @@
--- Arrays that are read as sets: the order of their elements says nothing, and no element may occur twice (RFC 8152, section
--- 7.1, of key_ops).
+-- Arrays that are read as sets. The order of the elements has no meaning, and no element may occur twice (RFC 8152,
+-- section 7.1, of key_ops).
 use Rattle.std.specs.Prelude.{◌≡◌, ◌⊎◌, ◌↔◌, List, Some, Contains}
 use Rattle.std.specs.List.{IsDistinct}
 use Rattle.std.specs.List.Sorted.{IsStrictlySortedBy}
@@ -10,26 +10,26 @@ use Rattle.coset_value.specs.Parts.{as_array}
 use Rattle.coset_codec.specs.Errors.{IsUnexpected}
 use Rattle.coset_codec.specs.Shape.{Shape, some_of, up_to}
 
--- ys are the elements of xs in the order of cmp, each once: the keys of a `BTreeSet` of them
+-- ys are the elements of xs in the order of cmp, each once. These are the keys of a `BTreeSet` of the elements.
 pub record IsSetOf {A : Type 0} (cmp : A → A → Ordering) (xs ys : List A) : Type 0 where
   pub sorted : IsStrictlySortedBy cmp ys
   pub elements : (x : A) → Contains ys x ↔ Contains xs x
 
--- no two of these are the same in the order of cmp
+-- No two elements are the same in the order of cmp.
 abbrev pub IsDistinctBy : {A : Type 0} → (A → A → Ordering) → List A → Type 0
 IsDistinctBy cmp xs = IsDistinct (eq_by_cmp cmp) xs
 
--- one of the items represents x
+-- One of the items represents x.
 abbrev pub HasElement : {A : Type 0} → (Item → A → Type 0) → A → Items → Type 0
 HasElement r x no_items = ⊥
 HasElement r x (item v vs) = r v x ⊎ HasElement r x vs
 
--- two of the items represent one value, whatever the others are
+-- Two of the items represent the same value, whatever the other items are.
 abbrev pub Repeats : {A : Type 0} → (Item → A → Type 0) → Items → Type 0
 Repeats r no_items = ⊥
 Repeats {A} r (item v vs) = ((x : A) × r v x × HasElement r x vs) ⊎ Repeats r vs
 
--- [+ s], no two elements the same
+-- [+ s], with no two elements the same
 abbrev pub distinct_of : {A : Type 0} → (A → A → Ordering) → Shape A → Shape (List A)
 distinct_of cmp s = record {
   describes = λ v xs. (some_of s).describes v xs × IsDistinctBy cmp xs;
@@ -37,6 +37,6 @@ distinct_of cmp s = record {
   faults = λ v e. (some_of s).faults v e ⊎ (IsUnexpected e × ((vs : Items) × (as_array v ≡ Some vs) × Repeats s.describes vs));
 }
 
--- [+ s], no two elements the same, seen and written as the set of the elements, in the order of cmp
+-- [+ s], with no two elements the same, seen and written as the set of the elements, in the order of cmp
 abbrev pub set_of : {A : Type 0} → (A → A → Ordering) → Shape A → Shape (List A)
 set_of cmp s = up_to (IsSetOf cmp) (distinct_of cmp s)

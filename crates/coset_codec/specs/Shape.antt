@@ -1,5 +1,5 @@
--- Which items of CBOR represent which values of a type. A type's shape is put together from those of its parts, in the
--- manner of CDDL (RFC 8610); the CDDL of each is in its comment. A value is seen without its memory: a `String` as its
+-- Which CBOR items represent which values of a type. The shape of a type is built from those of its parts, as in CDDL
+-- (RFC 8610). The CDDL of each shape is in its comment. Contracts see a value without its memory: a `String` as its
 -- UTF-8 bytes, a struct as a record.
 use Rattle.std.specs.Prelude.{◌≡◌, ◌≢◌, ◌⊎◌, ℕ, ℤ, pos, ◌≤ℤ◌, List, [], ◌∷◌, Option, Some, None, Bool, true, false, option_map, FitsSigned, ⊤}
 use Rattle.std.proofs.Common.{inl, inr}
@@ -11,21 +11,21 @@ use Rattle.coset_codec.specs.declared.error.CoseError.{CoseError}
 use Rattle.coset_codec.specs.declared.error.CoseError.TheVariants as errors
 use Rattle.coset_codec.specs.Errors.{IsUnexpected}
 
--- `describes v x`: the item v represents x. `image x`: the item that x is written as, where there is one.
--- `faults v e`: the fault that the error e names is in v
+-- `describes v x`: the item v represents x. `image x`: the item that x is written as, if there is one. `faults v e`:
+-- the error e names a fault in v.
 pub record Shape (A : Type 0) : Type 1 where
   pub describes : Item → A → Type 0
   pub image : A → Option Item
   pub faults : Item → CoseError → Type 0
 
--- Which elements of an array represent which values. `wrong_length vs`: there are too few, or too many
+-- Which elements of an array represent which values. `wrong_length vs`: there are too few elements, or too many.
 pub record Elements (A : Type 0) : Type 1 where
   pub describes : Items → A → Type 0
   pub image : A → Option Items
   pub wrong_length : Items → Type 0
   pub faults : Items → CoseError → Type 0
 
--- two answers together, where there are both
+-- Combines two results if both are there.
 abbrev pub both : {A B C : Type 0} → (A → B → C) → Option A → Option B → Option C
 both f (Some a) (Some b) = Some (f a b)
 both f (Some a) None = None
@@ -33,7 +33,7 @@ both f None o = None
 
 -- ---- items of one kind
 
--- `part` gives what an item of the kind holds, and `made` the item that holds it
+-- `part` takes the content out of an item of the kind, and `made` makes the item of a content.
 abbrev pub kind_of : {A : Type 0} → (Item → Option A) → (A → Item) → Shape A
 kind_of part made = record {
   describes = λ v x. part v ≡ Some x;
@@ -63,7 +63,7 @@ any = record { describes = λ v x. v ≡ x; image = Some; faults = λ v e. ⊥ }
 
 -- ---- conditions, names and choices
 
--- Of what the shape describes only what meets P. `blames` are the errors that say where it is not met
+-- Only the values of the shape that meet P. `blames` are the errors for values that do not.
 abbrev pub such_that : {A : Type 0} → (CoseError → Type 0) → (A → Type 0) → Shape A → Shape A
 such_that {A} blames P s = record {
   describes = λ v x. s.describes v x × P x;
@@ -74,7 +74,7 @@ such_that {A} blames P s = record {
 abbrev pub IsOutOfRange : CoseError → Type 0
 IsOutOfRange e = e ≡ errors.OutOfRangeIntegerValue
 
--- an integer of 64 bits with a sign
+-- An integer of 64 bits with a sign.
 abbrev pub int64 : Shape ℤ
 int64 = such_that IsOutOfRange (FitsSigned w64) int
 
@@ -82,7 +82,7 @@ int64 = such_that IsOutOfRange (FitsSigned w64) int
 abbrev pub uint : Shape ℤ
 uint = such_that IsOutOfRange (λ i. pos 0 ≤ℤ i) int
 
--- not the empty list
+-- The list is not empty.
 abbrev pub IsNonempty : {A : Type 0} → List A → Type 0
 IsNonempty xs = xs ≢ []
 
@@ -90,12 +90,11 @@ IsNonempty xs = xs ≢ []
 abbrev pub nonempty_bstr : Shape (List ℕ)
 nonempty_bstr = such_that IsUnexpected IsNonempty bstr
 
--- what the shape describes, seen as another type: `to` makes that of what the shape describes, and `from` is its
--- inverse
+-- The values of the shape, seen as another type. `to` converts a value of the shape, and `from` is the inverse of `to`.
 abbrev pub mapped : {A B : Type 0} → (A → B) → (B → A) → Shape A → Shape B
 mapped to from s = record { describes = λ v x. s.describes v (from x); image = λ x. s.image (from x); faults = s.faults }
 
--- errors of the kind in place of any that the shape has
+-- The errors that `blames` allows, in place of those of the shape.
 abbrev pub masked : {A : Type 0} → (CoseError → Type 0) → Shape A → Shape A
 masked blames s = record {
   describes = s.describes;
@@ -103,12 +102,12 @@ masked blames s = record {
   faults = λ v e. blames e × ((f : CoseError) × s.faults v f);
 }
 
--- what one of two shapes describes
+-- A value that one of two shapes describes.
 abbrev pub EitherDescribes : {A B : Type 0} → (A → Type 0) → (B → Type 0) → A ⊎ B → Type 0
 EitherDescribes P Q (inl x) = P x
 EitherDescribes P Q (inr y) = Q y
 
--- `s / t`, where `is_first` distinguishes the items of s from those of t
+-- `s / t`, if `is_first` distinguishes the items of s from those of t
 abbrev pub either : {A B : Type 0} → (Item → Bool) → Shape A → Shape B → Shape (A ⊎ B)
 either is_first s t = record {
   describes = λ v. EitherDescribes (λ x. (is_first v ≡ true) × s.describes v x) (λ y. (is_first v ≡ false) × t.describes v y);
@@ -116,7 +115,7 @@ either is_first s t = record {
   faults = λ v e. ((is_first v ≡ true) × s.faults v e) ⊎ ((is_first v ≡ false) × t.faults v e);
 }
 
--- whether it is null
+-- True if the item is null.
 abbrev pub is_nil : Item → Bool
 is_nil null = true
 is_nil v = false
@@ -137,16 +136,16 @@ abbrev pub sum_of : {A : Type 0} → Option A → Unit {0} ⊎ A
 sum_of None = inl tt
 sum_of (Some x) = inr x
 
--- s / nil, where s describes no null
+-- s / nil, if s describes no null
 abbrev pub or_nil : {A : Type 0} → Shape A → Shape (Option A)
 or_nil s = mapped option_of sum_of (either is_nil nil s)
 
--- what s describes, as something that is there
+-- A value of the shape, as a value that is present.
 abbrev pub PresentDescribes : {A : Type 0} → (A → Type 0) → Option A → Type 0
 PresentDescribes P (Some x) = P x
 PresentDescribes P None = ⊥
 
--- the item that f makes of what is there
+-- The item that f makes of a present value.
 abbrev pub present_image : {A : Type 0} → (A → Option Item) → Option A → Option Item
 present_image f (Some x) = f x
 present_image f None = None
@@ -154,8 +153,8 @@ present_image f None = None
 abbrev pub present : {A : Type 0} → Shape A → Shape (Option A)
 present s = record { describes = λ v. PresentDescribes (s.describes v); image = present_image s.image; faults = s.faults }
 
--- one value, of which is known which items represent it, what it is written as, and what faults are in an item for
--- its type: so a type that holds itself is described by recursion on the value
+-- One value, given by the items that represent it, its image, and the faults of items. So the shape of a recursive type
+-- is defined by recursion on the value.
 abbrev pub fixed : (Item → Type 0) → Option Item → (Item → CoseError → Type 0) → Shape (Unit {0})
 fixed P o faults = record { describes = λ v x. P v; image = λ x. o; faults = faults }
 
@@ -170,8 +169,8 @@ tagged number s = record {
 
 -- ---- arrays
 
--- what is wrong with an array's elements: that there are too few or too many; or, where there are as many as there have to
--- be, what is wrong with one of them
+-- The error says that an array has too few or too many elements. If their number is right, the error names a fault in
+-- one of them.
 abbrev pub ElementsFaults : {A : Type 0} → Elements A → Items → CoseError → Type 0
 ElementsFaults ps vs e = (ps.wrong_length vs × IsUnexpected e) ⊎ ((ps.wrong_length vs → ⊥) × ps.faults vs e)
 
@@ -183,7 +182,7 @@ array_of ps = record {
   faults = λ v e. ((as_array v ≡ None) × IsUnexpected e) ⊎ ((vs : Items) × (as_array v ≡ Some vs) × ElementsFaults ps vs e);
 }
 
--- no place
+-- No elements are left.
 abbrev pub IsEnd : Items → Type 0
 IsEnd no_items = ⊤
 IsEnd (item v vs) = ⊥
@@ -191,7 +190,7 @@ IsEnd (item v vs) = ⊥
 abbrev pub end : Elements (Unit {0})
 end = record { describes = λ vs x. IsEnd vs; image = λ x. Some no_items; wrong_length = λ vs. IsEnd vs → ⊥; faults = λ vs e. ⊥ }
 
--- an element, and the elements after it
+-- An element, and the elements after it.
 abbrev pub FirstDescribes : {A B : Type 0} → (Item → A → Type 0) → (Items → B → Type 0) → Items → A × B → Type 0
 FirstDescribes r rs no_items x = ⊥
 FirstDescribes r rs (item v vs) x = r v x.0 × rs vs x.1
@@ -220,7 +219,7 @@ Each r no_items (x ∷ xs) = ⊥
 Each r (item v vs) [] = ⊥
 Each r (item v vs) (x ∷ xs) = r v x × Each r vs xs
 
--- the items that f makes of these, where there is one of each
+-- The items that f makes of the values, if f makes one of each.
 abbrev pub images : {A : Type 0} → (A → Option Item) → List A → Option Items
 images f [] = Some no_items
 images f (x ∷ xs) = both item (f x) (images f xs)
@@ -240,7 +239,7 @@ list_of s = array_of (any_number s)
 abbrev pub some_of : {A : Type 0} → Shape A → Shape (List A)
 some_of s = such_that IsUnexpected IsNonempty (list_of s)
 
--- ? s, as the last place. Where the place is missing, x is `absent`; `shows x` says whether x is written
+-- ? s, as the last element. If the element is missing, x is `absent`. `shows x` says whether x is written.
 abbrev pub LastDescribes : {A : Type 0} → A → (Item → A → Type 0) → Items → A → Type 0
 LastDescribes absent r no_items x = x ≡ absent
 LastDescribes absent r (item v no_items) x = r v x
@@ -266,8 +265,8 @@ optional_last absent shows s = record {
   faults = LastFaults s.faults;
 }
 
--- What the shape describes, seen as what R relates it to, and written as that: a list that represents a set is seen in
--- order
+-- A value of the shape, seen and written as the value that R relates it to. For example, a list that represents a set
+-- is seen in order.
 abbrev pub up_to : {A : Type 0} → (A → A → Type 0) → Shape A → Shape A
 up_to {A} R s = record {
   describes = λ v y. (x : A) × s.describes v x × R x y;
@@ -277,18 +276,18 @@ up_to {A} R s = record {
 
 -- ---- one, or a list of them
 
--- Of an array that begins with a byte string, it alone; of one that begins with an array, its elements
+-- An array that begins with a byte string is one element. An array that begins with an array is its elements.
 abbrev pub one_or_more : Item → Option Items
 one_or_more (array (item (bytes b) vs)) = Some (item (array (item (bytes b) vs)) no_items)
 one_or_more (array (item (array ws) vs)) = Some (item (array ws) vs)
 one_or_more v = None
 
--- one is written as itself, more as an array
+-- One element is written as itself, more elements as an array.
 abbrev pub one_or_array : Items → Item
 one_or_array (item v no_items) = v
 one_or_array vs = array vs
 
--- s / [+ s], where s describes arrays that begin with a byte string
+-- s / [+ s], if s describes arrays that begin with a byte string
 abbrev pub one_or_many : {A : Type 0} → Elements A → Shape A
 one_or_many {A} ps = record {
   describes = λ v x. (vs : Items) × (one_or_more v ≡ Some vs) × ps.describes vs x;

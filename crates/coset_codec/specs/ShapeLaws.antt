@@ -1,5 +1,5 @@
--- What holds of each shape: an item represents at most one value; what was read is written as an item that is read to
--- the same value and is no deeper; and no fault is in an item that represents a value.
+-- Laws of each shape. An item represents at most one value. A value that was read is written as an item no deeper,
+-- which represents the same value. An item that represents a value has no fault.
 use Rattle.std.proofs.Common.{◌≡◌, ◌⊎◌, ◌≤◌, ℕ, suc, max, ℤ, List, [], ◌∷◌, Option, Some, None, Bool, true, false, option_map, refl, sym, ◌∙◌, ap, subst, inl}
 use Rattle.std.proofs.Common.{inr, arith, true≢false}
 use Rattle.coset_value.specs.Item.{Item, integer, bytes, float, text, boolean, null, tag, array, dict, Items, no_items, item, depth, items_depth, items_count}
@@ -11,7 +11,7 @@ use Rattle.coset_codec.specs.Shape.{either, is_nil, nil, option_of, sum_of, or_n
 use Rattle.coset_codec.specs.Shape.{any_number, list_of, some_of, optional_last, LastDescribes, LastWrongLength, LastFaults, last_image, up_to, one_or_more}
 use Rattle.coset_codec.specs.Shape.{one_or_array, one_or_many}
 
--- x is written as an item that represents x and is no deeper than v
+-- x is written as an item that represents x and is no deeper than v.
 pub record Again (A : Type 0) (s : Shape A) (v : Item) (x : A) : Type 0 where
   pub image : Item
   pub is_image : s.image x ≡ Some image
@@ -23,7 +23,7 @@ pub record Lawful (A : Type 0) (s : Shape A) : Type 0 where
   pub again : (v : Item) (x : A) → s.describes v x → Again A s v x
   pub sound : (v : Item) (x : A) (e : CoseError) → s.describes v x → s.faults v e → ⊥
 
--- x is written as elements that represent x and are no deeper than vs
+-- x is written as elements that represent x and are no deeper than vs.
 pub record AgainElements (A : Type 0) (s : Elements A) (vs : Items) (x : A) : Type 0 where
   pub image : Items
   pub is_image : s.image x ≡ Some image
@@ -36,7 +36,7 @@ pub record LawfulElements (A : Type 0) (s : Elements A) : Type 0 where
   pub fits : (vs : Items) (x : A) → s.describes vs x → s.wrong_length vs → ⊥
   pub sound : (vs : Items) (x : A) (e : CoseError) → s.describes vs x → s.faults vs e → ⊥
 
--- options and sums
+-- Options and sums.
 
 pub some-one : {A : Type 0} {o : Option A} {x y : A} → o ≡ Some x → o ≡ Some y → x ≡ y
 some-one p q = cc
@@ -156,13 +156,13 @@ option-back : {A : Type 0} (x : Option A) → option_of (sum_of x) ≡ x
 option-back None = refl
 option-back (Some x) = refl
 
--- what s writes is never null
+-- s / nil has laws if s never writes null.
 pub or_nil_laws : {A : Type 0} (s : Shape A) → ((x : A) (w : Item) → s.image x ≡ Some w → is_nil w ≡ false) → Lawful A s → Lawful (Option A) (or_nil s)
 or_nil_laws s no_null l =
     mapped_laws option_of sum_of option-back (either is_nil nil s)
     (either_laws is_nil nil s nil_laws l (λ v x w f d e. let h : null ≡ w = some-one refl e in ap is_nil (sym h)) (λ v x w f d e. no_null x w e))
 
--- a byte string is never null
+-- A byte string is never null.
 pub bytes_no_nil : (x : List ℕ) (w : Item) → bstr.image x ≡ Some w → is_nil w ≡ false
 bytes_no_nil x w e = let h : bytes x ≡ w = cc in ap is_nil (sym h)
 
@@ -184,7 +184,7 @@ present_sound s l v None e p f = p
 pub present_laws : {A : Type 0} (s : Shape A) → Lawful A s → Lawful (Option A) (present s)
 present_laws s l = record { unique = present_unique s l; again = present_again s l; sound = present_sound s l }
 
--- the value is written, if any item represents it, as one that represents it
+-- If an item represents the value, the value is written as an item that represents it and is no deeper.
 pub fixed_laws :
     (P : Item → Type 0) (o : Option Item) (faults : Item → CoseError → Type 0) → ((v : Item) → P v → (w : Item) × (o ≡ Some w) × P w × (depth w ≤ depth v))
     → ((v : Item) (e : CoseError) → P v → faults v e → ⊥) → Lawful (Unit {0}) (fixed P o faults)
@@ -259,7 +259,7 @@ array_of_again {A} ps l v x p =
           omega (arith, a.shallow, d);
     }
 
--- no fault is in elements that represent a value
+-- Elements that represent a value have no fault.
 elements_sound : {A : Type 0} (ps : Elements A) → LawfulElements A ps → (vs : Items) (x : A) (e : CoseError) → ps.describes vs x → ElementsFaults ps vs e → ⊥
 elements_sound ps l vs x e d (inl m) = l.fits vs x d m.0
 elements_sound ps l vs x e d (inr f) = l.sound vs x e d f.1
@@ -280,7 +280,7 @@ end_again (item v vs) x p = absurd p
 pub end_laws : LawfulElements (Unit {0}) end
 end_laws = record { unique = λ vs x y p q. refl; again = end_again; fits = λ vs x p m. m p; sound = λ vs x e p f. f }
 
--- a place more fits where those behind it do
+-- One more element at the front fits if the elements after it fit.
 pub fits_behind :
     {A B : Type 0} (s : Shape A) (ps : Elements B) → ((vs : Items) (x : B) → ps.describes vs x → ps.wrong_length vs → ⊥) → (vs : Items) (x : A × B)
     → (s then ps).describes vs x → (s then ps).wrong_length vs → ⊥
@@ -387,7 +387,7 @@ module _ {A : Type 0} (absent : A) (shows : A → Bool) (hidden : shows absent �
   pub optional_last_laws : LawfulElements A (optional_last absent shows s)
   optional_last_laws = record { unique = last_unique; again = last_again; fits = last_fits; sound = last_sound }
 
--- R relates a value to at most one, and that one to itself; and s writes that one as an item that represents it
+-- R relates a value to at most one value, and that value to itself. s writes that value as an item that represents it.
 pub up_to_laws :
     {A : Type 0} (R : A → A → Type 0) (s : Shape A) → ((x y z : A) → R x y → R x z → y ≡ z) → ((x y : A) → R x y → R y y)
     → ((v : Item) (x y : A) → s.describes v x → R x y → Again A s v y) → Lawful A s → Lawful A (up_to R s)
@@ -427,7 +427,7 @@ one_or_array-depth (array (item (array ts) us)) vs (item w (item u ws)) p d c =
     omega (arith, d, deep)
 one_or_array-depth _ vs ws p d c = absurd (cc)
 
--- one that is written as itself is distinguished from an array of more, and as many are written as were read
+-- A single element written as itself is not read as an array of more. As many elements are written as were read.
 pub one_or_many_laws :
     {A : Type 0} (ps : Elements A)
     → ((vs ws : Items) (x : A) → ps.describes vs x → ps.describes ws x → ps.image x ≡ Some ws → (one_or_more (one_or_array ws) ≡ Some ws)

@@ -1,5 +1,5 @@
--- What contracts see of an item that is given as a value or as lent bytes; and what is said of the number of an array's
--- elements.
+-- What contracts see of an item that is given as a value or as borrowed bytes. Also the errors for a wrong number of
+-- array elements.
 use Rattle.std.specs.Prelude.{◌≡◌, List, codes, ℕ, length, zero, suc, Result, Ok, Err}
 use Rattle.coset_value.specs.Item.{Item, Items, no_items, depth}
 use Rattle.coset_value.specs.View.{value_item}
@@ -12,35 +12,35 @@ use Rattle.coset_codec.specs.Errors.{IsUnexpected}
 use Rattle.coset_codec.specs.Kinds.{Says}
 use Rattle.coset_codec.specs.Shape.{FirstWrongLength, IsEnd}
 
--- the item
+-- The item of a source.
 abbrev pub source_item : ItemSource → Item
 source_item (Tree v) = value_item v
 source_item (Lent p) = pull_item p
 
--- how deep a value is, or how many bytes spell the lent item
+-- The depth of a value, or the number of bytes of a borrowed item.
 abbrev pub source_size : ItemSource → ℕ
 source_size (Tree v) = depth (value_item v)
 source_size (Lent p) = length (pull_bytes p)
 
--- a value of the item, or `OutOfMemory`
+-- A value of the item, or `OutOfMemory`.
 abbrev pub Copies : {T : Type 0} → (T → Item) → Item → Result T CoseError → Type 0
 Copies item_of v (Ok x) = item_of x ≡ v
 Copies item_of v (Err e) = e ≡ OutOfMemory
 
--- that many elements, and then those of which m says whether their number is wrong
+-- There are fewer than n elements, or m says that the number of those after the first n is wrong.
 abbrev pub wrong_length_after : ℕ → (Items → Type 0) → Items → Type 0
 wrong_length_after zero m = m
 wrong_length_after (suc n) m = FirstWrongLength (wrong_length_after n m)
 
--- nothing is wrong
+-- No number of elements is wrong.
 abbrev pub Never : Items → Type 0
 Never vs = ⊥
 
--- an array has too few elements or too many, and the error says so with this text
+-- The error says with this text that an array has too few elements or too many.
 abbrev pub IsWrongLength : List ℕ → CoseError → Type 0
 IsWrongLength want e = IsUnexpected e × Says (codes "array") want e
 
--- no place is left; or one is
+-- No element is left. Or an element is left, and the error says so.
 abbrev pub TakesEnd : List ℕ → Items → Result (Unit {0}) CoseError → Type 0
 TakesEnd want vs (Ok x) = vs ≡ no_items
 TakesEnd want vs (Err e) = IsWrongLength want e × (IsEnd vs → ⊥)

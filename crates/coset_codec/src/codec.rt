@@ -1,4 +1,4 @@
-//! The short way to a type of one's own: one trait, from which all others follow.
+//! The short way to a type of your own: implement one trait, and all others follow.
 
 ghost use Rattle.std.specs.Prelude.{◌≡◌, ◌↔◌, ℕ, ⊤, IfErr, IsTrue};
 ghost use Rattle.coset_cbor.specs.Least.{Extends};
@@ -20,35 +20,40 @@ use coset_cbor::de::Pull;
 use coset_cbor::value::Value;
 use std::alloc::Global;
 
-/// A type that is read and written straight, without a value in between.
+/// A type that is read and written directly, without a `Value` in between.
 ///
-/// An implementer says how contracts see its values and its shape, as for [`AsCborValue`], has one reader and one writer,
-/// and proves two laws, of its shape and of `==`: each in a line, from those of the parts (`ShapeLaws` and `EqDecides` of
-/// `specs/`). That of a derived `==` the prover finds by itself where no part is a list. [`AsCborValue`], [`FromPull`],
-/// [`CborSerializable`], [`Encode`] and [`Lawful`] follow from these, and with [`TaggedCodec`] also
-/// [`TaggedCborSerializable`].
+/// An implementer states how contracts see its values and its shape, as for [`AsCborValue`]. It has
+/// one reader and one writer, and proves two laws, of its shape and of `==`. Each law takes one
+/// line, from the laws of the parts (`ShapeLaws` and `EqDecides` of `specs/`). The prover finds the
+/// law of a derived `==` by itself if no part is a list.
+///
+/// [`AsCborValue`], [`FromPull`], [`CborSerializable`], [`Encode`] and [`Lawful`] follow from this
+/// trait. With [`TaggedCodec`], [`TaggedCborSerializable`] follows too.
 pub trait Codec: Sized + Drop + PartialEq {
-    /// What contracts see of a value: all of it but where it lies in memory.
+    /// What contracts see of a value: everything except its place in memory.
     ghost View: { Type 0 };
 
     ghost view: { Self → View };
 
-    /// Which items represent which values, what a value is written as, and what may be wrong with an item.
+    /// The shape of the type, as for [`AsCborValue`].
     ghost shape: { Shape View };
 
-    /// At which inputs reading may run out of memory: at each, where a type doesn't say.
+    /// The inputs at which reading may run out of memory. By default, every input.
     ghost allocates: { State → Type 0 } = { λ s. ⊤ };
 
-    /// Reads a value from the item at the input, and leaves that just behind it, also where it is refused.
+    /// Reads a value from the item at the input. Leaves the input just after the item, even if the
+    /// item is refused.
     ///
     /// # Errors
-    /// `OutOfMemory`, only where `allocates` says so; or a fault that is in the item, which then describes no value.
+    /// - `OutOfMemory` if an allocation fails. This happens only at inputs for which `allocates`
+    ///   holds.
+    /// - A fault in the item, which then describes no value.
     fn read(alloc: Global, input: &mut Decoder<'_>) -> Result<Self>
         ensures forward { ReadsForward (state input.old) (state input.new) result
             (λ v. Reads shape view v result) }
         ensures memory { IfErr result (λ e. e ≡ OutOfMemory → allocates (state input.old)) };
 
-    /// About as many bytes as the encoding takes ([`Encode::encoded_size_hint`]).
+    /// Returns the approximate length of the encoding ([`Encode::encoded_size_hint`]).
     fn size_hint(&self) -> usize {
         0
     }
@@ -56,20 +61,22 @@ pub trait Codec: Sized + Drop + PartialEq {
     /// Appends the shortest encoding of the value's item (RFC 8949, section 4.2.1).
     ///
     /// # Errors
-    /// `OutOfMemory`, or `DuplicateMapKey`, only where the value has no item. `out` then begins with all that it had;
-    /// what was appended before the error may follow.
+    /// - `OutOfMemory` if an allocation fails.
+    /// - `DuplicateMapKey` if the value has no item.
+    ///
+    /// The old content of `out` is then unchanged. Bytes appended before the error may follow it.
     fn write(&self, alloc: Global, out: &mut Vec<u8>) -> Result<()>
         ensures written { Encodes (shape.image (view self.now)) out.old.items out.new.items result }
         ensures kept { Extends out.old.items out.new.items };
 
-    /// The laws of its shape.
+    /// The laws of the shape.
     ghost laws: { LawfulShape View shape };
 
-    /// `==` is equality of all that contracts see.
+    /// `==` is equality of what contracts see.
     ghost equal: { (a b : Self) → IsTrue (Self.PartialEq.eq a b) ↔ (view a ≡ view b) };
 }
 
-/// A type that is also read and written under a tag of its own (RFC 8949, section 3.4).
+/// A type that is also read and written under its own tag (RFC 8949, section 3.4).
 pub trait TaggedCodec: Codec {
     ghost TAG_NUMBER: { ℕ };
 

@@ -1,4 +1,4 @@
-//! Why a call was refused.
+//! The errors of this library's calls.
 
 ghost use Rattle.std.specs.Prelude.{◌≡◌, OnOk};
 ghost use Rattle.coset_codec.specs.Errors.{stored, call_error_text, error_text, decode_failure};
@@ -11,41 +11,44 @@ use std::error::Error;
 use std::fmt;
 use std::num::TryFromIntError;
 
-/// Why a value couldn't be read or written.
+/// Why a value could not be read or written.
 #[derive(Drop)]
 pub enum CoseError {
-    /// The bytes aren't CBOR, or nest too deep (RFC 8949, section 3).
+    /// The bytes are not CBOR, or nest too deep (RFC 8949, section 3).
     DecodeFailed(de::Error<EndOfFile>),
-    /// Two keys of a map are one label (RFC 8152, section 3).
+    /// Two keys of a map are the same label (RFC 8152, section 3).
     DuplicateMapKey,
-    /// The value couldn't be written. No call of this library returns it: it is there for the errors of other writers.
+    /// The value could not be written. No call of this library returns this error. It is there for
+    /// the errors of other writers.
     EncodeFailed,
     /// Bytes follow the one item of the input.
     ExtraneousData,
-    /// An integer lies outside the range of its place.
+    /// An integer is outside the range that is allowed in its place.
     OutOfRangeIntegerValue,
-    /// An item isn't as its place asks: what it is, and what was asked for.
+    /// An item is not as expected. The texts name the item found and the item expected.
     UnexpectedItem(&'static str, &'static str),
-    /// An integer without a name, in a registry without a private range.
+    /// An integer has no name in its registry, and the registry has no private range.
     UnregisteredIanaValue,
-    /// An integer without a name and outside the private range of its registry.
+    /// An integer has no name in its registry and is outside the registry's private range.
     UnregisteredIanaNonPrivateValue,
-    /// A request for memory was refused.
+    /// An allocation failed.
     OutOfMemory,
 }
 
-/// A result whose error is a `CoseError` where none is named.
+/// A result whose error is a `CoseError` by default.
 pub type Result<T, E = CoseError> = std::result::Result<T, E>;
 
-/// A call was refused, and the error is in the place for one that the call was given. So functions that call each other, as
-/// deep as the input says, return a byte of stack each.
+/// A call failed and stored its error in the place that it was given.
+///
+/// Some functions call each other as deep as the input says. To save stack, each returns one byte
+/// instead of an error by value.
 #[derive(Clone, Copy, Debug)]
 pub struct ErrorStored;
 
-/// The same result, with its error put into the place.
+/// Returns the same result, with its error moved into `error`.
 ///
 /// # Errors
-/// That there is one: it is in the place then, which is left as it was otherwise.
+/// `ErrorStored` if `given` is an error, which is then in `error`. Otherwise `error` is unchanged.
 pub fn store_error<T: Drop>(given: Result<T>, error: &mut CoseError) -> Result<T, ErrorStored>
     ensures answers { stored error.new result ≡ given }
     ensures kept { OnOk result (error.new ≡ error.old) }
@@ -59,12 +62,15 @@ pub fn store_error<T: Drop>(given: Result<T>, error: &mut CoseError) -> Result<T
     }
 }
 
-/// Why a call that takes a closure was refused.
+/// An error of this library, or an error of another type.
+///
+/// Most calls that return it take a closure.
 #[derive(Debug, Drop)]
 pub enum CallError<E> {
-    /// By this library, before the closure was called.
+    /// An error of this library. Calls that sign, verify, encrypt or decrypt return it before they
+    /// call the closure.
     Coset(CoseError),
-    /// By the closure.
+    /// An error of the closure. A call without a closure returns its own error here.
     Caller(E),
 }
 
@@ -156,7 +162,7 @@ impl<T: Drop> From<AllocFailed<T>> for CoseError {
     }
 }
 
-/// The text of the error that it holds.
+/// The text of the error inside.
 impl<E: fmt::Display> fmt::Display for CallError<E> {
     ghost output = { call_error_text E.output };
 

@@ -1,9 +1,10 @@
-//! The value of a key in a list of pairs.
+//! Looking up a key in a list of pairs.
 
 ghost use Rattle.std.specs.Prelude.{◌≡◌, option_map};
 ghost use Rattle.std.specs.Map.{lookup};
 
-/// The value of the first pair whose key equals this one; `None` where no key does. It takes no memory.
+/// Returns the value of the first pair whose key equals `key`, or `None` if there is no such pair.
+/// Allocates nothing.
 pub fn find_value<'a, K: PartialEq, V>(pairs: &'a [(K, V)], key: &K) -> Option<&'a V>
     ensures { option_map (λ v. v.now) result ≡ lookup (K.eq key.now) pairs.now }
 {

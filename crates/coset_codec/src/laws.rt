@@ -1,4 +1,5 @@
-//! Laws of every type that is read and written. Each is the contract of a function that does nothing.
+//! Laws of every type that is read and written. Each law is the contract of a function that does
+//! nothing.
 
 ghost use Rattle.std.specs.Prelude.{◌≡◌, ◌↔◌, ◌≤◌, ◌⊎◌, IsTrue, List, Result, ℕ};
 ghost use Rattle.coset_value.specs.Item.{Item, depth};
@@ -28,7 +29,8 @@ pub fn one_value<T: AsCborValue>()
     one_item();
 }
 
-/// Two spellings of one item describe the same value, or neither describes any; under a tag too.
+/// Two encodings of one item describe the same value, or neither describes any. The same holds
+/// under a tag.
 pub fn spellings_agree<T: AsCborValue>()
     ensures plain { (s t : List ℕ) (v : Item) (x : T.View) → IsItem s v → IsItem t v
         → Describes T.shape s x → Describes T.shape t x }
@@ -38,9 +40,10 @@ pub fn spellings_agree<T: AsCborValue>()
     one_item();
 }
 
-/// What reading bytes returns, plain or under a tag, where they aren't one item, whatever memory there is: where no
-/// front of them is an item, a fault that is in them; where an item is followed by more, `ExtraneousData`. The
-/// premises are the clauses `read` and `memory` of `from_slice` and `from_tagged_slice`.
+/// Bytes that are not one item are refused for that reason, plain or under a tag, however much
+/// memory there is. If no prefix of them is an item, the error names a fault in them. If more bytes
+/// follow an item, the error is `ExtraneousData`. The premises are the clauses `read` and `memory`
+/// of `from_slice` and `from_tagged_slice`.
 pub fn refused_as_bytes<T: AsCborValue>()
     ensures plain { (s : List ℕ) (r : Result T CoseError) → ReadsSlice T.shape T.view s r
         → AllocatesForItems s r → NamesWholeFault s r }
@@ -51,9 +54,10 @@ pub fn refused_as_bytes<T: AsCborValue>()
     no_item_at_a_fault();
 }
 
-/// Bytes that are one item are read, plain or under a tag, as that item is: the answer is the value that the item is
-/// for, or, unless memory ran out, a fault of the type that is in the item. Under a tag, an item without one, or with
-/// another, is `UnexpectedItem`. The premise is the clause `read` of `from_slice` and `from_tagged_slice`.
+/// Bytes that are one item are read like that item, plain or under a tag. The result is the value
+/// that the item describes, or a fault of the type in the item, or `OutOfMemory`. Under a tag, an
+/// item with no tag or another tag is refused with `UnexpectedItem` or `OutOfMemory`. The premise
+/// is the clause `read` of `from_slice` and `from_tagged_slice`.
 pub fn read_as_item<T: AsCborValue>()
     ensures plain { (s : List ℕ) (v : Item) (r : Result T CoseError) → AreBytes s → IsItem s v
         → ReadsSlice T.shape T.view s r → Reads T.shape T.view v r }
@@ -68,21 +72,23 @@ pub fn read_as_item<T: AsCborValue>()
     no_item_at_a_fault();
 }
 
-/// An item that is refused, by whichever call, describes no value, unless memory ran out. The premise is the clause of
-/// `from_cbor_value`, and of `from_pull`.
+/// An item that any call refuses describes no value, unless the error is `OutOfMemory`. The premise
+/// is the clause of `from_cbor_value` and of `from_pull`.
 pub fn refused_describes_nothing<T: AsCborValue>()
     ensures { (v : Item) (r : Result T CoseError) → Reads T.shape T.view v r
         → RefusesItem T.shape v r }
 {}
 
-/// A value that an item describes is written as an item that describes the same value and is no deeper. So what
-/// `from_cbor_value` read `to_cbor_value` writes, and `from_cbor_value` reads that again as the same value.
+/// If an item describes a value, the value is written as an item no deeper, which describes the
+/// same value. So `to_cbor_value` writes each value that `from_cbor_value` read, and
+/// `from_cbor_value` reads it again as the same value.
 pub fn image_is_described<T: Lawful>()
     ensures { (v : Item) (x : T.View) → T.shape.describes v x → Again T.View T.shape v x }
 {}
 
-/// What was read, plain or under a tag, is written, and then read again as itself; what was read under a tag also where
-/// it is written without it. The same holds of what an item within 256 levels describes, wherever that was.
+/// A value that was read, plain or under a tag, is written and read again as itself. A value that
+/// was read under a tag is also written without the tag, and read again as itself. The same holds
+/// for a value that any item within 256 levels describes, from any source.
 pub fn reads_again<T: Lawful>()
     ensures plain { (s : List ℕ) (x : T.View) → Describes T.shape s x → ReadsAgain T.shape x }
     ensures tagged { (n : ℕ) (s : List ℕ) (x : T.View) → Describes (tagged n T.shape) s x
@@ -93,9 +99,9 @@ pub fn reads_again<T: Lawful>()
         → ReadsAgain T.shape x }
 {}
 
-/// What is read plain or under a tag, as `from_any_slice` does, is what is described plain or under the tag: all that is
-/// under the tag, and where the type describes no such tag itself, all that is plain. It is written and read again as
-/// itself.
+/// Every value that `from_any_slice` reads is described plain or under the tag. Conversely,
+/// `from_any_slice` reads every value under the tag. It reads every plain value if the type itself
+/// describes no such tag. Each value that it reads is written and read again as itself.
 pub fn plain_or_tagged<T: Lawful>()
     ensures either { (n : ℕ) (s : List ℕ) (x : T.View) → Describes (perhaps_tagged n T.shape) s x
         → Describes T.shape s x ⊎ Describes (tagged n T.shape) s x }
@@ -109,9 +115,10 @@ pub fn plain_or_tagged<T: Lawful>()
     reads_again::<T>();
 }
 
-/// Values that were read are written, both plain or both under one tag, as equal bytes, or as equal items, exactly
-/// where they are equal. Each may have come from bytes, under a tag or without, from a tree, from a lent item or as a
-/// part of another value: all that is asked is that some item describes it.
+/// Two values that were read are written as equal bytes if and only if they are equal. This holds
+/// if both are written plain, or both under one tag. It also holds for the items that they are
+/// written as. Each value may come from bytes (with or without a tag), a tree, a borrowed item, or
+/// a part of another value. The only premise is that some item describes it.
 pub fn written_apart<T: Lawful>()
     ensures plain { EncodesApart T.shape }
     ensures tagged { (n : ℕ) → EncodesApart (tagged n T.shape) }
@@ -122,8 +129,8 @@ pub fn written_apart<T: Lawful>()
     least_heads_are_shortest();
 }
 
-/// What was read, however it came, is written, plain or under a tag, as bytes that stay the same when they are read and
-/// written again.
+/// A value that was read is written as bytes that stay the same when they are read and written
+/// again. This holds plain or under a tag, and for values from any source.
 pub fn stays_as_written<T: Lawful>()
     ensures plain { StaysAsWritten T.shape }
     ensures tagged { (n : ℕ) → StaysAsWritten (tagged n T.shape) }
@@ -132,7 +139,7 @@ pub fn stays_as_written<T: Lawful>()
     written_apart::<T>();
 }
 
-/// `==` is equality of all that contracts see.
+/// `==` is equality of what contracts see.
 pub fn equal_as_viewed<T: Codec>()
     ensures { (a b : T) → IsTrue (T.PartialEq.eq a b) ↔ (T.view a ≡ T.view b) }
 {}

@@ -1,5 +1,5 @@
-//! What every type of COSE is built on: errors, the traits by which types are read and written, and the shapes that say
-//! which items represent which values.
+//! The base of every COSE type: errors, the traits for reading and writing types, and shapes. A
+//! shape says which items represent which values.
 #![tactic(auto)]
 
 pub mod codec;

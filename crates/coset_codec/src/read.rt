@@ -1,4 +1,5 @@
-//! Reading: items where they are, in a tree or in bytes that were checked as a whole, and lists and maps of them.
+//! Reading items in place, from a tree or from bytes that were checked as a whole. Also reads lists
+//! and maps of items.
 
 mod alone;
 mod decoder;

@@ -1,4 +1,4 @@
-//! Whether two keys of a list of pairs are equal.
+//! Finding equal keys in a list of pairs.
 
 ghost use Rattle.std.specs.Prelude.{◌≡◌, ◌<◌, length, not, IfOk, IfErr};
 ghost use Rattle.std.specs.Map.{keys_of};
@@ -8,14 +8,14 @@ ghost use Rattle.coset_codec.specs.Maps.{are_distinct};
 use crate::error::Result;
 use std::alloc::Global;
 
-/// Up to so many pairs are compared one with another.
+/// The most pairs whose keys are compared with each other without sorting.
 const MAX_PAIRWISE: usize = 16;
 
-/// Whether two of the keys are equal. Up to 16 pairs are compared one with another, without memory; more are sorted by
-/// reference, so that the work grows with n log n.
+/// Returns true if two of the keys are equal. The keys of up to 16 pairs are compared with each
+/// other, without memory. More keys are sorted by reference, so the work grows with n log n.
 ///
 /// # Errors
-/// `OutOfMemory` alone, and only of more than 16 pairs.
+/// `OutOfMemory` if an allocation fails. This happens only for more than 16 pairs.
 pub fn has_repeats<K: Ord, V>(alloc: Global, pairs: &[(K, V)]) -> Result<bool>
     ensures answer { IfOk result (λ b. b ≡ not (are_distinct K.eq (keys_of pairs.now))) }
     ensures memory { IfErr result (λ e. (e ≡ OutOfMemory) × (16 < length pairs.now)) }
@@ -26,10 +26,10 @@ pub fn has_repeats<K: Ord, V>(alloc: Global, pairs: &[(K, V)]) -> Result<bool>
     has_repeats_sorted(alloc, pairs)
 }
 
-/// Whether two of the keys are equal, where they are sorted by reference.
+/// Returns true if two of the keys are equal, by sorting references to the keys.
 ///
 /// # Errors
-/// `OutOfMemory` alone.
+/// `OutOfMemory` if an allocation fails.
 #[inline(never)]
 fn has_repeats_sorted<K: Ord, V>(alloc: Global, pairs: &[(K, V)]) -> Result<bool>
     ensures answer { IfOk result (λ b. b ≡ not (are_distinct K.eq (keys_of pairs.now))) }
@@ -41,7 +41,7 @@ fn has_repeats_sorted<K: Ord, V>(alloc: Global, pairs: &[(K, V)]) -> Result<bool
     Ok(!keys.is_sorted_by(|a, b| a < b))
 }
 
-/// Whether two of the keys are equal, where each is compared with those after it.
+/// Returns true if two of the keys are equal, by comparing each key with those after it.
 fn has_repeats_pairwise<K: PartialEq, V>(pairs: &[(K, V)]) -> bool
     ensures { result ≡ not (are_distinct K.eq (keys_of pairs.now)) }
 {

@@ -1,4 +1,4 @@
-//! How a type is read from CBOR and written to it.
+//! The traits for reading types from CBOR and writing them as CBOR.
 
 ghost use Rattle.std.specs.Prelude.{◌≡◌, ℕ, ⊤, IfErr, IfOk};
 ghost use Rattle.coset_value.specs.Item.{Item};
@@ -21,27 +21,30 @@ use coset_cbor::ser::write_owned_value;
 use coset_cbor::value::Value;
 use std::alloc::Global;
 
-/// A type whose values represent items of CBOR.
+/// A type whose values represent CBOR items.
 ///
-/// An implementer says how contracts see its values (`View`, `view`) and its shape: which items describe which values,
-/// what a value is written as, and which errors name a fault in an item. It proves that an item describes at most
-/// one value, and none where a fault is in it.
+/// An implementer states how contracts see its values (`View`, `view`), and its shape. The shape
+/// says which items describe which values. It also says what each value is written as, and which
+/// errors name a fault in an item. The implementer proves that an item describes at most one value,
+/// and no value if a fault is in the item.
 pub trait AsCborValue: Sized {
-    /// What contracts see of a value: all of it but where it lies in memory.
+    /// What contracts see of a value: everything except its place in memory.
     ghost View: { Type 0 };
 
     ghost view: { Self → View };
 
-    /// Which items represent which values, what a value is written as, and what may be wrong with an item.
+    /// The shape of the type.
     ghost shape: { Shape View };
 
-    /// Of which items reading may run out of memory: of each, where a type doesn't say.
+    /// The items for which reading may run out of memory. By default, every item.
     ghost allocates: { Item → Type 0 } = { λ v. ⊤ };
 
     /// Reads a value from an item.
     ///
     /// # Errors
-    /// `OutOfMemory`, only where `allocates` says so; or a fault that is in the item, which then describes no value.
+    /// - `OutOfMemory` if an allocation fails. This happens only for items for which `allocates`
+    ///   holds.
+    /// - A fault in the item, which then describes no value.
     fn from_cbor_value(alloc: Global, value: Value) -> Result<Self>
         ensures read { Reads shape view (value_item value) result }
         ensures memory { IfErr result (λ e. e ≡ OutOfMemory → allocates (value_item value)) };
@@ -49,22 +52,24 @@ pub trait AsCborValue: Sized {
     /// Makes the item that the value is written as.
     ///
     /// # Errors
-    /// `OutOfMemory`, or `DuplicateMapKey`, only where the value has no such item.
+    /// - `OutOfMemory` if an allocation fails.
+    /// - `DuplicateMapKey` if the value has no such item.
     fn to_cbor_value(self, alloc: Global) -> Result<Value>
         ensures { Images (shape.image (view self)) value_item result };
 
     /// An item describes at most one value.
     ghost unique: { (v : Item) (x y : View) → shape.describes v x → shape.describes v y → x ≡ y };
 
-    /// Where a fault is in an item, it describes no value.
+    /// An item with a fault describes no value.
     ghost sound: { (v : Item) (x : View) (e : CoseError) → shape.describes v x → shape.faults v e
         → ⊥ };
 }
 
-/// The one item that the bytes are, lent. It takes no memory.
+/// Returns the one item that `s` encodes, borrowed. Allocates nothing.
 ///
 /// # Errors
-/// Why they aren't one item within 256 levels (`DecodeFailed`), or that others follow it (`ExtraneousData`).
+/// - `DecodeFailed` if no item within 256 levels is at the start of the bytes.
+/// - `ExtraneousData` if other bytes follow the item.
 pub fn whole_item(s: &[u8]) -> Result<Pull<'_>>
     ensures whole { ReadsWhole pull_item s.now result }
     ensures bytes { IfOk result (λ p. pull_bytes p ≡ s.now) }
@@ -78,7 +83,7 @@ pub fn whole_item(s: &[u8]) -> Result<Pull<'_>>
     Ok(pull)
 }
 
-/// The one item that the bytes are.
+/// Decodes the one item that `s` encodes into an owned value.
 fn whole_value(alloc: Global, s: &[u8]) -> Result<Value>
     ensures whole { ReadsWhole value_item s.now result }
     ensures memory { AllocatesForItems s.now result }
@@ -86,7 +91,7 @@ fn whole_value(alloc: Global, s: &[u8]) -> Result<Value>
     Ok(whole_item(s)?.to_value(alloc)?)
 }
 
-/// The shortest encoding of an item (RFC 8949, section 4.2.1).
+/// Returns the shortest encoding of an item (RFC 8949, section 4.2.1).
 fn encoding_of(alloc: Global, value: Value) -> Result<Vec<u8>>
     ensures { Writes (Some (value_item value)) (λ b. b.items) result }
 {
@@ -95,14 +100,19 @@ fn encoding_of(alloc: Global, value: Value) -> Result<Vec<u8>>
     Ok(encoded)
 }
 
-/// Reading from bytes, and writing to them.
+/// A type that is read from bytes and written to bytes.
 pub trait CborSerializable: AsCborValue {
-    /// Reads a value from the one item that the bytes are.
+    /// Reads a value from bytes that are one item.
     ///
     /// # Errors
-    /// The first fault found: the bytes aren't an item within 256 levels (`DecodeFailed`), others follow it
-    /// (`ExtraneousData`), or a fault of the type is in it; the bytes then describe no value. Or `OutOfMemory`, only
-    /// where the bytes are one item: others are refused without asking for memory.
+    /// - `DecodeFailed` if no item within 256 levels is at the start of the bytes.
+    /// - `ExtraneousData` if other bytes follow the item.
+    /// - A fault of the type in the item.
+    /// - `OutOfMemory` if an allocation fails. This happens only if the bytes are one item, because
+    ///   other bytes are refused without allocating.
+    ///
+    /// The first fault found is returned. Unless the error is `OutOfMemory`, the bytes then
+    /// describe no value.
     fn from_slice(alloc: Global, s: &[u8]) -> Result<Self>
         ensures read { ReadsSlice Self.shape Self.view s.now result }
         ensures refused { RefusesSlice Self.shape s.now result }
@@ -114,7 +124,8 @@ pub trait CborSerializable: AsCborValue {
     /// Writes the value as the shortest encoding of its item (RFC 8949, section 4.2.1).
     ///
     /// # Errors
-    /// `OutOfMemory`, or `DuplicateMapKey`, only where the value has no item.
+    /// - `OutOfMemory` if an allocation fails.
+    /// - `DuplicateMapKey` if the value has no item.
     fn to_vec(self, alloc: Global) -> Result<Vec<u8>>
         ensures { Writes (Self.shape.image (Self.view self)) (λ b. b.items) result }
     {
@@ -122,17 +133,21 @@ pub trait CborSerializable: AsCborValue {
     }
 }
 
-/// A type whose shape keeps the three laws: an item describes at most one value; what an item describes is written as an
-/// item that describes the same value and is no deeper; and where a fault is in an item, it describes no value.
+/// A type whose shape obeys three laws.
 ///
-/// An implementer proves them in one line, from the laws of the parts that its shape is made of. What follows of each
-/// such type is said by the functions of [`laws`](crate::laws) over this trait.
+/// - An item describes at most one value.
+/// - If an item describes a value, the value is written as an item no deeper, which describes the
+///   same value.
+/// - An item with a fault describes no value.
+///
+/// An implementer proves these laws in one line, from the laws of the parts of its shape. The
+/// functions of [`laws`](crate::laws) say what follows for every such type.
 pub trait Lawful: AsCborValue {
-    /// The laws of its shape.
+    /// The laws of the shape.
     ghost laws: { LawfulShape Self.View Self.shape };
 }
 
-/// What a tag of that number encloses, and any other value as it is.
+/// Returns the value that a tag of this number encloses, or any other value unchanged.
 fn value_without_tag(number: u64, value: Value) -> Value
     ensures { value_item result ≡ untagged number (value_item value) }
 {
@@ -148,17 +163,19 @@ fn value_without_tag(number: u64, value: Value) -> Value
     }
 }
 
-/// Reading and writing under a tag of the type's own (RFC 8949, section 3.4).
+/// A type that is read and written under its own tag (RFC 8949, section 3.4).
 pub trait TaggedCborSerializable: AsCborValue {
     ghost TAG: { ℕ };
 
     /// The number of the tag.
     const TAG: u64;
 
-    /// Reads a value from the one item that the bytes are, a tag of this number on the item of the value.
+    /// Reads a value from bytes that are one item: a tag of this number around the item of the
+    /// value.
     ///
     /// # Errors
-    /// The same as [`CborSerializable::from_slice`]; an item without a tag, or with another, is `UnexpectedItem`.
+    /// - The errors of [`CborSerializable::from_slice`].
+    /// - `UnexpectedItem` if the item has no tag or another tag.
     fn from_tagged_slice(alloc: Global, s: &[u8]) -> Result<Self>
         ensures read { ReadsSlice (tagged TAG Self.shape) Self.view s.now result }
         ensures refused { RefusesSlice (tagged TAG Self.shape) s.now result }
@@ -171,12 +188,15 @@ pub trait TaggedCborSerializable: AsCborValue {
         Self::from_cbor_value(alloc, Box::into_inner(value))
     }
 
-    /// Reads a value from the one item that the bytes are: from what a tag of this number encloses, or where the item is
-    /// no such tag, from the item itself. So who takes both forms of a message (`COSE_Tagged_Message` and
-    /// `COSE_Untagged_Message` of RFC 8152, section 2) asks once.
+    /// Reads a value from bytes that are one item, with or without the tag.
+    ///
+    /// If the item is a tag of this number, the value is read from the enclosed item, otherwise
+    /// from the item itself. So a caller that accepts both forms of a message needs one call
+    /// (`COSE_Tagged_Message` and `COSE_Untagged_Message` of RFC 8152, section 2).
     ///
     /// # Errors
-    /// The same as [`CborSerializable::from_slice`]: where the item is a tag of this number, a fault of what it encloses.
+    /// The same as [`CborSerializable::from_slice`]. If the item is a tag of this number, the fault
+    /// is in the enclosed item.
     fn from_any_slice(alloc: Global, s: &[u8]) -> Result<Self>
         ensures read { ReadsSlice (perhaps_tagged TAG Self.shape) Self.view s.now result }
         ensures refused { RefusesSlice (perhaps_tagged TAG Self.shape) s.now result }
@@ -186,7 +206,8 @@ pub trait TaggedCborSerializable: AsCborValue {
         Self::from_cbor_value(alloc, value_without_tag(Self::TAG, value))
     }
 
-    /// Writes the value as the shortest encoding of its item under the tag (RFC 8949, section 4.2.1).
+    /// Writes the value as the shortest encoding of its item under the tag (RFC 8949, section
+    /// 4.2.1).
     ///
     /// # Errors
     /// The same as [`CborSerializable::to_vec`].
@@ -198,7 +219,7 @@ pub trait TaggedCborSerializable: AsCborValue {
     }
 }
 
-/// A value is read and written as it is.
+/// A `Value` is read and written unchanged.
 impl AsCborValue for Value {
     ghost use Rattle.coset_codec.specs.ShapeLaws.{any_laws};
 
@@ -214,7 +235,7 @@ impl AsCborValue for Value {
 
     ghost sound = { any_laws.sound };
 
-    /// It takes no memory.
+    /// Allocates nothing.
     fn from_cbor_value(_alloc: Global, value: Value) -> Result<Value> {
         Ok(value)
     }
@@ -232,16 +253,17 @@ impl Lawful for Value {
     ghost laws = { any_laws };
 }
 
-/// A type that is read straight from lent bytes, without a value in between.
+/// A type that is read directly from borrowed bytes, without a `Value` in between.
 pub trait FromPull: AsCborValue {
-    /// Reads a value from a lent item.
+    /// Reads a value from a borrowed item.
     ///
     /// # Errors
     /// The same as [`AsCborValue::from_cbor_value`].
     fn from_pull(alloc: Global, pull: Pull<'_>) -> Result<Self>
         ensures { Reads Self.shape Self.view (pull_item pull.entry) result };
 
-    /// Reads a value from the item at the input, and leaves that just behind it, also where it is refused.
+    /// Reads a value from the item at the input. Leaves the input just after the item, even if the
+    /// item is refused.
     ///
     /// # Errors
     /// The same as [`AsCborValue::from_cbor_value`].
@@ -266,10 +288,10 @@ impl FromPull for Value {
     }
 }
 
-/// The item under the tag of that number.
+/// Returns the item under the tag of this number.
 ///
 /// # Errors
-/// `UnexpectedItem` of another tag, and of an item without one.
+/// `UnexpectedItem` if the item has another tag or none.
 pub(crate) fn item_under_tag(number: u64, pull: Pull<'_>) -> Result<Pull<'_>>
     ensures { Untags number (pull_item pull.entry) (λ p. pull_item p) result }
 {
@@ -280,7 +302,7 @@ pub(crate) fn item_under_tag(number: u64, pull: Pull<'_>) -> Result<Pull<'_>>
     }
 }
 
-/// What the tag of that number encloses, and any other item as it is.
+/// Returns the item that a tag of this number encloses, or any other item unchanged.
 pub(crate) fn item_without_tag(number: u64, pull: Pull<'_>) -> Pull<'_>
     ensures { pull_item result ≡ untagged number (pull_item pull.entry) }
 {

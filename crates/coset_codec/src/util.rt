@@ -1,4 +1,4 @@
-//! Values of one kind, or the error that says which kind was wanted; and arrays of what values are written as.
+//! Values of an expected kind, the errors for another kind, and arrays made from values.
 
 ghost use Rattle.std.specs.Prelude.{◌≡◌, List, Ok, Err, Some, option_map, IfOk, IfErr, codes, string_bytes, MatchResult};
 ghost use Rattle.std.specs.Iterator.{IsFinite, Drains, Yields};
@@ -20,7 +20,7 @@ use coset_cbor::de::Pull;
 use coset_cbor::value::{Integer, Value};
 use std::alloc::{AllocError, Global};
 
-/// The name of a value's kind in errors.
+/// Returns the name of a value's kind in errors.
 fn kind_name(value: &Value) -> &'static str
     ensures { result.now ≡ kind (value_item value.now) }
 {
@@ -37,7 +37,7 @@ fn kind_name(value: &Value) -> &'static str
     }
 }
 
-/// The error for a value of another kind than `want`.
+/// Returns the error for a value of another kind than `want`.
 pub(crate) fn type_error(value: &Value, want: &'static str) -> CoseError
     ensures { IsUnexpected result × Says (kind (value_item value.now)) want.now result }
 {
@@ -47,7 +47,7 @@ pub(crate) fn type_error(value: &Value, want: &'static str) -> CoseError
 /// Refuses a value of another kind than `want`.
 ///
 /// # Errors
-/// `UnexpectedItem` with the name of the value's kind, and `want`, always.
+/// `UnexpectedItem` with the name of the value's kind and `want`, always.
 pub fn cbor_type_error<T>(value: &Value, want: &'static str) -> Result<T>
     ensures { MatchResult result (λ _. ⊥) (λ e. IsUnexpected e
         × Says (kind (value_item value.now)) want.now e) }
@@ -55,7 +55,7 @@ pub fn cbor_type_error<T>(value: &Value, want: &'static str) -> Result<T>
     Err(type_error(value, want))
 }
 
-/// The name of a lent item's kind in errors.
+/// Returns the name of a borrowed item's kind in errors.
 fn pull_kind_name(pull: Pull<'_>) -> &'static str
     ensures { result.now ≡ kind (pull_item pull.entry) }
 {
@@ -80,55 +80,59 @@ fn pull_kind_name(pull: Pull<'_>) -> &'static str
     }
 }
 
-/// The error for a lent item of another kind than `want`.
+/// Returns the error for a borrowed item of another kind than `want`.
 pub fn pull_type_error(pull: Pull<'_>, want: &'static str) -> CoseError
     ensures { IsUnexpected result × Says (kind (pull_item pull.entry)) want.now result }
 {
     CoseError::UnexpectedItem(pull_kind_name(pull), want)
 }
 
-/// What a value holds, where it is of the kind that is asked for.
+/// Takes the content out of a value of an expected kind. Only `try_as_array_then_convert`
+/// allocates.
 ///
 /// # Errors
-/// `UnexpectedItem`, with the name of the value's kind and that of the kind that was asked for. None of these calls
-/// takes memory.
+/// `UnexpectedItem` if the value is of another kind, with the names of that kind and of the
+/// expected one.
 pub trait ValueTryAs: Sized {
     /// The item that the value represents.
     ghost item: { Self → Item };
 
-    /// The integer.
+    /// Returns the number of an integer.
     fn try_as_integer(self) -> Result<Integer>
         ensures { TriesAs as_integer (λ n. n) (codes "int") (item self) result };
 
-    /// The bytes of a byte string.
+    /// Returns the bytes of a byte string.
     fn try_as_bytes(self) -> Result<Vec<u8>>
         ensures { TriesAs as_bytes (λ b. b.items) (codes "bstr") (item self) result };
 
-    /// The bytes of a byte string that isn't empty; an empty one is `UnexpectedItem` too.
+    /// Returns the bytes of a byte string that is not empty. An empty byte string is
+    /// `UnexpectedItem` too.
     fn try_as_nonempty_bytes(self) -> Result<Vec<u8>>
         ensures { TriesAsFilled (λ b. b.items) (item self) result };
 
-    /// The elements of an array.
+    /// Returns the elements of an array.
     fn try_as_array(self) -> Result<Vec<Value>>
         ensures { TriesAs as_array (λ a. value_items a.items) (codes "array") (item self) result };
 
-    /// The pairs of a map.
+    /// Returns the pairs of a map.
     fn try_as_map(self) -> Result<Vec<(Value, Value)>>
         ensures { TriesAs as_map (λ m. value_pairs m.items) (codes "map") (item self) result };
 
-    /// The number of a tag, and the value that it encloses.
+    /// Returns the number of a tag, and the value that it encloses.
     fn try_as_tag(self) -> Result<(u64, Box<Value>)>
         ensures { TriesAs as_tag (λ t. (t.0, value_item t.1.value)) (codes "tag")
             (item self) result };
 
-    /// The text of a text string.
+    /// Returns the text of a text string.
     fn try_as_string(self) -> Result<String>
         ensures { TriesAs as_text string_bytes (codes "tstr") (item self) result };
 
-    /// What `f` makes of the elements of an array, in order.
+    /// Applies `f` to each element of an array, in order, and returns the results.
     ///
     /// # Errors
-    /// `Coset`: the same as of the other calls, or `OutOfMemory`. `Caller`: the first error that `f` returns.
+    /// - `Coset` with `UnexpectedItem` if the value is no array, or with `OutOfMemory` if an
+    ///   allocation fails.
+    /// - `Caller` with the first error that `f` returns.
     fn try_as_array_then_convert<F, T, E>(self, alloc: Global, f: F) -> Result<Vec<T>, CallError<E>>
     where
         F: Fn(Value) -> Result<T, E> + Drop,
@@ -142,7 +146,7 @@ pub trait ValueTryAs: Sized {
             (RefusesArray (λ v t. F.post f v (Ok t)) (λ v e. F.post f v (Err e)) (item self)) };
 }
 
-/// What `f` makes of each of the values, in order.
+/// Applies `f` to each value, in order, and returns the results.
 fn convert<F, T, E>(alloc: Global, values: Vec<Value>, f: F) -> Result<Vec<T>, CallError<E>>
 where
     F: Fn(Value) -> Result<T, E> + Drop,
@@ -233,10 +237,11 @@ impl ValueTryAs for Value {
     }
 }
 
-/// The array of the items that these are written as, in order.
+/// Returns the array of the items that the values are written as, in order.
 ///
 /// # Errors
-/// `OutOfMemory`, or `DuplicateMapKey` of the first that has no item.
+/// - `OutOfMemory` if an allocation fails.
+/// - `DuplicateMapKey` for the first value that has no item.
 pub fn to_cbor_array<C: IntoIterator<Item: AsCborValue + Drop>>(
     alloc: Global,
     values: C,
@@ -262,10 +267,10 @@ where
     Ok(Value::Array(elements))
 }
 
-/// A copy of a byte string that may be missing.
+/// Copies a byte string that may be missing.
 ///
 /// # Errors
-/// That memory ran out.
+/// `AllocError` if an allocation fails.
 pub fn copy_bstr(bytes: &Option<Vec<u8>>) -> Result<Option<Vec<u8>>, AllocError>
     ensures { IfOk result (λ copy. option_map (λ b. b.items) copy
         ≡ option_map (λ b. b.items) bytes.now) }

@@ -1,4 +1,4 @@
-//! Writing: items appended to bytes, straight from where values lie.
+//! Writing: appends encodings to bytes, directly from the values in memory.
 
 mod encode;
 mod map;

@@ -14,7 +14,7 @@ signatures-pushed : (ss : List SignatureView) (s : SignatureView) → signatures
 signatures-pushed [] s = refl
 signatures-pushed (x ∷ ss) s = ap (and_signatures x) (signatures-pushed ss s)
 
--- a header with other counter signatures, or with others of version 2, and all else as it was
+-- The view of a header with other counter signatures, otherwise unchanged. `with_second` replaces those of version 2.
 abbrev with_first : (h : Header) (ss : Signatures) → HeaderView
 with_first h ss = header_of (fields_level (out-Header h)) ss (signatures_of (map countersignature_view (out-Header h).countersignatures_v2.items))
 

@@ -1,4 +1,4 @@
--- What calls answer that take a closure.
+-- The results of calls that take a closure.
 use Rattle.std.proofs.Common.{◌≡◌, ℕ, List, Option, Result, Ok, Err, sym, subst}
 use Rattle.std.specs.Prelude.{IsErrAnd}
 use Rattle.std.specs.Borrow.{Bor}
@@ -14,7 +14,7 @@ module _ {F V A B E : Type 0} (g : Once F (Bor (List ℕ) × Unit {0}) (Result V
   refused (Caller e) h = h
   refused (Coset e) h = h
 
-  -- an error that is passed on, whatever would have been stored
+  -- An error that is passed on, however the result would have been stored.
   pub passed_on : (e : CallError E) (r : Result B (CallError E)) → IsErrAnd r (λ x. x ≡ e) → TriesToCreate g f o kept (Err e) → TriesToCreate g f o stores r
   passed_on e (Ok x) is h = absurd is
   passed_on e (Err x) is h = subst (λ y. TriesToCreate g f o stores (Err y)) (sym is) (refused e h)

@@ -1,4 +1,4 @@
--- A header's pairs, read one after the other.
+-- Reading the pairs of a header one after the other.
 use Rattle.std.proofs.Common.{◌≡◌, ◌⊎◌, true, false, Option, Some, None, Result, Ok, Err, refl, sym, subst, inl, inr}
 use Rattle.std.specs.Prelude.{IsErrAnd}
 use Rattle.coset_value.specs.Item.{Item, dict, Pairs, no_pairs, pair}
@@ -21,11 +21,12 @@ use Rattle.coset_core.specs.FieldLaws.{partial_fields_laws}
 use Rattle.coset_core.specs.Filling.{WalksTo, AtHeld, AtEnd, AtFault, FillsSome, FillsFields, IsDistinctRest, label_of}
 use Rattle.coset_core.specs.declared.header.reading.Version.{Version}
 
--- the value of the next pair is at t, whose label this is; or none is left; or the next pair's key is at fault
+-- The input t is at the value of the next pair, whose label was read. Otherwise no pair is left, or the pair's key has
+-- a fault.
 abbrev pub NextsLabel : Pairs → State → State → MapEntries → Result (Option Label) CoseError → Type 0
 NextsLabel ps t z m r = NextsKey label label_view ps t z m r
 
--- some pairs were read, and others are left
+-- Some pairs were read, and the others are left.
 pub record SoFar (all : Pairs) (o : Versions (Option Item)) (f : FieldsView) (t z : State) (m : MapEntries) : Type 0 where
   pub left : Pairs
   pub walks : WalksTo all f o left
@@ -62,7 +63,7 @@ at_key all o f s t z m n e w h = record {
   faulty = λ i. inl (inl (h.5 i));
 }
 
--- a value that was read, and one that was refused
+-- A value was read, or it was refused.
 pub on_value :
     (all : Pairs) (o : Versions (Option Item)) (f g : FieldsView) (s t u z : State) (m n : MapEntries) (l : Label) → (w : SoFar all o f s z m)
     → NextsLabel w.left t z n (Ok (Some l))
@@ -98,14 +99,14 @@ at_value all o f g s t u z m n l e w h same refused =
     fault (inl r) = inl (inr (label_view l, h.5, r))
     fault (inr b) = inr (label_view l, h.5, b)
 
--- an error that is passed on
+-- An error that is passed on.
 pub stops :
     (all : Pairs) (o : Versions (Option Item)) (f : FieldsView) (t z : State) (n : MapEntries) (r : Result (Option Version) CoseError) (e : CoseError)
     → IsErrAnd r (λ x. x ≡ e) → AtFault all o f t z n e → FillsSome all o z f t n r
 stops all o f t z n (Ok b) e h a = absurd h
 stops all o f t z n (Err x) e h a = subst (AtFault all o f t z n) (sym h) a
 
--- ---- labels of the rest that repeat
+-- ---- repeated labels of the rest
 
 walked : (all : Pairs) (o : Versions (Option Item)) (f : FieldsView) (t z : State) (m : MapEntries) (r : Result (Option Version) CoseError)
     → FillsSome all o z f t m r → (left : Pairs) × WalksTo all f o left
@@ -113,7 +114,7 @@ walked all o f t z m (Ok (Some version)) s = (pair s.key s.value s.others, s.wal
 walked all o f t z m (Ok None) s = (no_pairs, s.walks)
 walked all o f t z m (Err e) s = (pair s.key s.value s.others, s.walks)
 
--- they don't
+-- The labels do not repeat.
 pub distinct :
     (all : Pairs) (o : Versions (Option Item)) (f : FieldsView) (t z : State) (m : MapEntries) (r : Result (Option Version) CoseError)
     → FillsSome all o z f t m r → IsDistinctRest f → FillsFields all o z f t m r
@@ -128,7 +129,7 @@ distinct all o f t z m (Err e) s d = (s.others, s.within, λ i. fault (s.faulty 
         (pair s.key s.value s.others) s.others s.key s.value (parts_of (f, o)) e refl s.walks refl g)
     fault (inr g) = inr (all, refl, record { key = s.key; value = s.value; left = s.others; before = parts_of (f, o); walked = s.walks; excluded = g })
 
--- they do, or there was no memory to ask
+-- The labels repeat, or an allocation failed in the check.
 pub repeats :
     (all : Pairs) (o : Versions (Option Item)) (f : FieldsView) (s t z : State) (m : MapEntries) (r q : Result (Option Version) CoseError) (e : CoseError)
     → FillsSome all o z f s m r

@@ -1,4 +1,4 @@
--- Headers and signatures read forward, from what their parts answer.
+-- Reading headers and signatures forward, from the results for their parts.
 use Rattle.std.proofs.Common.{◌≡◌, ℕ, Bool, List, [], ◌∷◌, map, true, false, true≢false, Option, Some, None, Result, Ok, Err, refl, sym, ap, subst, ◌∙◌, inl}
 use Rattle.std.proofs.Common.{inr}
 use Rattle.std.specs.Prelude.{IsErrAnd}
@@ -40,7 +40,7 @@ use Rattle.coset_core.proofs.Reading.{no_string, header_whole}
 
 -- ---- a header's map
 
--- an item that is no map
+-- An item that is not a map.
 no_map : (v : Item) (e : CoseError) → as_map v ≡ None → IsUnexpected e → partial_header.faults v e
 unfolding partial_header
 no_map v e m u = inl (inl (m, u))
@@ -50,7 +50,7 @@ pub not_entered :
     → EntersMap v t z (Err e) → (t ≡ z) × Fills (layered_header k) v h (stored e r)
 not_entered k v h t z r e y is m = (m.0, not_filled (layered_header k) h v r e y is (λ _. partial_header_fault k v e (no_map v e m.1 m.2)))
 
--- an empty header, of whose pairs none was read
+-- An empty header, before any pair was read.
 fields_opened : (h : Header) → header_view h ≡ empty_header → fields_view h ≡ empty_fields
 fields_opened h e = sym (ap fields_in (header-opened h)) ∙ ap fields_in e
 
@@ -69,7 +69,7 @@ set_out h all e =
     (sets_out names names_laws (fields (optional any) (optional any)) partial_fields_laws all (parts_of (empty_fields, (None, None)))
     (refl, (refl, (refl, (refl, (refl, (refl, (refl, (refl, (refl, tt))))))))) refl)
 
--- a fault of the pairs
+-- A fault of the pairs is a fault of the map.
 gather_fault : (v : Item) (e : CoseError) → GatherFaults names (fields (optional any) (optional any)) excludes v e → partial_header.faults v e
 unfolding partial_header
 gather_fault v e (inl g) = inl g
@@ -78,7 +78,7 @@ gather_fault v e (inr g) = barred_fault v e g
 abbrev pub Passed : MapEntries → State → State → Type 0
 Passed m t z = (left : Pairs) × PairsWithin m left t z
 
--- some pairs were read: the fields that they make, and the counter signatures that the values of labels 7 and 11 hold
+-- The state after some pairs: the fields that they make, and the counter signatures in the values of labels 7 and 11.
 pub record HeaderSoFar (k : ℕ) (all : Pairs) (h : Header) (t z : State) (m : MapEntries) : Type 0 where
   pub values : Versions (Option Item)
   pub left : Pairs
@@ -87,7 +87,7 @@ pub record HeaderSoFar (k : ℕ) (all : Pairs) (h : Header) (t z : State) (m : M
   pub first : (unless_empty (signatures_within k)).describes values.0 (held h).0
   pub second : (unless_empty (signatures_within k)).describes values.1 (held h).1
 
--- none was read
+-- The state before any pair.
 pub so_far_none : (k : ℕ) (all : Pairs) (h : Header) (t z : State) (m : MapEntries) → header_view h ≡ empty_header → PairsWithin m all t z
     → HeaderSoFar k all h t z m
 so_far_none k all h t z m e within = record {
@@ -99,7 +99,7 @@ so_far_none k all h t z m e within = record {
   second = ap (λ x. x.1) (none_held_yet h e);
 }
 
--- the next pairs are at fault
+-- One of the next pairs has a fault.
 pub pairs_refused :
     (k : ℕ) (all : Pairs) (o : Versions (Option Item)) (z : State) (f : FieldsView) (t : State) (m : MapEntries) (h : HeaderView)
     (r : Result (Unit {0}) ErrorStored) (e : CoseError) (y : ErrorStored) → IsErrAnd r (λ i. i ≡ y)
@@ -109,7 +109,7 @@ pairs_refused k all o z f t m h r e y is p = (
   not_filled (layered_header k) h (dict all) r e y is (λ n. partial_header_fault k (dict all) e (gather_fault (dict all) e (p.2 n))),
 )
 
--- all pairs were read
+-- All pairs were read.
 unread_all : (all : Pairs) (o : Versions (Option Item)) (f : FieldsView) (t z : State) (m : MapEntries) → AtEnd all o f t z m → IsDistinctRest f → HasOneIv f
     → partial_header.describes (dict all) (f, o)
 unfolding partial_header
@@ -132,7 +132,7 @@ ends k all z g h s t m n p q one same =
           (unread_all all p.values (fields_view h) t z n q.0 q.1 one) first second) (header-opened h),
     )
 
--- one of some pairs
+-- A pair is one of the pairs of the whole map.
 some_there : (P : Item → Item → Type 0) (done others : Pairs) (k v : Item) → P k v → SomePair P (and_pairs done (pair k v others))
 some_there P no_pairs others k v p = inl p
 some_there P (pair j w done) others k v p = inr (some_there P done others k v p)
@@ -150,7 +150,7 @@ held_there version all o f t z m s = (
       (some_there (λ j w. HoldsSignatures j × (w ≡ s.value)) s.walks.done s.others s.key s.value (named version s.key s.held, refl)),
 )
 
--- the value was refused, or there was no memory to keep what was read of it
+-- The value of counter signatures was refused, or there was no memory to store the signatures.
 pub counter_signatures_refused :
     (version : Version) (k : ℕ) (all : Pairs) (o : Versions (Option Item)) (f : FieldsView) (t u z : State) (m : MapEntries) (xs : List SignatureView)
     (h : HeaderView) (r : Result (Unit {0}) ErrorStored) (e : CoseError) (y : ErrorStored)
@@ -174,7 +174,7 @@ not_kept version k all o f t u z m xs h r e y is s read memory =
       not_filled (layered_header k) h (dict all) r e y is (λ n. absurd (n memory)),
     )
 
--- the value was read, and is kept
+-- The value of counter signatures was read and stored.
 taken :
     (version : Version) (all : Pairs) (f : FieldsView) (o : Versions (Option Item)) (key value : Item) (others : Pairs)
     → WalksTo all f o (pair key value others) → label.describes key (label_of version) → at_version version o ≡ None
@@ -195,7 +195,7 @@ never_empty k w d = go d.0 d.1 d.2
     go no_items e each = never_none w e
     go (item v vs) e each = each
 
--- where the list is empty, there was no value
+-- If the header has no signatures of a version yet, no value of its label was read.
 no_value : (k : ℕ) (o : Option Item) (xs : List SignatureView) → (unless_empty (signatures_within k)).describes o xs → is_nonempty xs ≡ false → o ≡ None
 no_value k None xs d e = refl
 no_value k (Some w) [] d e = absurd (never_empty k w d)
@@ -233,7 +233,7 @@ so_far_more V2 k all g h i s t u z m n xs p at same empty read kept =
       second = subst (λ x. (unless_empty (signatures_within k)).describes (Some at.value) x.1) (sym kept.signatures) here.1;
     }
 
--- the label of a list that is filled was there before
+-- If the header has signatures of a version already, a value of its label was read.
 some_value : (k : ℕ) (o : Option Item) (xs : List SignatureView) → (unless_empty (signatures_within k)).describes o xs → is_nonempty xs ≡ true → o ≡ None → ⊥
 some_value k None xs d e none = absurd (true≢false (sym e ∙ ap is_nonempty d))
 some_value k (Some w) xs d e none = absurd (cc)
@@ -268,7 +268,7 @@ second_refused version k all g h s t u z m n x r p at same filled read =
     there V2 filled = some_value k p.values.1 (held h).1
         (subst (λ ys. (unless_empty (signatures_within k)).describes p.values.1 (map countersignature_view ys)) (sym (ap (λ x. x.1) same)) p.second) filled
 
--- ---- one, or several
+-- ---- one signature or several
 
 ones_of : {A : Type 0} (s : Shape A) (v : Item) (vs : Items) (xs : List A) (r : Result (Unit {0}) CoseError) → one_or_more v ≡ Some vs → FillsEach s vs xs r
     → Fills (one_or_many (any_number s)) v xs r
@@ -304,7 +304,7 @@ pub elements_refused :
     → ((left : Items) × AreWithin m left t z) × Fills (layered_signature k) (array vs) x (stored e r)
 elements_refused k vs t z m o f x r e y is b = ((b.0, b.1), not_filled (layered_signature k) x (array vs) r e y is (b.2 k))
 
--- the first place was read, and is no byte string
+-- The first element was read, and is not a byte string.
 pub first_refused :
     (vs : Items) (s t x z : State) (m n : ArrayElements) (e : CoseError) → Nexts vs s z m true → ReadsAt s t (λ v. UnlessMemory e (bstr.faults v))
     → ((us : Items) → AreWithin m us t z → Nexts us x z n true)
@@ -315,7 +315,7 @@ first_refused vs s t x z m n e p read next =
     let b = next p.1 (subst (λ y. AreWithin m p.1 y z) (sym here.0) p.5) in
     (p.0, b.0, b.1, b.2, p.3 ∙ ap (item p.0) b.3, b.4, b.5, λ k i. no_string k p.0 e (here.1 i))
 
--- the second place was read, whatever was returned
+-- The second element was read, with any result.
 pub record Second (vs : Items) (o : Option (List ℕ)) (f : CoseError) (b : Bool) (u z : State) (m : ArrayElements) (P : Item → Type 0) : Type 0 where
   pub first : Item
   pub second : Item
@@ -333,7 +333,7 @@ second_read vs t u z m o f b P q read =
     let here = read q.1 q.3 q.5 in
     record { first = q.0; second = q.1; others = q.2; is = q.4; within = subst (λ y. AreWithin m q.2 y z) (sym here.0) q.6; kept = q.7; holds = here.1 }
 
--- the third place is the last, and no byte string
+-- The third element is the last, and is not a byte string.
 pub third_refused :
     (vs : Items) (s t x z : State) (m n : ArrayElements) (b : List ℕ) (r : Result (Unit {0}) ErrorStored) (e : CoseError) (y : ErrorStored)
     → IsErrAnd r (λ i. i ≡ y)
@@ -361,13 +361,13 @@ last_refused k vs u w z m n o f i P b x r e y is s p = (
       (subst (λ ws. UnlessMemory e ((layered_signature k).faults (array ws))) (sym s.is) (p.2 s.first s.second k)),
 )
 
--- all elements, of which the last is a byte string
+-- The array is the first two elements and a last one, which is a byte string.
 all_elements : (vs : Items) (o : Option (List ℕ)) (f : CoseError) (i : Bool) (u w z : State) (m n : ArrayElements) (P : Item → Type 0) (b : List ℕ)
     → (s : Second vs o f i u z m P) → (p : EndsElements s.others w z n b (Ok tt))
     → vs ≡ item s.first (item s.second (item p.0 no_items))
 all_elements vs o f i u w z m n P b s p = s.is ∙ ap (λ ws. item s.first (item s.second ws)) p.1
 
--- the second place was refused
+-- The second element was refused.
 pub unprotected_refused :
     (k : ℕ) (vs : Items) (u w z : State) (m n : ArrayElements) (o : Option (List ℕ)) (f : CoseError) (i : Bool) (b : List ℕ) (x : SignatureView)
     (r : Result (Unit {0}) ErrorStored) (e g : CoseError) (y : ErrorStored)
@@ -382,7 +382,7 @@ unprotected_refused k vs u w z m n o f i b x r e g y is same s p =
           (λ h. inr (item s.first (item s.second (item p.0 no_items)), refl, inr (λ j. j tt, inr (inl (s.holds h))))))),
     )
 
--- the first place is no byte string
+-- The first element is not a byte string.
 pub protected_refused :
     (k : ℕ) (vs : Items) (u w z : State) (m n : ArrayElements) (o : Option (List ℕ)) (f : CoseError) (P : Item → Type 0) (b : List ℕ) (x : SignatureView)
     → (s : Second vs o f false u z m P)

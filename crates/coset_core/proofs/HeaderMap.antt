@@ -1,4 +1,4 @@
--- A header's shape is the map of its fields with the signatures' shape in it.
+-- The shape of a header is the map of its fields, with the shape of signatures in it.
 use Rattle.std.proofs.Common.{◌≡◌, ◌⊎◌, ℕ, zero, suc, List, [], ◌∷◌, Option, Some, None, Bool, true, false, option_map, refl, ap, sym, subst, ◌∙◌, inl, inr}
 use Rattle.coset_value.specs.Item.{Item, Items, no_items, item, Pairs, no_pairs, pair}
 use Rattle.coset_codec.specs.declared.error.CoseError.{CoseError}
@@ -28,7 +28,7 @@ signatures-again (signature_and o p u s more) = ap (signature_and o p u s) (sign
 header-back : (h : HeaderView) → header_with (header_parts h) ≡ h
 header-back (header_of f ss ts) = λ i. header_of f (signatures-again ss i) (signatures-again ts i)
 
--- ---- what represents a header
+-- ---- items that describe a header
 
 content_told : (k : ℕ) (h : HeaderView) (b : List ℕ) → DescribesContent (IsHeader h k) (h ≡ empty_header) b
     → ContentDescribes empty_header (layered_header k) b h
@@ -72,7 +72,7 @@ header_told_so k v h d =
     let x = header_parts h in
     subst (λ g. (layered_header k).describes v g) (header-back h) (header_read_with k v x.0 x.1.0 x.1.1 d)
 
--- ---- what it is written as
+-- ---- images of headers
 
 mapped_once : (o : Option Items) → option_map Some (option_map one_or_array o) ≡ option_map (λ vs. Some (one_or_array vs)) o
 mapped_once (Some vs) = refl
@@ -85,7 +85,7 @@ listed_image k (signature_and o p u s more) =
     let images_are = images_signatures k (each_of ss) ∙ ap signatures_image (signatures-again ss) in
     ap (λ i. option_map Some (option_map one_or_array i)) images_are ∙ mapped_once (signatures_image ss)
 
--- no fields are written where one of them isn't
+-- If one field has no image, the fields have none.
 not_first : {A B C : Type 0} (f : A → B → C) (a : Option A) (o : Option B) → a ≡ None → both f a o ≡ None
 not_first f (Some a) o h = absurd (cc)
 not_first f None o h = refl
@@ -95,12 +95,12 @@ not_later f (Some a) (Some b) h = absurd (cc)
 not_later f (Some a) None h = refl
 not_later f None o h = refl
 
--- nor is a map
+-- If the fields have no image, the map has none.
 no_entries : (rest : List (Name × Item)) (b : Bool) (o : Option (List (Name × Item))) → o ≡ None → entries_image names b rest o ≡ None
 no_entries rest true o h = ap (entries_image names true rest) h
 no_entries rest false o h = refl
 
--- so a header is written as the map is, where its signatures are
+-- So the image of a header is the image of the map, given the images of its signatures.
 module _ (c : FieldShape (List SignatureView)) (f : FieldsView) (x : Versions (List SignatureView)) where
   map_image : (o p : Option (Option Item)) → c.image x.0 ≡ o → c.image x.1 ≡ p → header_item f o p ≡ (map_with c c).image (f, x)
   map_image (Some v) (Some w) h k = image_with c c f x v w h k
@@ -118,9 +118,9 @@ header_written k (header_of f ss ts) =
     (counter_signatures_item ss (signatures_image ss)) (counter_signatures_item ts (signatures_image ts))
     (listed_image k ss) (listed_image k ts)
 
--- ---- what is wrong with it
+-- ---- faults of headers
 
--- of a choice whose second part is R or S, either the choice with R, or S; also where the first part is S itself
+-- If Q gives R or S, then `IfThenElse b P Q` gives `IfThenElse b P R` or S. In `here`, P gives S.
 later : (b : Bool) (P Q R S : Type 0) → (Q → R ⊎ S) → IfThenElse b P Q → IfThenElse b P R ⊎ S
 later true P Q R S f h = inl h
 later false P Q R S f h = f h
@@ -129,7 +129,7 @@ here : (b : Bool) (P Q R S : Type 0) → (b ≡ true → P → S) → (Q → R �
 here true P Q R S g f h = inr (g refl h)
 here false P Q R S g f h = f h
 
--- of a choice whose second part passes on to another, the choice with that; also where nothing meets the first part
+-- If Q gives R, then `IfThenElse b P Q` gives `IfThenElse b P R`. In `past`, the first part is empty.
 further : (b : Bool) (P Q R : Type 0) → (Q → R) → IfThenElse b P Q → IfThenElse b P R
 further true P Q R f h = h
 further false P Q R f h = f h
@@ -138,12 +138,12 @@ past : (b : Bool) (P Q R : Type 0) → (Q → R) → IfThenElse b ⊥ Q → IfTh
 past true P Q R f h = absurd h
 past false P Q R f h = f h
 
--- label 7 or label 11
+-- The label is 7 or 11.
 abbrev IsVersion : Name → Type 0
 IsVersion m = (same_name labels.counter_signature m ≡ true) ⊎ (same_name labels.countersignature_v2 m ≡ true)
 
 module _ (s : Shape (List SignatureView)) (e : CoseError) where
-  -- the value of a field is wrong as one that is left as it is, or as signatures
+  -- A fault in the value of a field is a fault of an undecoded value, or a fault of signatures.
   field_split :
       (m : Name) (v : Item) → (fields (unless_empty s) (unless_empty s)).faults m v e
       → (fields (optional any) (optional any)).faults m v e ⊎ (IsVersion m × s.faults v e)
@@ -158,7 +158,7 @@ module _ (s : Shape (List SignatureView)) (e : CoseError) where
       here (asked labels.counter_signature) _ _ _ _ (λ b f. (inl b, f)) (
       here (asked labels.countersignature_v2) _ _ _ _ (λ b f. (inr b, f)) (λ h. inl h))))))))
 
-  -- whatever is wrong with a field that is left as it is, or with signatures, is wrong with the map
+  -- Conversely, a fault of an undecoded value or of signatures is a fault of the map.
   field_left : (m : Name) (v : Item) → (fields (optional any) (optional any)).faults m v e → (fields (unless_empty s) (unless_empty s)).faults m v e
   field_left m v =
       let asked : Name → Bool = λ l. same_name l m in
@@ -227,7 +227,7 @@ module _ (s : Shape (List SignatureView)) (e : CoseError) where
   map_held : (v : Item) → SomeCounterSignatures (λ w. s.faults w e) v → (map_with (unless_empty s) (unless_empty s)).faults v e
   map_held v h = inl (inr (h.0, h.1, inl (pairs_held h.0 h.2)))
 
--- a fault within n signatures is one of theirs
+-- A fault found within n nested signatures is a fault of the shape.
 content_faulty : (n k : ℕ) (b : List ℕ) (e : CoseError) → ContentFaults (unprotected_faults n k) b e → ContentFaults (layered_header k) b e
 unfolding layered_header
 content_faulty n k [] e f = f
@@ -285,7 +285,7 @@ header_faulty k v e f =
       | inr g ↦ map_held (signatures_within k) e v (g.0, g.1, some_faulty f.0 k e g.0 g.2)
     ]
 
--- and one of theirs lies within some number of signatures
+-- A fault of the shape is found within some number of nested signatures.
 some_found :
     (k : ℕ) (e : CoseError) (ps : Pairs) → SomePair (λ j w. HoldsSignatures j × (signatures_within k).faults w e) ps
     → (n : ℕ) × SomePair (λ j w. HoldsSignatures j × counter_signatures_faults n k w e) ps

@@ -17,11 +17,11 @@ use Rattle.coset_core.specs.Headers.{HeaderView, ProtectedView, is_empty_header,
 use Rattle.coset_core.specs.HeaderWrites.{protected_image_is}
 use Rattle.coset_core.specs.Written.{AreShortest, HoldsShortest}
 
--- those that were read
+-- If bytes were kept, they represent the header.
 pub protected_bytes-read : (p : ProtectedView) (b : List ℕ) → p.original ≡ Some b → protected_bytes p ≡ Some b
 protected_bytes-read p b e = ap (λ o. content_bytes is_empty_header header_image o p.header) e
 
--- else those of the header
+-- Otherwise, the bytes are encoded from the header.
 pub protected_bytes-fresh : (p : ProtectedView) (h : HeaderView) → p.original ≡ None → p.header ≡ h
     → protected_bytes p ≡ fresh_bytes (is_empty_header h) (header_image h)
 protected_bytes-fresh p h e same = (λ i. content_bytes is_empty_header header_image (e i) (same i))
@@ -30,7 +30,7 @@ pub shortest-fresh_bytes : (p : ProtectedView) (h : HeaderView) (b : List ℕ) �
     → AreShortest p.original p.header b
 shortest-fresh_bytes p h b e same least_encoding = subst (λ o. AreShortest o p.header b) (sym e) (subst (λ g. AreShortest None g b) (sym same) least_encoding)
 
--- the string of them
+-- The image is the byte string of these bytes.
 string-of : (p : ProtectedView) (o : Option (List ℕ)) → protected_bytes p ≡ o → protected.image p ≡ option_map bytes o
 string-of p o e = protected_image_is LAYERS p ∙ ap (option_map bytes) e
 
@@ -43,7 +43,7 @@ string-made p b e = string-of p (Some b.items) e ∙ ap Some (sym (as_string b))
 pub string-holds : (p : ProtectedView) (b : Vec ℕ Global) → AreShortest p.original p.header b.items → HoldsShortest p.original p.header (value_item (Bytes b))
 string-holds p b least_encoding = subst (HoldsShortest p.original p.header) (sym (as_string b)) least_encoding
 
--- an error passed on that says that there are no such bytes
+-- An error that is passed on: there are no such bytes.
 pub no-string :
     (r : Result Value CoseError) (f : CoseError) (p : ProtectedView) (o : Option (List ℕ)) → IsErrAnd r (λ e. e ≡ f) → protected_bytes p ≡ o
     → UnlessMemory f (λ g. (g ≡ DuplicateMapKey) × (o ≡ None))

@@ -1,4 +1,4 @@
--- The bytes that are kept of a protected header are those of the byte string that was read.
+-- A protected header keeps the bytes of the byte string that it was decoded from.
 use Rattle.std.proofs.Common.{◌≡◌, ℕ, zero, suc, List, [], ◌∷◌, ◌==◌, length, Bool, true, false, Option, Some, None, option_map, refl, sym}
 use Rattle.std.proofs.Common.{ap, ◌∙◌, subst, arith}
 use Rattle.std.specs.Prelude.{⊤}
@@ -27,12 +27,12 @@ use Rattle.coset_core.specs.Written.{AreShortest}
 use Rattle.coset_core.proofs.HeaderMap.{header_decides, header_written}
 use Rattle.coset_core.proofs.Labelled.{abbreviated_as_written, both_parts, mapped_part, map_when_read, signatures_as_written}
 
--- what a byte string holds which is that of o
+-- If an item is the byte string of o, its bytes are o.
 pub held_of : (o : Option (List ℕ)) (v : Item) (b : List ℕ) → option_map bytes o ≡ Some v → as_bytes v ≡ Some b → Some b ≡ o
 held_of None v b e d = absurd (cc)
 held_of (Some c) v b e d = let same : bytes c ≡ v = some-one refl e in sym d ∙ ap as_bytes (sym same)
 
--- ---- protected headers, within k layers
+-- ---- protected headers, for k layers
 
 bytes_of : (p : ProtectedView) (b : List ℕ) → p.original ≡ Some b → protected_bytes p ≡ Some b
 bytes_of p b e = ap (λ o. content_bytes is_empty_header header_image o p.header) e
@@ -72,9 +72,9 @@ signature_as_written k v s t e d =
     (elements_of s) (elements_of t) e d in
     (all.0, all.1.1.0)
 
--- ---- one or several
+-- ---- one signature or several
 
--- one is an array that begins with a byte string
+-- A single signature is an array that begins with a byte string.
 signature_begins : (k : ℕ) (s : SignatureView) (v : Item) → (layered_signature k).image s ≡ Some v → Begins v
 signature_begins k s v e =
     let places = mapped_part array _ v e in
@@ -108,7 +108,7 @@ within_as_written k v ss ts e d =
 within_when_read : (k : ℕ) → WhenRead (signatures_within k) (EachHas (λ s. KeepsOwn s.protected))
 within_when_read k v ss d = list_when_read (layered_signature k) (λ s. KeepsOwn s.protected) (keeps_own k) (array d.0) ss (d.0, refl, d.2)
 
--- ---- those in a header
+-- ---- signatures in a header
 
 pub header_as_written : (k : ℕ) → AsWritten (layered_header k) (λ h g. SignaturesReadAs KeepsSignature h g × KeepsAbbreviated h g)
 header_as_written k v h g e d =
@@ -179,13 +179,13 @@ is_the_empty_one (header_of f ss ts) e =
     })
     (first_is i) (second_is i)
 
--- ---- those in the byte string of a protected header that was built
+-- ---- signatures in the byte string of a protected header that was built
 
--- what stays of the signatures of h in g
+-- The signatures of the header h are kept in the header g.
 abbrev pub Stays : HeaderView → HeaderView → Type 0
 Stays h g = SignaturesReadAs KeepsSignature h g × KeepsAbbreviated h g
 
--- no encoding is empty
+-- No encoding is empty.
 no_empty_encoding : (v : Item) → IsEncoding v [] → ⊥
 no_empty_encoding v h =
     let same = (encodings_differ v null [] (246 ∷ []) (246 ∷ []) [] h refl refl).1 in

@@ -1,4 +1,4 @@
--- What is under the labels of signatures in a header's map, where it was written.
+-- The values under the labels of signatures in the map that a header is written as.
 use Rattle.std.proofs.Common.{◌≡◌, ℕ, List, [], ◌∷◌, ◌++◌, Option, Some, None, Bool, true, false, cond, option_map, refl, sym, ap, subst, ◌∙◌}
 use Rattle.std.specs.Map.{lookup}
 use Rattle.coset_value.specs.Item.{Item, Pairs, no_pairs, pair, bytes, dict, integer, text}
@@ -16,9 +16,9 @@ use Rattle.coset_core.specs.HeaderMap.{each_of, header_map, header_parts}
 use Rattle.coset_core.specs.Headers.{HeaderView, SignatureView, counter_signatures_in, countersignatures_in, fields_in}
 use Rattle.coset_core.specs.Kept.{EachReadAs, EachSignature, KeepsAbbreviated, SignaturesReadAs}
 
--- ---- answers of parts
+-- ---- images made of parts
 
--- what an answer of two was made of, and of one
+-- The parts of a result that was made of two results, and of one.
 pub both_parts : {A B C : Type 0} (f : A → B → C) (o : Option A) (p : Option B) (x : C) → both f o p ≡ Some x
     → (a : A) × (b : B) × (o ≡ Some a) × (p ≡ Some b) × (x ≡ f a b)
 both_parts f (Some a) (Some b) x e = (a, b, refl, refl, sym (some-one refl e))
@@ -31,7 +31,7 @@ mapped_part f None x e = absurd (cc)
 
 -- ---- labels and pairs
 
--- a label that was written is read as itself
+-- A label that is written and read again is the same label.
 label_again : (l m : Name) (k : Item) → label.image l ≡ Some k → label.describes k m → m ≡ l
 label_again (number i) (number j) k e d =
     let same : integer i ≡ k = some-one refl e in
@@ -50,7 +50,7 @@ label_again (text_label s) (text_label t) k e d =
     let same : text s ≡ k = some-one refl e in
     ap text_label (some-one d.1 (ap as_text (sym same)))
 
--- so the same is under each label
+-- So each label has the same value.
 pub lookup_again :
     (test : Name → Bool) (es fs : List (Name × Item)) (ps : Pairs) → named_image label.image es ≡ Some ps → Named label.describes ps fs
     → lookup test fs ≡ lookup test es
@@ -102,7 +102,7 @@ module _ (test : Name → Bool) where
   this_put l (Some v) es h none = ap (λ b. cond b (Some v) (lookup test es)) h
   this_put l None es h none = none
 
-  -- there is none where no field is under the label
+  -- If no field has the label, there is no value under it.
   no_more : (es : List (Name × Item)) → ◌≡◌ {A = Option (List (Name × Item))} (Some []) (Some es) → lookup test es ≡ None
   no_more es e = ap (lookup test) (sym (some-one refl e))
 
@@ -114,7 +114,7 @@ module _ (test : Name → Bool) where
       let parts = both_parts (put_field l) o p es e in
       ap (lookup test) parts.4 ∙ (other_put l parts.0 parts.1 h ∙ more parts.1 parts.3)
 
-  -- under the label is what a field is written as
+  -- The value under the label is the image of the field.
   module _ (field : Option (Option Item)) where
     abbrev Holds : List (Name × Item) → Type 0
     Holds es = (v : Option Item) × (field ≡ Some v) × (lookup test es ≡ v)
@@ -134,7 +134,7 @@ module _ (test : Name → Bool) where
         let held = more parts.1 parts.3 in
         (held.0, held.1, ap (lookup test) parts.4 ∙ (other_put l parts.0 parts.1 h ∙ held.2))
 
--- what the fields of labels 7, 11 and 12 are written as is under these labels
+-- The values under labels 7, 11 and 12 are the images of their fields.
 module _ {C : Type 0} (c d : FieldShape C) (x : FieldTuple C) where
   under_first : (es : List (Name × Item)) → (fields c d).image x ≡ Some es → Holds (same_name labels.counter_signature) (c.image x.1.1.1.1.1.1.0) es
   under_first =
@@ -178,7 +178,7 @@ module _ {C : Type 0} (c d : FieldShape C) (x : FieldTuple C) where
 
 -- ---- maps
 
--- what a map of these fields was written of
+-- The parts of the map that these fields and the rest are written as.
 record IsMap (o : Option (List (Name × Item))) (rest : List (Name × Item)) (v : Item) : Type 0 where
   pub entries : List (Name × Item)
   pub is_image : o ≡ Some entries
@@ -194,7 +194,7 @@ is_map true rest None v e = absurd (cc)
 is_map false rest o v e = absurd (cc)
 
 module _ (s : Shape (List SignatureView)) (R : SignatureView → SignatureView → Type 0) (law : AsWritten s (EachWith R)) where
-  -- the signatures under a label: found is what is read there, and put what was written
+  -- The signatures under a label. `found` is the value read there, and `put` is the value written there.
   read_as :
       (l : Name) (rest : List (Name × Item)) (ss ts : List SignatureView) (es : List (Name × Item)) (found put : Option Item)
       → (unless_empty s).image ss ≡ Some put → lookup (same_name l) es ≡ put → found ≡ lookup (same_name l) (es ++ rest)
@@ -208,7 +208,7 @@ module _ (s : Shape (List SignatureView)) (R : SignatureView → SignatureView �
       let first = found_first (same_name l) es rest m.0 (stands ∙ m.2) in
       law m.0 (x ∷ ss) ts m.1 (subst (λ o. (unless_empty s).describes o ts) (looked ∙ first) d)
 
--- an abbreviated one
+-- An abbreviated countersignature.
 string_again : (s : List ℕ) (y : Option (List ℕ)) → (optional bstr).describes (Some (bytes s)) y → y ≡ Some s
 string_again s (Some t) d = sym d
 string_again s None d = absurd d

@@ -1,4 +1,4 @@
--- What is kept of a message that was written.
+-- The parts of a message that are the same after it was written and read again.
 use Rattle.std.proofs.Common.{◌≡◌, ℕ, List, Some, ap}
 use Rattle.std.specs.Prelude.{⊤}
 use Rattle.coset_codec.specs.AsWritten.{AsWritten, WhenRead, ElementsAsWritten, ElementsWhenRead}
@@ -8,16 +8,16 @@ use Rattle.coset_codec.specs.Shape.{Elements, ◌then◌}
 use Rattle.coset_core.specs.Headers.{HeaderView, ProtectedView, header, header_image, is_empty_header, layered_protected, protected, protected_bytes}
 use Rattle.coset_core.specs.Messages.{with_headers}
 
--- ---- what is kept of a message
+-- ---- protected bytes of a message
 
--- of a protected header that was read from what another is written as, the same bytes are kept
+-- Both protected headers are represented by the same bytes.
 abbrev pub KeepsBytes : ProtectedView → ProtectedView → Type 0
 KeepsBytes p q = protected_bytes q ≡ protected_bytes p
 
 abbrev pub KeptAsWritten : Type 0
 KeptAsWritten = AsWritten protected KeepsBytes
 
--- there are bytes that represent it
+-- Some bytes represent the protected header.
 abbrev pub HasBytes : ProtectedView → Type 0
 HasBytes p = (b : List ℕ) × (protected_bytes p ≡ Some b)
 
@@ -26,7 +26,7 @@ unfolding layered_protected
 has_bytes w p d = (d.0, ap (λ o. content_bytes is_empty_header header_image o p.header) d.2)
 
 module _ {A : Type 0} (ps : Elements A) where
-  -- with its protected header, and with the elements behind the headers
+  -- From the protected header, and from the elements after the headers.
   pub message_as_written :
       (Q : ProtectedView → ProtectedView → Type 0) (R : A → A → Type 0) → AsWritten protected Q → ElementsAsWritten ps R
       → AsWritten (with_headers ps) (λ x y. Q x.0 y.0 × (⊤ × R x.1.1 y.1.1))
@@ -40,18 +40,18 @@ module _ {A : Type 0} (ps : Elements A) where
       array_when_read (protected then header then ps) _
       (then_when_read protected (header then ps) P _ h (then_when_read header ps (λ x. ⊤) R (λ v x d. tt) more))
 
-  -- with its protected header alone
+  -- From the protected header alone.
   pub header_as_written : (Q : ProtectedView → ProtectedView → Type 0) → AsWritten protected Q → AsWritten (with_headers ps) (λ x y. Q x.0 y.0)
   header_as_written Q h v x y e d = (message_as_written Q (λ a b. ⊤) h (λ vs a b f g. tt) v x y e d).0
 
   pub header_when_read : (P : ProtectedView → Type 0) → WhenRead protected P → WhenRead (with_headers ps) (λ x. P x.0)
   header_when_read P h v x d = (message_when_read P (λ a. ⊤) h (λ vs a f. tt) v x d).0
 
-  -- with these elements alone
+  -- From these elements alone.
   pub elements_as_written : (R : A → A → Type 0) → ElementsAsWritten ps R → AsWritten (with_headers ps) (λ x y. R x.1.1 y.1.1)
   elements_as_written R more v x y e d = (message_as_written (λ p q. ⊤) R (λ w p q f g. tt) more v x y e d).1.1
 
-  -- with both headers
+  -- From both headers.
   pub headers_as_written :
       (Q : ProtectedView → ProtectedView → Type 0) (R : HeaderView → HeaderView → Type 0) → AsWritten protected Q → AsWritten header R
       → AsWritten (with_headers ps) (λ x y. Q x.0 y.0 × R x.1.0 y.1.0)

@@ -1,4 +1,4 @@
--- A pair of a header, by its label.
+-- Adding a pair to a header, by its label.
 use Rattle.std.proofs.Common.{◌≡◌, ℕ, ℤ, pos, map, List, [], ◌∷◌, ◌++◌, Option, Bool, ◌||◌}
 use Rattle.std.proofs.Common.{false, true, refl, sym, ◌∙◌, ap, subst, ◌⊎◌, inl, inr, Result, Ok, Err}
 use Rattle.std.proofs.lemmas.Bool.{true≢false}
@@ -26,13 +26,13 @@ use Rattle.coset_core.specs.declared.header.reading.Version.TheVariants.{V1, V2}
 abbrev F : Fields Name (FieldTuple (Option Item))
 F = fields (optional any) (optional any)
 
--- none of nine tests passes
+-- If all nine tests are false, so is their disjunction.
 none :
     (a b c d e f g h i : Bool) → a ≡ false → b ≡ false → c ≡ false → d ≡ false → e ≡ false → f ≡ false → g ≡ false → h ≡ false → i ≡ false
     → (a || (b || (c || (d || (e || (f || (g || (h || (i || false))))))))) ≡ false
 none a b c d e f g h i h1 h2 h3 h4 h5 h6 h7 h8 h9 = rw (h1, h2, h3, h4, h5, h6, h7, h8, h9) refl
 
--- a number that is no field's goes to the rest
+-- A number that is the label of no field goes to the rest.
 pub other_number :
     (n : ℤ) → int_eq n (pos 1) ≡ false → int_eq n (pos 2) ≡ false → int_eq n (pos 3) ≡ false → int_eq n (pos 4) ≡ false → int_eq n (pos 5) ≡ false
     → int_eq n (pos 6) ≡ false → int_eq n (pos 7) ≡ false → int_eq n (pos 11) ≡ false → int_eq n (pos 12) ≡ false → GoesTo (number n) Rest
@@ -40,7 +40,7 @@ other_number n h1 h2 h3 h4 h5 h6 h7 h8 h9 =
     none _ _ _ _ _ _ _ _ _ (numbers_apart n _ h1) (numbers_apart n _ h2) (numbers_apart n _ h3) (numbers_apart n _ h4) (numbers_apart n _ h5)
     (numbers_apart n _ h6) (numbers_apart n _ h7) (numbers_apart n _ h8) (numbers_apart n _ h9)
 
--- a pair whose label is none of the fields' goes to the rest
+-- A pair whose label has no field is added to the rest.
 pub adds_rest :
     (m : Name) (v : Item) (x y : FieldTuple (Option Item) × List (Name × Item)) → GoesTo m Rest → x.0 ≡ y.0 → y.1 ≡ x.1 ++ (m, v) ∷ []
     → Adds names (fields (optional any) (optional any)) m v x y
@@ -50,7 +50,7 @@ adds_rest m v x y other same rest =
 
 -- ---- the labels of counter signatures
 
--- a label that goes elsewhere is that of no version
+-- A label of any other field is that of no version.
 pub no_version : (m : Name) (f : Field) → ((version : Version) → f ≡ Signatures version → ⊥) → GoesTo m f → NamesNoVersion m
 no_version m Alg h e = rw e (refl, refl)
 no_version m Crit h e = rw e (refl, refl)
@@ -65,7 +65,7 @@ no_version m Rest h e = (apart labels.counter_signature refl, apart labels.count
     apart : (l : Name) → is_core names F.labels l ≡ true → same_name l m ≡ false
     apart l there = not_same names names_laws l m (λ same. core_apart names names_laws F.labels m l e there (sym same))
 
--- one of a version is not
+-- A label of no version is not the label of a version.
 pub not_version : (m : Name) (version : Version) → NamesNoVersion m → m ≡ label_of version → ⊥
 not_version m V1 h e = true≢false (sym (names_laws.same_self labels.counter_signature) ∙ (ap (same_name labels.counter_signature) (sym e) ∙ h.0))
 not_version m V2 h e = true≢false (sym (names_laws.same_self labels.countersignature_v2) ∙ (ap (same_name labels.countersignature_v2) (sym e) ∙ h.1))
@@ -73,9 +73,9 @@ not_version m V2 h e = true≢false (sym (names_laws.same_self labels.countersig
 pub of_version : (m : Name) (version : Version) → m ≡ label_of version → same_name (label_of version) m ≡ true
 of_version m version e = rw e (names_laws.same_self (label_of version))
 
--- ---- a pair of a field's label
+-- ---- pairs of fields
 
--- the field of this label is put, where what was asked of its value makes the others what they were
+-- A value is added to the field of its label, and the other fields stay the same.
 adds_at :
     (l m : Name) (v : Item) (r : Result (Unit {0}) CoseError) (f g k : FieldsView) (o : Versions (Option Item)) (P : Type 0) → m ≡ l → OnOk r P
     → g ≡ k
@@ -135,7 +135,7 @@ adds_countersignature0_v2 m v r f g a o h t e =
     adds_at labels.countersignature0_v2 m v r f g (record f { countersignature0_v2 = a }) o (TakesValue (optional bstr) v f.countersignature0_v2 a) h t e
     (λ p. ((refl, (refl, (refl, (refl, (refl, (refl, (refl, (refl, (p.0, p.1, refl))))))))), refl))
 
--- why a field's label is refused
+-- The reason that a field refuses its value.
 pub refuses_at :
     (l m : Name) (v : Item) (r : Result (Unit {0}) CoseError) (x : FieldTuple (Option Item) × List (Name × Item)) (P : CoseError → Type 0)
     → m ≡ l
@@ -149,7 +149,7 @@ pub swapped : {A B : Type 0} → A ⊎ B → B ⊎ A
 swapped (inl x) = inr x
 swapped (inr x) = inl x
 
--- no signature is seen in an empty list alone
+-- Only the empty list has the view of no signatures.
 pub none_held : {T : Type 0} (view : T → SignatureView) (xs : List T) → signatures_of (map view xs) ≡ no_signatures → xs ≡ []
 none_held view [] e = refl
 none_held view (x ∷ xs) e = absurd (cc)

@@ -1,4 +1,4 @@
--- Headers, and the signatures in them, read from their parts.
+-- Reading headers, and the signatures in them, from their parts.
 use Rattle.std.proofs.Common.{◌≡◌, ℕ, zero, suc, pred, List, Option, Some, None, Result, Ok, Err, refl, sym, ap, subst, inl, inr}
 use Rattle.coset_value.specs.Item.{Item, bytes}
 use Rattle.coset_value.specs.Parts.{as_bytes}
@@ -22,13 +22,13 @@ unfolding layered_protected
 no_string zero v e h = inl h
 no_string (suc k) v e h = inl h
 
--- it is one layer too many
+-- No layer is left for the byte string.
 pub no_layer_left : (k : ℕ) (v : Item) (b : List ℕ) → k ≡ 0 → as_bytes v ≡ Some b → (layered_protected k).faults v (DecodeFailed RecursionLimitExceeded)
 unfolding layered_protected
 no_layer_left zero v b z h = inr (b, h, refl)
 no_layer_left (suc k) v b z h = absurd (cc)
 
--- what it holds
+-- A fault in the content is a fault of the byte string.
 pub content_faulty : (k j : ℕ) (v : Item) (b : List ℕ) (e : CoseError) → k ≡ suc j → as_bytes v ≡ Some b → ContentFaults (layered_header j) b e
     → (layered_protected k).faults v e
 unfolding layered_protected
@@ -42,7 +42,7 @@ unfolding layered_protected
 content_described zero j v b h z i d = absurd (cc)
 content_described (suc k) j v b h z i d = (b, i, refl, subst (λ n. ContentDescribes empty_header (layered_header n) b h) (ap pred (sym z)) d)
 
--- the header that bytes which are kept hold
+-- The header that kept bytes decode to.
 pub protected_filled :
     (k j : ℕ) (b c : List ℕ) (o : Option (List ℕ)) (h : HeaderView) (r : Result (Unit {0}) CoseError) → k ≡ suc j → o ≡ Some b → c ≡ b → FillsContent j c h r
     → Fills (layered_protected k) (bytes b) (record { original = o; header = h }) r
@@ -51,9 +51,9 @@ protected_filled k j b c o h (Ok u) z kept same d =
     (content_described k j (bytes b) b h z refl (subst (λ s. ContentDescribes empty_header (layered_header j) s h) same d))
 protected_filled k j b c o h (Err e) z kept same d = λ n. content_faulty k j (bytes b) b e z refl (subst (λ s. ContentFaults (layered_header j) s e) same (d n))
 
--- ---- a header's map, with its counter signatures of both versions
+-- ---- the map of a header, with its counter signatures of both versions
 
--- a header of these fields and these signatures
+-- An item describes a header with these fields and these signatures.
 pub header_whole :
     (k : ℕ) (v : Item) (h : HeaderView) (f : FieldsView) (xs ys : List SignatureView)
     → (map_with (unless_empty (one_or_many (any_number (layered_signature k)))) (unless_empty (one_or_many (any_number (layered_signature k))))).describes v

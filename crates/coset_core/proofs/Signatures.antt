@@ -1,4 +1,4 @@
--- Signatures in a row.
+-- Lists of signatures.
 use Rattle.std.proofs.Common.{◌≡◌, ℕ, ◌≢◌, ◌==◌, ◌&&◌, ◌<◌, ◌+◌, ◌++◌, suc, List, [], ◌∷◌, map, length, Bool, true, false, refl, sym, ap, ◌∙◌, arith}
 use Rattle.std.proofs.lemmas.Bool.{and_right}
 use Rattle.std.proofs.lemmas.Grind.{common_steps}
@@ -14,12 +14,12 @@ use Rattle.coset_core.specs.declared.countersignature.CoseCountersignature.{Cose
 use Rattle.coset_core.specs.declared.header.Header.{Header, roll-Header}
 use Rattle.coset_core.specs.declared.signature.CoseSignature.{CoseSignature}
 
--- there are none where the list is empty
+-- There are no signatures exactly when the list is empty.
 pub are_none_of : {T : Type 0} (view : T → SignatureView) (ss : List T) → are_none (signatures_of (map view ss)) ≡ (length ss == 0)
 are_none_of view [] = refl
 are_none_of view (s ∷ ss) = grind (arith, common_steps)
 
--- those of lists of unequal lengths aren't the same
+-- Lists of different lengths do not have the same signatures.
 pub unequal : {T : Type 0} (view : T → SignatureView) (ss ts : List T) → length ss ≢ length ts
     → false ≡ signatures_eq (signatures_of (map view ss)) (signatures_of (map view ts))
 unequal view [] [] h = absurd (h refl)
@@ -27,20 +27,20 @@ unequal view (s ∷ ss) (t ∷ ts) h = sym (and_right _ _ (sym (unequal view ss 
 unequal view [] (t ∷ ts) h = refl
 unequal view (s ∷ ss) [] h = refl
 
--- ---- tests one after the other
+-- ---- conjunctions of tests
 
 pub and_assoc : (a b c : Bool) → (a && b) && c ≡ a && (b && c)
 and_assoc true b c = refl
 and_assoc false b c = refl
 
--- what is false at l stays so with h; and what is true at l is what h is
+-- If the test so far is false, it stays false with h. If it is true, the result is h.
 pub stays : (v l h : Bool) → v ≡ l → v ≡ false → v ≡ l && h
 stays v l h is fails = rw (sym is ∙ fails) fails
 
 pub goes_by : (v l h r : Bool) → v ≡ l → v ≡ true → r ≡ h → r ≡ l && h
 goes_by v l h r is holds e = rw (sym is ∙ holds) e
 
--- headers are the same where their fields and their signatures are
+-- Two headers are equal exactly when their fields and their signatures are.
 pub header_eq-opened :
     (h g : Header)
     → header_eq (header_view h) (header_view g)
@@ -50,9 +50,9 @@ pub header_eq-opened :
     (signatures_of (map countersignature_view (countersignatures_held g))))
 header_eq-opened h g = λ i. header_eq (header-opened h i) (header-opened g i)
 
--- ---- headers that are copied
+-- ---- copies of headers
 
--- a header that has the fields and the counter signatures of another
+-- A copy with the fields and the counter signatures of a header has the same view.
 pub header_copied :
     (x : HeaderLevel) (h : Header) (r : Result (Unit {0}) AllocError) → fields_level x ≡ fields_view h
     → map signature_view x.counter_signatures.items ≡ map signature_view (counter_signatures_held h)
@@ -61,26 +61,26 @@ pub header_copied :
 header_copied x h (Ok u) f s t = header-made x ∙ ((λ i. header_of (f i) (signatures_of (s i)) (signatures_of (t i))) ∙ sym (header-opened h))
 header_copied x h (Err e) f s t = tt
 
--- ---- how many are held
+-- ---- the number of nested signatures
 
--- what a header holds, of both versions
+-- The number of signatures in a header, of both versions, with those nested in them.
 abbrev pub held_by : Header → ℕ
 held_by h = held_in (counter_signatures_held h) (countersignatures_held h)
 
 pub opened : (h : Header) → header_count (header_view h) ≡ held_by h
 opened h = ap header_count (header-opened h)
 
--- what the two headers hold of one that was seen
+-- The number of signatures in the two headers of a signature.
 abbrev pub within : SignatureView → ℕ
 within s = header_count s.protected.header + header_count s.unprotected
 
--- one more counts itself, and what it holds
+-- One more signature counts as one, and as those in its headers.
 last_counts : {T : Type 0} (view : T → SignatureView) (ss : List T) (s : T)
     → signatures_count (signatures_of (map view (ss ++ s ∷ []))) ≡ suc (within (view s) + signatures_count (signatures_of (map view ss)))
 last_counts view [] s = omega arith
 last_counts view (x ∷ ss) s = let others = last_counts view ss s in omega (arith, others)
 
--- without the last of either version fewer are left
+-- Fewer signatures are left without the last one of either version.
 pub first_taken :
     (old new : List CoseSignature) (v : List CoseCountersignature) (s : CoseSignature) → old ≡ new ++ s ∷ []
     → within (signature_view s) + held_in new v < held_in old v

@@ -1,4 +1,4 @@
--- Structures, and the encoding of one that is written part by part.
+-- Structures, and the encoding of a structure that is written part by part.
 use Rattle.std.proofs.Common.{◌≡◌, ℕ, ◌+◌, ◌<◌, ◌^◌, List, [], ◌∷◌, ◌++◌, Bor, map, take, length, get_or, Option, Some, refl, sym, ap, subst, ◌∙◌, append_assoc}
 use Rattle.std.proofs.Common.{arith}
 use Rattle.std.proofs.lemmas.List.{append-nil, take_more, map_push}
@@ -11,7 +11,7 @@ use Rattle.coset_codec.specs.Shape.{both, images}
 use Rattle.coset_codec.specs.ShapeLaws.{some-one}
 use Rattle.coset_core.specs.Structure.{BeginsStructure, byte_strings, byte_strings_and, structure, structure_and}
 
--- ---- what a structure is of
+-- ---- the parts of a structure
 
 abbrev contents : Items → List (List ℕ)
 contents no_items = []
@@ -30,13 +30,13 @@ contents-byte_strings : (ss : List (List ℕ)) → contents (byte_strings ss) �
 contents-byte_strings [] = refl
 contents-byte_strings (s ∷ ss) = ap (λ (x : List (List ℕ)). s ∷ x) (contents-byte_strings ss)
 
--- Equal structures have one context and the same parts.
+-- Equal structures have the same context and the same parts.
 pub same_structure : (c d : List ℕ) (p q : List (List ℕ)) → structure c p ≡ structure d q → (c ≡ d) × (p ≡ q)
 same_structure c d p q e = (ap context_of e, sym (contents-byte_strings p) ∙ ap parts_of e ∙ contents-byte_strings q)
 
 -- ---- one more part
 
--- the first i of the parts, as items
+-- The first i parts, as items.
 abbrev pub first_parts : List (Bor (List ℕ)) → ℕ → Items
 first_parts parts i = byte_strings (map (λ part. part.now) (take i parts))
 
@@ -73,9 +73,9 @@ part_in_range parts i d lt so_far here =
     subst AreInRange (sym (first_parts-suc parts i d lt))
     (in_range-push (map (λ (part : Bor (List ℕ)). part.now) (take i parts)) (get_or parts i d).now so_far here)
 
--- ---- the whole
+-- ---- the whole structure
 
--- byte strings, and what follows them
+-- The number of items: the byte strings and the items after them.
 items_count-and : (ss : List (List ℕ)) (vs : Items) → items_count (byte_strings_and ss vs) ≡ length ss + items_count vs
 items_count-and [] vs = omega arith
 items_count-and (s ∷ ss) vs = let more = items_count-and ss vs in omega (arith, more)
@@ -90,7 +90,7 @@ in_range-and : (ss : List (List ℕ)) (vs : Items) → AreInRange (byte_strings 
 in_range-and [] vs h k = k
 in_range-and (s ∷ ss) vs h k = (h.0, in_range-and ss vs h.1 k)
 
--- The beginning of a structure, and then what follows it, are the shortest encoding.
+-- The beginning of a structure, followed by the other items, is the shortest encoding.
 pub whole_written :
     ((v : Item) → IsInRange v → IsShortest (least_encoding v) v) → (context : List ℕ) (ss : List (List ℕ)) (vs : Items) (b t : List ℕ)
     → BeginsStructure b context ss (items_count vs) → AreInRange vs
@@ -112,7 +112,7 @@ whole_written is_shortest context ss vs b t begun in_range written =
       (begun.context_in_range, in_range-and ss vs begun.in_range in_range),
     ))
 
--- ---- a list of byte strings behind the parts
+-- ---- a list of byte strings after the parts
 
 pub strings_image : {X : Type 0} (see : X → List ℕ) (xs : List X) → images (λ x. Some (bytes (see x))) xs ≡ Some (byte_strings (map see xs))
 strings_image see [] = refl

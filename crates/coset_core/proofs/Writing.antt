@@ -1,4 +1,4 @@
--- Items, written one after the other.
+-- Writing items one after the other.
 use Rattle.std.proofs.Common.{◌≡◌, ℕ, suc, ◌<◌, ◌^◌, List, [], ◌∷◌, ◌++◌, length, refl, sym, ◌∙◌, ap, append-nil, append_assoc}
 use Rattle.coset_value.specs.Item.{Item, array, items_count}
 use Rattle.coset_value.specs.Range.{AreInRange}
@@ -20,7 +20,7 @@ items_in_range-append : (vs ws : List Item) → AreInRange (items_of vs) → Are
 items_in_range-append [] ws p q = q
 items_in_range-append (v ∷ vs) ws p q = (p.0, items_in_range-append vs ws p.1 q)
 
--- some items, and one more
+-- Some items, and one more.
 pub items-push : (old mid new : List ℕ) (vs : List Item) (v : Item) → AppendsItems old mid vs → AppendsItem mid new v → AppendsItems old new (vs ++ v ∷ [])
 items-push old mid new vs v p q = record {
   in_range = items_in_range-append vs (v ∷ []) p.in_range (q.in_range, tt);
@@ -28,12 +28,12 @@ items-push old mid new vs v p q = record {
       (append_assoc old (least_encodings (items_of vs)) (least_encoding v));
 }
 
--- as many items as elements
+-- There are as many items as elements in the list.
 pub count-items : (vs : List Item) → items_count (items_of vs) ≡ length vs
 count-items [] = refl
 count-items (v ∷ vs) = ap (λ n. suc n) (count-items vs)
 
--- a head and the items are an array
+-- A head followed by the items is an array.
 pub array-put :
     (vs : List Item) (n : ℕ) (old head new : List ℕ) → n ≡ length vs → n < 2 ^ 64 → head ≡ old ++ least_head 4 n → AppendsItems head new vs
     → AppendsItem old new (array (items_of vs))

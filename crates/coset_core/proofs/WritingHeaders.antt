@@ -1,4 +1,4 @@
--- Headers and signatures, part by part.
+-- Writing headers and signatures part by part.
 use Rattle.std.specs.Prelude.{◌==◌, ◌≢◌, not, filter, true, false, is_some, Result, Ok, Err, IfErr, OnOk, IsErrAnd}
 use Rattle.std.specs.Map.{keys_of}
 use Rattle.std.proofs.Common.{◌≡◌, ℕ, ℤ, Option, Some, None, option_map, true≢false, ◌+◌, ◌<◌, ◌^◌, List, [], ◌∷◌, ◌++◌, map, length, refl, sym, ◌∙◌, ap, subst}
@@ -35,13 +35,13 @@ use Rattle.coset_core.specs.Written.{AppendsItems, AppendsFirst, AppendsCounterS
 use Rattle.coset_core.proofs.Signatures.{are_none_of}
 use Rattle.coset_core.proofs.Writing.{items-push, array-put}
 
--- an error passed on that says of P what another is asked to say of Q
+-- An error that is passed on: if it tells P, and P gives Q, then it tells Q.
 pub passes : {T : Type 0} (r : Result T CoseError) (f : CoseError) (P Q : Type 0) → IsErrAnd r (λ e. e ≡ f) → (P → Q)
     → UnlessMemory f (λ g. (g ≡ DuplicateMapKey) × P) → IfErr r (λ e. UnlessMemory e (λ g. (g ≡ DuplicateMapKey) × Q))
 passes (Ok x) f P Q same h tells = tt
 passes (Err e) f P Q same h tells = λ other. let told = tells (λ m. other (same ∙ m)) in (same ∙ told.0, h told.1)
 
--- an error passed on that says that an item is missing
+-- An error that is passed on: an image is missing.
 pub unencoded : {T : Type 0} (r : Result T CoseError) (f : CoseError) (P : Type 0) (o : Option Item) (old new : List ℕ) → IsErrAnd r (λ e. e ≡ f)
     → (P → o ≡ None) → UnlessMemory f (λ g. (g ≡ DuplicateMapKey) × P) → Encodes o old new r
 unencoded {T} (Ok x) f P o old new same h tells = absurd same
@@ -49,7 +49,8 @@ unencoded {T} (Err e) f P o old new same h tells = passes {T = T} (Err e) f P (o
 
 -- ---- signatures
 
--- a head, the byte string, the unprotected header and the bytes are the array of a signature
+-- A head, the protected header's byte string, the unprotected header and the signature's bytes are the array of a
+-- signature.
 pub signature-put :
     (s : SignatureView) (old head mid half new : List ℕ) → head ≡ old ++ least_head 4 3 → AppendsImage (option_map bytes (protected_bytes s.protected)) head mid
     → AppendsImage (header_image s.unprotected) mid half → AppendsItem half new (bytes s.signature)
@@ -57,14 +58,14 @@ pub signature-put :
 signature-put s old head mid half new first p u b =
     array-put-elements 3 (omega arith) first (place-put p (place-put u (place-put (bytes s.signature, refl, b) (nothing-put new))))
 
--- a byte string is that of a protected header
+-- The byte string of a protected header's bytes is its image.
 pub string-put : (p : ProtectedView) (b old new : List ℕ) → protected_bytes p ≡ Some b → AppendsItem old new (bytes b)
     → AppendsImage (option_map bytes (protected_bytes p)) old new
 string-put p b old new e put = (bytes b, ap (option_map bytes) e, put)
 
--- ---- several
+-- ---- lists of signatures
 
--- the arrays of signatures in a row
+-- The images of a list of signatures are their arrays, one after the other.
 each : (ss : List SignatureView) → signatures_image (signatures_of ss) ≡ images signature_array ss
 each ss = sym (images_signatures 0 ss) ∙ (λ i. images (λ x. signature_image_is 0 x i) ss)
 
@@ -72,7 +73,7 @@ and_items-of : (vs : List Item) (v : Item) → and_items (items_of vs) (item v n
 and_items-of [] v = refl
 and_items-of (w ∷ vs) v = ap (item w) (and_items-of vs v)
 
--- one more signature
+-- One more signature.
 pub signatures-push :
     (ss : List SignatureView) (s : SignatureView) (old mid new : List ℕ) → AppendsSignatures old mid ss → AppendsImage (signature_array s) mid new
     → AppendsSignatures old new (ss ++ s ∷ [])
@@ -86,13 +87,13 @@ signatures-push ss s old mid new p q =
       items-push old mid new p.0 q.0 p.3 q.2,
     )
 
--- one that can't be written
+-- If one signature has no image, the list has none.
 pub signatures-none : (ss more : List SignatureView) (s : SignatureView) → signature_array s ≡ None → signatures_image (signatures_of (ss ++ s ∷ more)) ≡ None
 signatures-none ss more s e = each (ss ++ s ∷ more) ∙ images-missing signature_array ss more s e
 
 -- ---- labels 7 and 11
 
--- one alone, or a head and several
+-- One item alone, or a head and several items.
 one_or_array-put :
     (vs : List Item) (n : ℕ) (old head new : List ℕ) → not (length vs == 0) ≡ true → n ≡ length vs → n < 2 ^ 64 → (n ≡ 1 → head ≡ old)
     → (n ≢ 1 → head ≡ old ++ least_head 4 n) → AppendsItems head new vs
@@ -115,7 +116,7 @@ counter_signatures-put label (s ∷ ss) n old mid head new h count small name al
       (one_or_array-put p.0 n mid head new (rw p.2 h) (count ∙ sym p.2) small alone several p.3),
 )
 
--- the value of label 7, or 11, is there where there are signatures
+-- Label 7 or 11 has a value exactly when there are signatures.
 signatures-there : (ss : Signatures) (q : Option Items) (o : Option Item) → counter_signatures_item ss q ≡ Some o → is_some o ≡ not (are_none ss)
 signatures-there no_signatures q None e = refl
 signatures-there no_signatures q (Some v) e = absurd (cc)
@@ -127,7 +128,7 @@ any-image : (o : Option Item) → field_shape_image (is_some o) (present_image (
 any-image (Some v) = refl
 any-image None = refl
 
--- ---- values that always have an item
+-- ---- values that always have an image
 
 pub algorithm-has : (x : RegisteredName) → algorithm.image x ≡ None → ⊥
 unfolding algorithm
@@ -168,11 +169,11 @@ view-there : {X Y : Type 0} (see : X → Y) (o : Option X) → is_some (option_m
 view-there see (Some x) = refl
 view-there see None = refl
 
--- the pair of a field, as it is seen
+-- The pair of a field, by the field's view.
 pub field-view : {i j : ℤ} {o p : Option (Option Item)} (old new : List ℕ) → i ≡ j → o ≡ p → AppendsField i o old new → AppendsField j p old new
 field-view {j} {o} old new e h put = subst (λ q. AppendsField j q old new) h (subst (λ (i : ℤ). AppendsField i o old new) e put)
 
--- the fields of a header in memory
+-- The tests on a header's fields in memory are the tests on its view.
 pub fields-there :
     (x : HeaderLevel)
     → is_some x.alg ∷ not (length x.crit.items == 0) ∷ is_some x.content_type ∷ not (length x.key_id.items == 0) ∷ not (length x.iv.items == 0)
@@ -185,7 +186,7 @@ fields-there x = sym (λ i.
     ∷ filled-there x.iv.items _ refl i ∷ filled-there x.partial_iv.items _ refl i ∷ not (are_none_of signature_view x.counter_signatures.items i)
     ∷ not (are_none_of countersignature_view x.countersignatures_v2.items i) ∷ view-there (λ b. b.items) x.countersignature0_v2 i ∷ [])
 
--- a head, the first six fields, the pairs of labels 7, 11 and 12, and the rest are the header's map
+-- The map of a header is a head, the pairs of labels 1 to 6, 7, 11 and 12, and the rest.
 pub map-put :
     {T : Type 0} (f : FieldsView) (ss ts : Signatures) (xs : List (Label × Value)) (old head mid s7 s11 s12 new : List ℕ) (r : Result T CoseError)
     → f.rest ≡ map entry_view xs
@@ -229,7 +230,7 @@ map-put f ss ts xs old head mid s7 s11 s12 new r rest distinct small first six s
     (map-written names label_view value_item xs (may_write names true (map entry_view xs)) there old new r distinct (subst (λ k. k < 2 ^ 64) count small)
     (first ∙ ap (λ k. old ++ least_head 5 k) count) fields_appended ok refused))
 
--- no map is written where a label of the rest repeats, or signatures of either version can't be written
+-- A header has no image if a label of its rest repeats, or if signatures of either version have no image.
 pub unwritten-rest : (h : HeaderView) → are_distinct same_name (keys_of (fields_in h).rest) ≡ false → header_image h ≡ None
 unfolding partial_header
 unwritten-rest (header_of f ss ts) e = by (counter_signatures_item ss (signatures_image ss)) (counter_signatures_item ts (signatures_image ts))

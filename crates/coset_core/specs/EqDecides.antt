@@ -1,4 +1,4 @@
--- `==` of what messages and claims are made of is equality of what contracts see.
+-- `==` of headers, protected headers and signatures is equality of their views.
 use Rattle.std.specs.Ordering.{on}
 use Rattle.coset_codec.specs.EqDecides.{EqDecides}
 use Rattle.coset_core.specs.Same.{header_eq, protected_eq, signature_eq}

@@ -1,4 +1,4 @@
--- The laws of a header's fields, and of maps of them.
+-- The laws of a header's fields, and of maps of these fields.
 use Rattle.std.proofs.Common.{◌≡◌, ℕ, List, [], ◌∷◌, Option, Some, None, true, inl, inr, ◌⊎◌, refl, ap, sym, ◌∙◌, subst, rules}
 use Rattle.std.specs.Prelude.{ℤ}
 use Rattle.std.specs.List.{IsDistinct}
@@ -56,12 +56,12 @@ fields_laws c d l m =
     (no_field_laws names names_laws) refl)
     refl) refl) refl) refl) refl) refl) refl) refl
 
--- ---- maps of them
+-- ---- maps of the fields
 
 map_of_laws : {C : Type 0} (c d : FieldShape C) → LawfulFieldShape C c → LawfulFieldShape C d → Lawful (FieldsView × Versions C) (map_of c d)
 map_of_laws c d l m = mapped_laws fields_of parts_of (λ x. refl) _ (labelled_laws names names_laws true (fields c d) (fields_laws c d l m))
 
--- a vector that some pair has is there
+-- If a pair has the label of IV or Partial IV, that field is not empty.
 iv_there : (l : Name) (ps : Pairs) (es : List (Name × Item)) (iv : List ℕ) → Named label.describes ps es → HasLabel label.describes l ps
     → (unless_empty nonempty_bstr).describes (lookup (same_name l) es) iv → iv ≡ [] → ⊥
 iv_there l ps es iv n h d none = go (lookup (same_name l) es) refl d
@@ -70,7 +70,7 @@ iv_there l ps es iv n h d none = go (lookup (same_name l) es) refl d
     go (Some w) e p = p.1 none
     go None e p = not_new names names_laws ps es l n h (new_of names l es e)
 
--- so both are where both labels are
+-- A map with both IV and Partial IV describes no header with at most one of them.
 not_both : {C : Type 0} (c d : FieldShape C) (v : Item) (x : FieldsView × Versions C) → (map_of c d).describes v x → HasOneIv x.0 → HasBothIvs v → ⊥
 not_both c d v x p one both =
     let ps = p.0 in
@@ -93,7 +93,7 @@ map_with_laws {C} c d l k =
       sound = λ v x e p f. elim f [ inl g ↦ m.sound v x e p.0 g | inr g ↦ not_both c d v x p.0 p.1 g.0 ];
     }
 
--- where the values of labels 7 and 11 are left as they are
+-- The laws of maps whose values of labels 7 and 11 are not decoded.
 pub partial_fields_laws : LawfulFields Name (FieldTuple (Option Item)) names (fields (optional any) (optional any))
 partial_fields_laws = fields_laws (optional any) (optional any) (optional_laws any any_laws) (optional_laws any any_laws)
 
@@ -101,9 +101,9 @@ pub partial_header_laws : Lawful (FieldsView × Versions (Option Item)) partial_
 unfolding partial_header
 partial_header_laws = map_with_laws (optional any) (optional any) (optional_laws any any_laws) (optional_laws any any_laws)
 
--- ---- the values of labels 7 and 11, read later
+-- ---- the values of labels 7 and 11, decoded later
 
--- a value as it is
+-- A value that is not decoded describes itself.
 as_it_is : (o : Option Item) → (optional any).describes o o
 as_it_is (Some v) = refl
 as_it_is None = refl
@@ -113,7 +113,8 @@ is_itself (Some v) (Some w) h = ap Some h
 is_itself (Some v) None h = absurd h
 is_itself None p h = sym h
 
--- a map is one whose values of labels 7 and 11 are left as they are, and these values
+-- A map describes a header exactly when two conditions hold. The map with undecoded values of labels 7 and 11 describes
+-- the header, and c and d describe these values.
 pub split :
     {C : Type 0} (c d : FieldShape C) (v : Item) (f : FieldsView) (x : Versions C) → (map_with c d).describes v (f, x)
     → (o : Versions (Option Item)) × partial_header.describes v (f, o) × c.describes o.0 x.0 × d.describes o.1 x.1
@@ -184,7 +185,7 @@ join c d v f o x p q r =
       p.1,
     )
 
--- and it is written as the other, where the values are what c and d write
+-- The images of both maps are equal, if the undecoded values are the images by c and d.
 pub image_with :
     {C : Type 0} (c d : FieldShape C) (f : FieldsView) (x : Versions C) (o p : Option Item) → c.image x.0 ≡ Some o → d.image x.1 ≡ Some p
     → partial_header.image (f, (o, p)) ≡ (map_with c d).image (f, x)
@@ -194,7 +195,7 @@ image_with c d f x (Some v) None h k = rw (h, k) refl
 image_with c d f x None (Some w) h k = rw (h, k) refl
 image_with c d f x None None h k = rw (h, k) refl
 
--- what is among some pairs is found, where no label occurs twice
+-- If no label repeats, `lookup` finds the value of the pair with the label l.
 pair_found :
     (P : Item → Type 0) (l : Name) (ps : Pairs) (es : List (Name × Item)) → Named label.describes ps es → IsDistinct same_name (keys_of es)
     → SomePair (λ k u. label.describes k l × P u) ps
@@ -207,7 +208,7 @@ pair_found P l (pair k v ps) (e ∷ es) p d (inl f) =
     (e.1, rw q refl, subst P p.1 f.1)
 pair_found P l (pair k v ps) (e ∷ es) p d (inr f) = let g = pair_found P l ps es p.2 d.1 f in (g.0, lookup_later names names_laws e es l g.0 d.0 g.1, g.2)
 
--- so the value is the one that is left as it is
+-- Counter signatures are the value of label 7 or of label 11.
 some_of_two : (P : Item → Type 0) (ps : Pairs) → SomePair (λ k w. HoldsSignatures k × P w) ps
     → SomePair (λ k w. label.describes k labels.counter_signature × P w) ps ⊎ SomePair (λ k w. label.describes k labels.countersignature_v2 × P w) ps
 some_of_two P no_pairs f = absurd f
@@ -228,7 +229,7 @@ counter_signatures_found P v f o p s =
       | inr h ↦ let g = pair_found P labels.countersignature_v2 p.0.0 m.entries m.named m.distinct h in (g.0, inr (sym second ∙ g.1), g.2)
     ]
 
--- what is among some pairs is among them and others
+-- A label in one of two lists of pairs is in both lists together.
 label_before : (l : Name) (ps qs : Pairs) → HasLabel label.describes l ps → HasLabel label.describes l (and_pairs ps qs)
 label_before l no_pairs qs f = absurd f
 label_before l (pair k v ps) qs (inl f) = inl f
@@ -238,13 +239,13 @@ label_after : (l : Name) (ps qs : Pairs) → HasLabel label.describes l qs → H
 label_after l no_pairs qs f = f
 label_after l (pair k v ps) qs f = inr (label_after l ps qs f)
 
--- a vector that was gathered has its label
+-- If IV or Partial IV is not empty after some pairs, one of these pairs has its label.
 iv_before : (l : Name) (ps : Pairs) (es : List (Name × Item)) (iv : List ℕ) → Named label.describes ps es
     → (unless_empty nonempty_bstr).describes (lookup (same_name l) es) iv → (iv ≡ [] → ⊥) → HasLabel label.describes l ps
 iv_before l ps es iv n d some = has_label names names_laws ps es l n
     (λ a. some (subst (λ o. (unless_empty nonempty_bstr).describes o iv) (lookup_none names l es a) d))
 
--- what excludes a label is a fault of the map
+-- A label that an earlier label excludes is a fault of the map.
 pub barred_fault : (v : Item) (e : CoseError) → (ps : Pairs) × (as_map v ≡ Some ps)
     × IsExcluded Name (FieldTuple (Option Item)) names (fields (optional any) (optional any)) excludes ps e → partial_header.faults v e
 unfolding partial_header

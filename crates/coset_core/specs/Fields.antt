@@ -1,4 +1,4 @@
--- What a header holds beside its counter signatures of both versions, and maps of that (RFC 8152, section 3.1).
+-- Headers without the counter signatures of both versions, and their maps (RFC 8152, section 3.1).
 use Rattle.std.specs.Prelude.{◌≡◌, ◌≢◌, ◌⊎◌, ℕ, ◌==◌, List, [], filter, length, Option, Some, None, true, is_some, ⊤}
 use Rattle.std.specs.Str.{trim}
 use Rattle.coset_value.specs.Item.{Item, Pairs}
@@ -16,7 +16,7 @@ use Rattle.coset_label.specs.Names.{Name, number, text_label, RegisteredName, sa
 use Rattle.coset_label.specs.Labels.{label, registered, registered_or_private, algorithm, names}
 use Rattle.coset_core.specs.FieldLabels as labels
 
--- a header without its memory and its counter signatures
+-- The view of a header without its counter signatures of both versions.
 pub record FieldsView : Type 0 where
   pub alg : Option RegisteredName
   pub crit : List RegisteredName
@@ -27,18 +27,17 @@ pub record FieldsView : Type 0 where
   pub countersignature0_v2 : Option (List ℕ)
   pub rest : List (Name × Item)
 
--- nothing
+-- The fields of the empty header.
 abbrev pub empty_fields : FieldsView
 empty_fields = record { alg = None; crit = []; content_type = None; key_id = []; iv = []; partial_iv = []; countersignature0_v2 = None; rest = [] }
 
 -- ---- the fields' values
 
--- a label that must be understood: the number of a header parameter that IANA assigned, else a number for private use,
--- or a text
+-- An entry of `crit`: a registered header parameter, a private-use number, or a text (RFC 8152, section 3.1).
 unfoldable pub critical : Shape RegisteredName
 critical = registered_or_private (λ i. is_some (first_numbered parameters.number HEADER_PARAMETERS i)) is_private_use
 
--- a text names a media type: it isn't empty, doesn't begin or end with white space, and has one '/'
+-- The text names a media type: it isn't empty, doesn't begin or end with white space, and has one '/'.
 pub record IsMediaType (s : List ℕ) : Type 0 where
   pub filled : s ≢ []
   pub trimmed : trim s ≡ s
@@ -48,17 +47,17 @@ abbrev pub IsContentType : Name → Type 0
 IsContentType (number i) = ⊤
 IsContentType (text_label s) = IsMediaType s
 
--- a content type: the number of a format of CoAP, or a media type
+-- A content type: the number of a CoAP content format, or a media type.
 unfoldable pub content_type : Shape Name
 content_type = such_that IsUnexpected IsContentType (registered (λ i. is_some (first_numbered content_formats.number COAP_CONTENT_FORMATS i)))
 
--- ---- maps of them
+-- ---- maps of the fields
 
--- what is under the two labels whose values hold counter signatures: 7 and 11
+-- One value for each of the two labels of counter signatures, 7 and 11.
 abbrev pub Versions : Type 0 → Type 0
 Versions C = C × C
 
--- the fields by label, in the order in which they are written; under the two labels of counter signatures is what C says
+-- The fields by label, in the order in which they are written. C is the type of the values of labels 7 and 11.
 abbrev pub FieldTuple : Type 0 → Type 0
 FieldTuple C = Option RegisteredName × (List RegisteredName × (Option Name × (List ℕ × (List ℕ × (List ℕ × (C × (C × (Option (List ℕ) × Unit {0}))))))))
 
@@ -94,15 +93,15 @@ abbrev pub parts_of : {C : Type 0} → FieldsView × Versions C → FieldTuple C
 parts_of x =
     ((x.0.alg, (x.0.crit, (x.0.content_type, (x.0.key_id, (x.0.iv, (x.0.partial_iv, (x.1.0, (x.1.1, (x.0.countersignature0_v2, tt))))))))), x.0.rest)
 
--- not both IV and Partial IV
+-- The header doesn't have both IV and Partial IV.
 abbrev pub HasOneIv : FieldsView → Type 0
 HasOneIv f = (f.iv ≡ []) ⊎ (f.partial_iv ≡ [])
 
--- the fields by label, and the rest
+-- The map of the fields, by label, and of the rest. c and d are the shapes of labels 7 and 11.
 abbrev pub map_of : {C : Type 0} → FieldShape C → FieldShape C → Shape (FieldsView × Versions C)
 map_of c d = mapped fields_of parts_of (labelled names (fields c d))
 
--- both IV and Partial IV
+-- The map has the labels of both IV and Partial IV.
 abbrev pub HasBothIvs : Item → Type 0
 HasBothIvs v = (ps : Pairs) × (as_map v ≡ Some ps) × HasLabel label.describes labels.iv ps × HasLabel label.describes labels.partial_iv ps
 
@@ -115,19 +114,19 @@ map_with c d = record {
   faults = λ v e. (map_of c d).faults v e ⊎ (HasBothIvs v × IsUnexpected e);
 }
 
--- such a map, with the values of labels 7 and 11 as they are
+-- A header's map, with the values of labels 7 and 11 not decoded.
 unfoldable pub partial_header : Shape (FieldsView × Versions (Option Item))
 partial_header = map_with (optional any) (optional any)
 
--- the key of counter signatures: label 7, or label 11
+-- The key is a label of counter signatures: 7 or 11.
 abbrev pub HoldsSignatures : Item → Type 0
 HoldsSignatures k = label.describes k labels.counter_signature ⊎ label.describes k labels.countersignature_v2
 
--- one of the pairs of a map holds counter signatures, and P holds of its value
+-- A pair of the map is under a label of counter signatures, and P holds for its value.
 abbrev pub SomeCounterSignatures : (Item → Type 0) → Item → Type 0
 SomeCounterSignatures P v = (ps : Pairs) × (as_map v ≡ Some ps) × SomePair (λ k w. HoldsSignatures k × P w) ps
 
--- why a label is refused after others: Partial IV after IV, or IV after Partial IV
+-- The label is refused because of an earlier one: Partial IV after IV, or IV after Partial IV.
 abbrev pub excludes : {C : Type 0} → Excludes Name (FieldTuple C)
 excludes m x e =
     ((same_name labels.iv m ≡ true) × ((fields_of x).0.partial_iv ≢ []) × IsUnexpected e)

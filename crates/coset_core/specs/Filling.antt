@@ -1,4 +1,4 @@
--- Reading a header and its signatures forward: what is read so far, and what is returned where reading stops.
+-- Reading a header and its signatures forward: the state so far, and the result when reading stops.
 use Rattle.std.specs.Prelude.{◌≡◌, ◌⊎◌, ℕ, List, map, Bool, true, false, Option, Some, None, Result, Ok, Err}
 use Rattle.std.specs.Map.{keys_of}
 use Rattle.coset_value.specs.Item.{Item, array, dict, Items, no_items, item, Pairs, no_pairs, pair}
@@ -25,7 +25,7 @@ use Rattle.coset_core.specs.declared.header.reading.Version.TheVariants.{V1, V2}
 
 -- ---- a header's pairs
 
--- a version's label, and what is there of a version
+-- The label of a version of counter signatures.
 abbrev pub label_of : Version → Name
 label_of V1 = labels.counter_signature
 label_of V2 = labels.countersignature_v2
@@ -38,11 +38,11 @@ abbrev pub with_version : {A : Type 0} → Version → A → Versions A → Vers
 with_version V1 a x = (a, x.1)
 with_version V2 a x = (x.0, a)
 
--- the label is that of no version
+-- The label is that of no version: neither 7 nor 11.
 abbrev pub NamesNoVersion : Name → Type 0
 NamesNoVersion m = (same_name labels.counter_signature m ≡ false) × (same_name labels.countersignature_v2 m ≡ false)
 
--- a pair with the label m goes to this field
+-- A pair with the label m goes to this field.
 abbrev pub GoesTo : Name → Field → Type 0
 GoesTo m Alg = m ≡ labels.alg
 GoesTo m Crit = m ≡ labels.crit
@@ -54,11 +54,11 @@ GoesTo m (Signatures version) = m ≡ label_of version
 GoesTo m Countersignature0V2 = m ≡ labels.countersignature0_v2
 GoesTo m Rest = is_core names (fields (optional any) (optional any)).labels m ≡ false
 
--- of all the pairs of a map those before ps make the fields f, and o are the values of labels 7 and 11
+-- The pairs of a map before ps make the fields f, and o are their values of labels 7 and 11.
 abbrev pub WalksTo : Pairs → FieldsView → Versions (Option Item) → Pairs → Type 0
 WalksTo all f o ps = Walks Name (FieldTuple (Option Item)) names (fields (optional any) (optional any)) all (parts_of (f, o)) ps
 
--- at t is the value of a pair that holds counter signatures of this version
+-- The input t is at the value of a pair with counter signatures of this version.
 pub record AtHeld (version : Version) (all : Pairs) (o : Versions (Option Item)) (f : FieldsView) (t z : State) (m : MapEntries) : Type 0 where
   pub key : Item
   pub value : Item
@@ -69,12 +69,12 @@ pub record AtHeld (version : Version) (all : Pairs) (o : Versions (Option Item))
   pub stands : ItemAt value t mid
   pub within : PairsWithin m others mid z
 
--- all pairs were read
+-- All pairs were read.
 pub record AtEnd (all : Pairs) (o : Versions (Option Item)) (f : FieldsView) (t z : State) (m : MapEntries) : Type 0 where
   pub walks : WalksTo all f o no_pairs
   pub within : PairsWithin m no_pairs t z
 
--- the pair was skipped that is at fault
+-- A pair has a fault and was skipped.
 pub record AtFault (all : Pairs) (o : Versions (Option Item)) (f : FieldsView) (t z : State) (m : MapEntries) (e : CoseError) : Type 0 where
   pub key : Item
   pub value : Item
@@ -84,17 +84,17 @@ pub record AtFault (all : Pairs) (o : Versions (Option Item)) (f : FieldsView) (
   pub faulty : UnlessMemory e (λ g. RefusesKey names (fields (optional any) (optional any)) key value (parts_of (f, o)) g
       ⊎ ExcludesKey names excludes key (parts_of (f, o)) g)
 
--- where reading pairs one after the other stops
+-- The result of reading pairs one after the other, until reading stops.
 abbrev pub FillsSome : Pairs → Versions (Option Item) → State → FieldsView → State → MapEntries → Result (Option Version) CoseError → Type 0
 FillsSome all o z f t m (Ok (Some version)) = AtHeld version all o f t z m
 FillsSome all o z f t m (Ok None) = AtEnd all o f t z m
 FillsSome all o z f t m (Err e) = AtFault all o f t z m e
 
--- no label of the rest repeats
+-- No label of the rest repeats.
 abbrev pub IsDistinctRest : FieldsView → Type 0
 IsDistinctRest f = are_distinct same_name (keys_of f.rest) ≡ true
 
--- the same, where labels of the rest that repeat are a fault
+-- The same, but labels of the rest that repeat are a fault.
 abbrev pub FillsFields : Pairs → Versions (Option Item) → State → FieldsView → State → MapEntries → Result (Option Version) CoseError → Type 0
 FillsFields all o z f t m (Ok (Some version)) = AtHeld version all o f t z m × IsDistinctRest f
 FillsFields all o z f t m (Ok None) = AtEnd all o f t z m × IsDistinctRest f
@@ -103,14 +103,14 @@ FillsFields all o z f t m (Err e) = (left : Pairs) × PairsWithin m left t z
 
 -- ---- signatures
 
--- the counter signatures of both versions that a header holds, and those of one
+-- A header's counter signatures of both versions.
 abbrev pub held : Header → Versions (List SignatureView)
 held h = (map signature_view (counter_signatures_held h), map countersignature_view (countersignatures_held h))
 
 abbrev pub held_of : Version → Header → List SignatureView
 held_of version h = at_version version (held h)
 
--- the header has these counter signatures of that version, and all else as it was
+-- The header has these counter signatures of this version, and is otherwise unchanged.
 pub record Keeps (version : Version) (xs : List SignatureView) (old new : Header) : Type 0 where
   pub fields : fields_view new ≡ fields_view old
   pub signatures : held new ≡ with_version version xs (held old)
@@ -121,14 +121,15 @@ abbrev pub FirstPlace : Item → Option (List ℕ) → CoseError → Bool → Ty
 FirstPlace w o f true = (b : List ℕ) × (as_bytes w ≡ Some b) × (o ≡ Some b)
 FirstPlace w o f false = (k : ℕ) → UnlessMemory f ((layered_protected k).faults w)
 
--- the second of them is at t, and the first is a byte string, of the bytes o, or it isn't, as the error f says; or they
--- are too few
+-- The input t is at the second element. The first element is a byte string with the bytes o, or the error f says why it
+-- is not. Otherwise there are too few elements.
 abbrev pub BeginsElements : Items → State → State → ArrayElements → Option (List ℕ) → CoseError → Result Bool CoseError → Type 0
 BeginsElements vs t z m o f (Ok is) =
     (w : Item) × (u : Item) × (others : Items) × (mid : State) × (vs ≡ item w (item u others)) × ItemAt u t mid × AreWithin m others mid z × FirstPlace w o f is
 BeginsElements vs t z m o f (Err e) = (left : Items) × AreWithin m left t z × ((k : ℕ) → UnlessMemory e ((layered_signature k).faults (array vs)))
 
--- the third and last is a byte string, of these bytes; or it isn't, or they are too few or too many
+-- The third element is the last, and is a byte string with the bytes b. Otherwise it is no byte string, or the number
+-- of elements is wrong.
 abbrev pub EndsElements : Items → State → State → ArrayElements → List ℕ → Result (Unit {0}) CoseError → Type 0
 EndsElements vs t z m b (Ok x) = (w : Item) × (vs ≡ item w no_items) × (as_bytes w ≡ Some b) × AreWithin m no_items t z
 EndsElements vs t z m b (Err e) = (left : Items) × AreWithin m left t z

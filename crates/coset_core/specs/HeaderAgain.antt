@@ -1,4 +1,4 @@
--- A header that was read is written as an item that represents it and is no deeper.
+-- A decoded header has an image, which describes the same header and nests no deeper than the decoded item.
 use Rattle.std.proofs.Common.{◌≡◌, ℕ, zero, suc, List, Option, Some, None, option_map, refl, sym, ap, ◌∙◌, subst, arith}
 use Rattle.coset_value.specs.Item.{Item, bytes, array, Items, no_items, item, depth, items_count}
 use Rattle.coset_value.specs.Parts.{as_bytes, as_array}
@@ -14,28 +14,28 @@ use Rattle.coset_core.specs.Headers.{HeaderView, header_of, Signatures, no_signa
 use Rattle.coset_core.specs.Headers.{signed_array, described_by, counter_signatures_item, header_item, protected_item, signatures_image, header_image}
 use Rattle.coset_core.specs.HeaderReads.{ProtectedOf}
 
--- one value, of which it is known which items represent it, and what it is written as
+-- The shape of a single value, from the items that describe it and its image.
 abbrev pub told_as : (Item → Type 0) → Option Item → Shape (Unit {0})
 told_as P o = fixed P o (λ v e. ⊥)
 
 abbrev pub known_elements : ℕ → Signatures → Elements (Unit {0})
 known_elements k ss = record { describes = λ vs x. AreSignatures ss k vs; image = λ x. signatures_image ss; wrong_length = λ vs. ⊥; faults = λ vs e. ⊥ }
 
--- whatever items represent a header or signatures, these are written so
+-- If an item describes the header, the image of the header also does and is no deeper.
 abbrev pub IsAgain : ℕ → HeaderView → Type 0
 IsAgain k h = (v : Item) → IsHeader h k v → Again (Unit {0}) (told_as (IsHeader h k) (header_image h)) v tt
 
 abbrev pub AreAgain : ℕ → Signatures → Type 0
 AreAgain k ss = (vs : Items) → AreSignatures ss k vs → AgainElements (Unit {0}) (known_elements k ss) vs tt
 
--- ---- the signatures of label 7, or 11
+-- ---- the signatures under labels 7 and 11
 
 pub never_none : (w : Item) → one_or_more w ≡ Some no_items → ⊥
 never_none (array (item (bytes b) vs)) p = cc
 never_none (array (item v vs)) p = cc
 never_none _ p = cc
 
--- as many items as signatures
+-- Items that describe the same signatures are equally many.
 same_count : (ss : Signatures) (k : ℕ) (vs ws : Items) → AreSignatures ss k vs → AreSignatures ss k ws → items_count ws ≡ items_count vs
 same_count no_signatures k vs ws a b = ap items_count (b ∙ sym a)
 same_count (signature_and o p u s more) k no_items ws a b = absurd a
@@ -50,12 +50,12 @@ pub bytes-is : (v : Item) (b : List ℕ) → as_bytes v ≡ Some b → v ≡ byt
 bytes-is (bytes c) b p = ap bytes (some-one refl p)
 bytes-is _ b p = absurd (cc)
 
--- a protected header is the byte string that it was read from
+-- An item that describes a protected header is a byte string with the kept bytes.
 protected_is_bytes : (o : Option (List ℕ)) (h : HeaderView) (k : ℕ) (v : Item) → ProtectedOf o h k v → (b : List ℕ) × (v ≡ bytes b) × (o ≡ Some b)
 protected_is_bytes o h zero v p = absurd p
 protected_is_bytes o h (suc k) v p = (p.0, bytes-is v p.0 p.1, p.2)
 
--- a signature is an array that begins with a byte string
+-- The item is an array that begins with a byte string, as each signature is.
 pub record Begins (v : Item) : Type 0 where
   pub first : List ℕ
   pub others : Items
@@ -69,7 +69,7 @@ elements_begin o p k R s v (item x vs) e h =
     let b = protected_is_bytes o p k x h.0 in
     record { first = b.0; others = vs; is = e ∙ ap (λ y. array (item y vs)) b.1 }
 
--- so one is distinguished from several
+-- So `one_or_more` distinguishes one signature from several.
 pub one_or_array_begins : (v : Item) (vs : Items) → Begins v → one_or_more (one_or_array (item v vs)) ≡ Some (item v vs)
 one_or_array_begins v no_items h = rw h.is refl
 one_or_array_begins v (item w vs) h = rw h.is refl
@@ -80,7 +80,7 @@ one_or_array_told :
 one_or_array_told o p u s more k no_items a = absurd a
 one_or_array_told o p u s more k (item v vs) a = one_or_array_begins v vs (elements_begin o p k (IsHeader u k) s v a.0.0 (array-is v a.0.0 a.0.1) a.0.2)
 
--- the value of label 7, or 11, that represents them
+-- The shape of the value of label 7 or 11, for these signatures.
 abbrev known : ℕ → Signatures → FieldShape (Unit {0})
 known k ss = record {
   describes = λ o x. CounterSignaturesAre (AreSignatures ss k) (ss ≡ no_signatures) o;
@@ -128,12 +128,12 @@ known_laws k ss again = record {
 
 -- ---- headers
 
--- every value is within some depth
+-- Every value is within some depth.
 within : (o : Option Item) → (d : ℕ) × Within d o
 within (Some v) = (depth v, omega arith)
 within None = (0, tt)
 
--- its map is written so, where its signatures are
+-- If the images of a header's signatures describe these again, the image of the header does so too.
 map_again : (f : FieldsView) (ss ts : Signatures) (k : ℕ) → AreAgain k ss → AreAgain k ts → IsAgain k (header_of f ss ts)
 map_again f ss ts k again again_v2 v h =
     let two : Versions (Unit {0}) = (tt, tt) in
@@ -154,14 +154,15 @@ map_again f ss ts k again again_v2 v h =
 
 -- ---- signatures
 
--- the byte string is written as it was read
+-- The image of a protected header is the byte string that it was decoded from.
 pub protected_again : (k : ℕ) (o : Option (List ℕ)) (h : HeaderView) (v : Item) → ProtectedOf o h k v
     → Again (Unit {0}) (told_as (ProtectedOf o h k) (protected_item o h (header_image h))) v tt
 protected_again k o h v p =
     let b = protected_is_bytes o h k v p in
     record { image = v; is_image = ap (λ q. protected_item q h (header_image h)) b.2 ∙ ap Some (sym b.1); described = p; shallow = omega arith }
 
--- laws of one value, from how it is written and from what is wrong with an item; and of an array of three, from its elements
+-- The laws of the shape of a single value, from its image and its faults. `signed_laws` are those of an array of three,
+-- from its elements.
 pub fixed_laws :
     (P : Item → Type 0) (o : Option Item) (F : Item → CoseError → Type 0) → ((v : Item) → P v → Again (Unit {0}) (told_as P o) v tt)
     → ((v : Item) (e : CoseError) → P v → F v e → ⊥)
@@ -176,7 +177,7 @@ fixed_laws P o F again sound =
 pub signed_laws : {A B : Type 0} (p : Shape A) (u : Shape B) → Lawful A p → Lawful B u → Lawful (A × (B × (List ℕ × Unit {0}))) (signed_array p u)
 signed_laws p u lp lu = array_of_laws _ (then_laws p _ lp (then_laws u _ lu (then_laws bstr end bstr_laws end_laws)))
 
--- all headers are written so, and all signatures
+-- The image of each header describes this header again, and so do the images of signatures.
 mutual
   pub header_again : (h : HeaderView) (k : ℕ) → IsAgain k h
   header_again (header_of f ss ts) k v h = map_again f ss ts k (λ vs x. signatures_again ss k vs x) (λ vs x. signatures_again ts k vs x) v h

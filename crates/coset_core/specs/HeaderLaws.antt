@@ -1,4 +1,4 @@
--- The laws of the shapes of headers, protected headers and signatures, within however many layers.
+-- The laws of the shapes of headers, protected headers and signatures, for any number of layers.
 use Rattle.std.proofs.Common.{ℕ, zero, suc, refl}
 use Rattle.coset_codec.specs.ShapeLaws.{Lawful, mapped_laws}
 use Rattle.coset_codec.specs.SerializedLaws.{serialized_laws}
@@ -28,7 +28,7 @@ layered_signature_laws k =
     mapped_laws signature_of elements_of (λ x. refl) _
     (signed_laws (layered_protected k) (layered_header k) (layered_protected_laws k) (layered_header_laws k))
 
--- within as many as are read
+-- The laws for the number of layers that decoding accepts.
 pub header_laws : Lawful HeaderView header
 header_laws = layered_header_laws LAYERS
 

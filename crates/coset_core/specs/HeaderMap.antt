@@ -1,5 +1,5 @@
--- A header as the map of its fields, in which labels 7 and 11 hold signatures: `header_map` of RFC 8152, section 3, where label 7
--- holds counter signatures (section 4.5). Those of label 11 are modelled on RFC 9338, section 3.1.
+-- A header as the map of its fields, with signatures under labels 7 and 11: `header_map` of RFC 8152, section 3. Label
+-- 7 has counter signatures (section 4.5). Those of label 11 are modelled on RFC 9338, section 3.1.
 use Rattle.std.specs.Prelude.{List, [], ◌∷◌}
 use Rattle.coset_codec.specs.Shape.{Shape, mapped}
 use Rattle.coset_codec.specs.Maps.{unless_empty}
@@ -7,18 +7,19 @@ use Rattle.coset_core.specs.Fields.{FieldsView, Versions, map_with}
 use Rattle.coset_core.specs.Headers.{HeaderView, header_of, fields_in, counter_signatures_in, countersignatures_in, Signatures, no_signatures, signature_and}
 use Rattle.coset_core.specs.Headers.{SignatureView, signatures_of}
 
--- signatures as a list
+-- The signatures as a list.
 abbrev pub each_of : Signatures → List SignatureView
 each_of no_signatures = []
 each_of (signature_and o p u s more) = record { protected = record { original = o; header = p }; unprotected = u; signature = s } ∷ each_of more
 
--- a header of its fields and its signatures of both versions; and these of a header
+-- Makes a header of its fields and its signatures of both versions. `header_parts` is the inverse.
 abbrev pub header_with : FieldsView × Versions (List SignatureView) → HeaderView
 header_with x = header_of x.0 (signatures_of x.1.0) (signatures_of x.1.1)
 
 abbrev pub header_parts : HeaderView → FieldsView × Versions (List SignatureView)
 header_parts h = (fields_in h, (each_of (counter_signatures_in h), each_of (countersignatures_in h)))
 
--- the map of a header's fields, where s is the shape of its signatures: ? 7 => s and ? 11 => s, each left out where there are none
+-- The map of a header's fields. s is the shape of its signatures: ? 7 => s and ? 11 => s. Each is left out if there are
+-- no signatures.
 abbrev pub header_map : Shape (List SignatureView) → Shape HeaderView
 header_map s = mapped header_with header_parts (map_with (unless_empty s) (unless_empty s))

@@ -1,4 +1,5 @@
--- Headers read from their parts: the map with the values of labels 7 and 11 as they are, and the counter signatures of these values.
+-- Headers read from their parts: the map with undecoded values of labels 7 and 11, and the counter signatures in these
+-- values.
 use Rattle.std.specs.Prelude.{None, ⊤}
 use Rattle.std.proofs.Common.{◌≡◌, ℕ, zero, suc, List, [], ◌∷◌, Option, Some, refl, ap, sym, subst, inl, inr}
 use Rattle.coset_value.specs.Item.{Item, Items, no_items, item, Pairs, no_pairs, pair}
@@ -13,9 +14,9 @@ use Rattle.coset_core.specs.Headers.{CounterSignaturesAre, DescribesContent, Des
 use Rattle.coset_core.specs.Headers.{AreSignatures, signed_array, described_by, HeaderFaults}
 use Rattle.coset_core.specs.Headers.{ProtectedFaults, counter_signatures_faults, layered_header, layered_protected, layered_signature}
 
--- ---- what represents a value
+-- ---- items that describe a value
 
--- an array of three, whose first two elements are seen otherwise
+-- An array of three, with other shapes of the first two elements.
 pub signed_as :
     {A B C D : Type 0} (p : Shape A) (u : Shape B) (q : Shape C) (t : Shape D) (a : A) (b : B) (c : C) (d : D) (s : List ℕ)
     → ((w : Item) → p.describes w a → q.describes w c)
@@ -28,14 +29,14 @@ signed_as p u q t a b c d s f g v h = (h.0, h.1, go h.0 h.2)
     go (item x no_items) k = absurd k.1
     go (item x (item y vs)) k = (f x k.0, (g y k.1.0, k.1.1))
 
--- a protected header
+-- If the shape says that content describes a header, then so does `DescribesContent`.
 content_read : (k : ℕ) (h : HeaderView) (b : List ℕ) → ContentDescribes empty_header (layered_header k) b h
     → DescribesContent (IsHeader h k) (h ≡ empty_header) b
 unfolding layered_header
 content_read k h [] p = p
 content_read k h (c ∷ b) p = p
 
--- the byte string represents the header, within k layers
+-- The byte string describes the protected header, with k layers left.
 abbrev pub ProtectedOf : Option (List ℕ) → HeaderView → ℕ → Item → Type 0
 ProtectedOf o h k v = DescribesProtected (IsHeader h) (h ≡ empty_header) o k v
 
@@ -44,12 +45,12 @@ unfolding layered_protected
 protected_read zero p v h = h
 protected_read (suc k) p v h = (h.0, h.1, h.2, content_read k p.header h.0 h.3)
 
--- an unprotected one
+-- If the shape says that an item describes a header, then so does `IsHeader`.
 unprotected_read : (k : ℕ) (h : HeaderView) (v : Item) → (layered_header k).describes v h → IsHeader h k v
 unfolding layered_header
 unprotected_read k h v p = p
 
--- signatures
+-- If the shape says that items describe signatures, then so does `AreSignatures`.
 pub signatures_read : (k : ℕ) (vs : Items) (xs : List SignatureView) → Each (layered_signature k).describes vs xs → AreSignatures (signatures_of xs) k vs
 signatures_read k no_items [] h = refl
 signatures_read k no_items (x ∷ xs) h = h
@@ -62,13 +63,13 @@ signatures_read k (item v vs) (x ∷ xs) h =
       signatures_read k vs xs h.1,
     )
 
--- one, or several
+-- If the shape says that the value of label 7 or 11 describes signatures, then so does `AreSignatures`.
 pub counter_signatures_read :
     (k : ℕ) (w : Item) (xs : List SignatureView) → (one_or_many (any_number (layered_signature k))).describes w xs → (vs : Items) × (one_or_more w ≡ Some vs)
     × AreSignatures (signatures_of xs) k vs
 counter_signatures_read k w xs h = (h.0, h.1, signatures_read k h.0 xs h.2)
 
--- a header of which that is known
+-- A map describes a header if it describes the fields, and its values of labels 7 and 11 describe the signatures.
 pub header_read :
     (k : ℕ) (v : Item) (f : FieldsView) (o : Versions (Option Item)) (ss ts : Signatures) → partial_header.describes v (f, o)
     → CounterSignaturesAre (AreSignatures ss k) (ss ≡ no_signatures) o.0
@@ -76,7 +77,8 @@ pub header_read :
 unfolding layered_header
 header_read k v f o ss ts p q r = (o, p, q, r)
 
--- a map with lists of signatures, which are left out where they are empty
+-- If the shape says that an optional value describes signatures, then so does `CounterSignaturesAre`. An absent value
+-- describes the empty list.
 listed_read :
     (k : ℕ) (xs : List SignatureView) (o : Option Item) → (unless_empty (one_or_many (any_number (layered_signature k)))).describes o xs
     → CounterSignaturesAre (AreSignatures (signatures_of xs) k) (signatures_of xs ≡ no_signatures) o
@@ -93,16 +95,16 @@ header_read_with k v f xs ys h =
     (xs, ys) h in
     header_read k v f parts.0 (signatures_of xs) (signatures_of ys) parts.1 (listed_read k xs parts.0.0 parts.2) (listed_read k ys parts.0.1 parts.3)
 
--- ---- what is wrong
+-- ---- faults
 
--- faults of a signature, in whose label 7 or 11 they are found within n signatures
+-- The faults of a signature's protected header, to a depth of n nested signatures.
 abbrev pub protected_faults : ℕ → ℕ → Shape (Unit {0})
 protected_faults n k = fixed (λ v. ⊤) None (ProtectedFaults (λ j. HeaderFaults (counter_signatures_faults n j)) k)
 
 abbrev pub unprotected_faults : ℕ → ℕ → Shape (Unit {0})
 unprotected_faults n k = fixed (λ v. ⊤) None (HeaderFaults (counter_signatures_faults n k))
 
--- the faults of a header, as they are found
+-- A fault in a header's map is a fault of the header.
 pub partial_header_fault : (k : ℕ) (v : Item) (e : CoseError) → partial_header.faults v e → (layered_header k).faults v e
 unfolding layered_header
 partial_header_fault k v e f = (0, inl f)
@@ -122,7 +124,7 @@ protected_fault zero v e f = (0, f)
 protected_fault (suc k) v e (inl f) = (0, inl f)
 protected_fault (suc k) v e (inr f) = let g = content_fault k f.0 e f.2 in (g.0, inr (f.0, f.1, g.1))
 
--- the elements of a signature
+-- A fault in a signature's elements is found at some depth of nested signatures.
 elements_fault :
     (k : ℕ) (vs : Items) (e : CoseError) → (layered_protected k then layered_header k then bstr then end).faults vs e
     → (n : ℕ) × (protected_faults n k then unprotected_faults n k then bstr then end).faults vs e
@@ -145,12 +147,12 @@ signatures_fault k no_items e f = absurd f
 signatures_fault k (item v vs) e (inl f) = let g = signature_fault k v e f in (g.0, inl g.1)
 signatures_fault k (item v vs) e (inr f) = let g = signatures_fault k vs e f in (g.0, inr g.1)
 
--- those of one signature, or of several
+-- A fault in one signature or several is found at some depth of nested signatures.
 pub faults_read : (k : ℕ) (w : Item) (e : CoseError) → (one_or_many (any_number (layered_signature k))).faults w e → (n : ℕ) × counter_signatures_faults n k w e
 faults_read k w e (inl f) = (1, inl f)
 faults_read k w e (inr f) = elim f.2 [ inl m ↦ absurd m.0 | inr m ↦ let g = signatures_fault k f.0 e m.1 in (suc g.0, inr (f.0, f.1, inr (m.0, g.1))) ]
 
--- and of the header that they are in
+-- A fault in counter signatures is a fault of the header that has them.
 some_as : (P Q : Item → Item → Type 0) (ps : Pairs) → ((k u : Item) → P k u → Q k u) → SomePair P ps → SomePair Q ps
 some_as P Q no_pairs f s = s
 some_as P Q (pair k v ps) f (inl s) = inl (f k v s)

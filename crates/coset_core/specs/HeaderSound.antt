@@ -1,4 +1,4 @@
--- No fault is in an item that represents a header.
+-- An item that describes a header has no fault.
 use Rattle.std.proofs.Common.{◌≡◌, ℕ, zero, suc, List, [], ◌∷◌, Option, Some, refl, subst, inl, inr}
 use Rattle.coset_value.specs.Item.{Item, Items, no_items, item}
 use Rattle.coset_cbor.proofs.Again.{encodings_differ}
@@ -13,12 +13,12 @@ use Rattle.coset_core.specs.Headers.{AreSignatures, signed_array, protected_item
 use Rattle.coset_core.specs.HeaderAgain.{fixed_laws, signed_laws, protected_again, header_again}
 use Rattle.coset_core.specs.HeaderReads.{ProtectedOf, protected_faults, unprotected_faults}
 
--- no fault within n signatures is found in a value that represents signatures
+-- A value of label 7 or 11 that describes signatures has no fault, to a depth of n nested signatures.
 abbrev AreSound : ℕ → Type 0
 AreSound n = (k : ℕ) (w : Item) (e : CoseError) (ss : Signatures) (vs : Items) → one_or_more w ≡ Some vs → AreSignatures ss k vs
     → counter_signatures_faults n k w e → ⊥
 
--- so none is in a value that represents signatures
+-- An optional value of label 7 or 11 that describes signatures has no such fault.
 held_sound :
     (n : ℕ) → AreSound n → (k : ℕ) (e : CoseError) (ss : Signatures) (o : Option Item) (w : Item) → o ≡ Some w
     → CounterSignaturesAre (AreSignatures ss k) (ss ≡ no_signatures) o
@@ -28,7 +28,7 @@ held_sound n sound k e ss o w is a x =
     subst (CounterSignaturesAre (AreSignatures ss k) (ss ≡ no_signatures)) is a in
     sound k w e ss are.0 are.1 are.2 x
 
--- in a map, in the content of a byte string, and in that string
+-- If a map, the content of a byte string or the byte string describes a header, it has no such fault.
 header_sound : (n : ℕ) → AreSound n → (k : ℕ) (e : CoseError) (h : HeaderView) (v : Item) → IsHeader h k v → HeaderFaults (counter_signatures_faults n k) v e
     → ⊥
 header_sound n sound k e (header_of f ss ts) v a (inl x) = partial_header_laws.sound v (f, a.0) e a.1 x
@@ -56,7 +56,7 @@ protected_sound n sound (suc k) e o h v a (inl x) = some-none a.1 x.0
 protected_sound n sound (suc k) e o h v a (inr x) =
     content_sound n sound k e h a.0 a.3 (subst (λ b. ContentFaults (unprotected_faults n k) b e) (some-one x.1 a.1) x.2)
 
--- nor in signatures
+-- Items that describe signatures have no such fault.
 each_sound :
     (n : ℕ) → AreSound n → (k : ℕ) (e : CoseError) (ss : Signatures) (vs : Items) → AreSignatures ss k vs
     → EachFaults (signed_array (protected_faults n k) (unprotected_faults n k)).faults vs e → ⊥
@@ -70,7 +70,7 @@ each_sound n sound k e (signature_and o p u s more) (item v vs) a (inl x) =
     (signed_laws _ _ covered other).sound v (tt, (tt, (s, tt))) e a.0 x
 each_sound n sound k e (signature_and o p u s more) (item v vs) a (inr x) = each_sound n sound k e more vs a.1 x
 
--- within however many
+-- A value of label 7 or 11 that describes signatures has no fault at any depth.
 counter_signatures_sound : (n : ℕ) → AreSound n
 counter_signatures_sound zero k w e ss vs p a f = f
 counter_signatures_sound (suc n) k w e ss vs p a (inl f) = some-none p f.0
@@ -81,6 +81,6 @@ counter_signatures_sound (suc n) k w e ss vs p a (inr f) =
           (subst (λ us. EachFaults (signed_array (protected_faults n k) (unprotected_faults n k)).faults us e) (some-one f.1 p) m.1)
     ]
 
--- nor in a header
+-- An item that describes a header has no fault at any depth.
 pub header_faultless : (k : ℕ) (v : Item) (x : HeaderView) (e : CoseError) → IsHeader x k v → (n : ℕ) → HeaderFaults (counter_signatures_faults n k) v e → ⊥
 header_faultless k v x e a n f = header_sound n (counter_signatures_sound n) k e x v a f

@@ -1,4 +1,4 @@
--- An item represents one header at most.
+-- An item describes at most one header.
 use Rattle.std.proofs.Common.{◌≡◌, ℕ, zero, suc, List, [], ◌∷◌, Option, Some, None, refl, sym, ap, ◌∙◌, subst}
 use Rattle.coset_value.specs.Item.{Item, Items, no_items, item}
 use Rattle.coset_cbor.proofs.Again.{encodings_differ}
@@ -11,15 +11,14 @@ use Rattle.coset_core.specs.Headers.{empty_header, CounterSignaturesAre, Describ
 use Rattle.coset_core.specs.Headers.{AreSignatures, signed_array, described_by}
 use Rattle.coset_core.specs.HeaderReads.{ProtectedOf}
 
--- an item represents one of two headers alone, whatever else is known of them; and some items for one of two lists of
--- signatures
+-- If an item describes both headers, they are equal. `SameSignatures` says the same of two lists of signatures.
 abbrev SameHeader : HeaderView → HeaderView → Type 0
 SameHeader h g = (k : ℕ) (v : Item) → IsHeader h k v → IsHeader g k v → h ≡ g
 
 abbrev SameSignatures : Signatures → Signatures → Type 0
 SameSignatures ss ts = (k : ℕ) (vs : Items) → AreSignatures ss k vs → AreSignatures ts k vs → ss ≡ ts
 
--- so the value of label 7, or 11, represents the same
+-- A value of label 7 or 11 describes at most one list of signatures.
 counter_signatures_same :
     (k : ℕ) (ss ts : Signatures) → SameSignatures ss ts → (o p : Option Item) → o ≡ p → CounterSignaturesAre (AreSignatures ss k) (ss ≡ no_signatures) o
     → CounterSignaturesAre (AreSignatures ts k) (ts ≡ no_signatures) p → ss ≡ ts
@@ -30,7 +29,7 @@ counter_signatures_same k ss ts same (Some v) (Some w) e a b =
     let vs : a.0 ≡ b.0 = some-one a.1 (ap one_or_more (some-one refl e) ∙ b.1) in
     same k b.0 (subst (AreSignatures ss k) vs a.2) b.2
 
--- and a map, and the content of a byte string
+-- A map describes at most one header, and so does the content of a byte string.
 map_same : (f g : FieldsView) (ss ts us ws : Signatures) → SameSignatures ss us → SameSignatures ts ws → SameHeader (header_of f ss ts) (header_of g us ws)
 map_same f g ss ts us ws same same_v2 k v a b =
     let e : ◌≡◌ {A = FieldsView × Versions (Option Item)} (f, a.0) (g, b.0) = partial_header_laws.unique v (f, a.0) (g, b.0) a.1 b.1 in
@@ -44,7 +43,7 @@ content_same : (h g : HeaderView) → SameHeader h g → (k : ℕ) (b : List ℕ
 content_same h g same k [] p q = p ∙ sym q
 content_same h g same k (c ∷ b) p q = same k q.0 (subst (IsHeader h k) (encodings_differ p.0 q.0 (c ∷ b) (c ∷ b) [] [] p.1.0 q.1.0 refl).0 p.2) q.2
 
--- and of protected ones also the bytes
+-- The byte string of a protected header describes at most one header and its kept bytes.
 protected_same : (o p : Option (List ℕ)) (h g : HeaderView) → SameHeader h g → (k : ℕ) (v : Item) → ProtectedOf o h k v → ProtectedOf p g k v → (o ≡ p)
     × (h ≡ g)
 protected_same o p h g same zero v a b = absurd a
@@ -52,7 +51,7 @@ protected_same o p h g same (suc k) v a b =
     let e : a.0 ≡ b.0 = some-one a.1 b.1 in
     (a.2 ∙ (ap Some e ∙ sym b.2), content_same h g same k b.0 (subst (DescribesContent (IsHeader h k) (h ≡ empty_header)) e a.3) b.3)
 
--- the elements of an array are one value each
+-- Two descriptions of a signature's array are about the same elements.
 record SameElements (P Q R S : Item → Type 0) (s t : List ℕ) : Type 0 where
   pub first : Item
   pub second : Item
@@ -69,14 +68,14 @@ signed_elements P Q R S s t (item x (item y no_items)) a b = absurd a.1.1
 signed_elements P Q R S s t (item x (item y (item z vs))) a b =
     record { first = x; second = y; protected = (a.0, b.0); unprotected = (a.1.0, b.1.0); signature = some-one a.1.1.0 b.1.1.0 }
 
--- and so are an array's
+-- Two descriptions of an item as a signature are about the same elements.
 signed_same : (P Q R S : Item → Type 0) (s t : List ℕ) (v : Item) → (signed_array (described_by P) (described_by R)).describes v (tt, (tt, (s, tt)))
     → (signed_array (described_by Q) (described_by S)).describes v (tt, (tt, (t, tt))) → SameElements P Q R S s t
 signed_same P Q R S s t v a b =
     signed_elements P Q R S s t b.0 (subst (λ vs. (described_by P then described_by R then bstr then end).describes vs (tt, (tt, (s, tt))))
     (some-one a.1 b.1) a.2) b.2
 
--- all headers, and all signatures
+-- An item describes at most one header, and items describe at most one list of signatures.
 mutual
   pub header_same : (h g : HeaderView) → SameHeader h g
   header_same (header_of f ss ts) (header_of g us ws) k v a b =

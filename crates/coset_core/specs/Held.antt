@@ -1,11 +1,11 @@
--- How many signatures are held, one inside another.
+-- The number of signatures in headers and lists, with all those nested in them.
 use Rattle.std.specs.Prelude.{ℕ, suc, ◌+◌, List, map}
 use Rattle.coset_core.specs.Headers.{HeaderView, header_of, Signatures, no_signatures, signature_and, signatures_of}
 use Rattle.coset_core.specs.Views.{countersignature_view, signature_view}
 use Rattle.coset_core.specs.declared.countersignature.CoseCountersignature.{CoseCountersignature}
 use Rattle.coset_core.specs.declared.signature.CoseSignature.{CoseSignature}
 
--- those in a header, and signatures with those in their headers
+-- The number of signatures in a header or a list, with those in their headers.
 abbrev mutual
   pub header_count : HeaderView → ℕ
   header_count (header_of f ss ts) = signatures_count ss + signatures_count ts
@@ -17,6 +17,6 @@ abbrev mutual
 abbrev pub signatures_in : List CoseSignature → ℕ
 signatures_in all = signatures_count (signatures_of (map signature_view all))
 
--- of both versions
+-- The number of signatures of both versions, with those in their headers.
 abbrev pub held_in : List CoseSignature → List CoseCountersignature → ℕ
 held_in all version_2 = signatures_in all + signatures_count (signatures_of (map countersignature_view version_2))

@@ -1,11 +1,11 @@
--- What messages and their signatures begin with: two headers (RFC 8152, section 3).
+-- The two headers that messages and their signatures begin with (RFC 8152, section 3).
 use Rattle.std.specs.Prelude.{None}
 use Rattle.coset_codec.specs.Shape.{Shape, Elements, array_of, ◌then◌}
 use Rattle.coset_codec.specs.ShapeLaws.{Lawful, LawfulElements, array_of_laws, then_laws}
 use Rattle.coset_core.specs.Headers.{HeaderView, ProtectedView, empty_header, header, protected}
 use Rattle.coset_core.specs.HeaderLaws.{header_laws, protected_laws}
 
--- the two headers, and what follows them
+-- The two headers, and the other elements.
 abbrev pub WithHeaders : Type 0 → Type 0
 WithHeaders A = ProtectedView × (HeaderView × A)
 
@@ -16,7 +16,7 @@ with_headers ps = array_of (protected then header then ps)
 pub with_headers_laws : {A : Type 0} (ps : Elements A) → LawfulElements A ps → Lawful (WithHeaders A) (with_headers ps)
 with_headers_laws ps l = array_of_laws _ (then_laws _ _ protected_laws (then_laws _ _ header_laws l))
 
--- a protected header that was made, and not read; and the empty one
+-- A protected header without kept bytes.
 abbrev pub unread : HeaderView → ProtectedView
 unread h = record { original = None; header = h }
 

@@ -1,4 +1,4 @@
--- A protected header as its map alone, outside a byte string: no bytes are kept.
+-- A protected header as its map alone, outside a byte string. No bytes are kept.
 use Rattle.std.proofs.Common.{◌≡◌, None, sym, ◌∙◌}
 use Rattle.coset_codec.specs.Shape.{Shape}
 use Rattle.coset_codec.specs.ShapeLaws.{Again, Lawful}

@@ -1,4 +1,4 @@
--- Whether two headers are the same, as tests that compute. They answer `true` exactly where the headers are equal.
+-- Equality of headers, as functions that return a `Bool`: `true` exactly when the two headers are equal.
 use Rattle.std.specs.Prelude.{Bool, true, false, ◌&&◌, ◌==◌}
 use Rattle.std.specs.Option.{option_eq}
 use Rattle.std.specs.Ordering.{is_eq}
@@ -8,15 +8,15 @@ use Rattle.coset_label.specs.Same.{algorithm_eq, entry_eq}
 use Rattle.coset_core.specs.Fields.{FieldsView}
 use Rattle.coset_core.specs.Headers.{HeaderView, header_of, Signatures, no_signatures, signature_and, ProtectedView, SignatureView}
 
--- the same label that must be understood
+-- Returns true if the two entries of `crit` are equal.
 abbrev pub critical_eq : RegisteredName → RegisteredName → Bool
 critical_eq a b = is_eq (registered_cmp a b)
 
--- the same content type
+-- Returns true if the two content types are equal.
 abbrev pub content_type_eq : Name → Name → Bool
 content_type_eq = same_name
 
--- each field the same; the lists have as many elements, each the same as its counterpart
+-- Returns true if all fields are equal. Lists are compared element by element.
 abbrev pub fields_eq : FieldsView → FieldsView → Bool
 fields_eq f g =
     option_eq algorithm_eq f.alg g.alg
@@ -27,8 +27,8 @@ fields_eq f g =
     && (pointwise ◌==◌ f.partial_iv g.partial_iv && (option_eq
     (pointwise ◌==◌) f.countersignature0_v2 g.countersignature0_v2 && pointwise entry_eq f.rest g.rest))))))
 
--- the same fields, and the same counter signatures of both versions: as many, each the same as its counterpart, in the bytes that were
--- kept, the protected header, the unprotected one, and the signature
+-- Returns true if the fields and the counter signatures of both versions are equal. Signatures are compared one by one:
+-- their kept bytes, their protected and unprotected headers, and their own bytes.
 abbrev mutual
   pub header_eq : HeaderView → HeaderView → Bool
   header_eq (header_of f ss ts) (header_of g us ws) = fields_eq f g && (signatures_eq ss us && signatures_eq ts ws)
@@ -39,10 +39,10 @@ abbrev mutual
       ((option_eq (pointwise ◌==◌) o a && header_eq p q) && (header_eq u v && pointwise ◌==◌ s t)) && signatures_eq more rest
   signatures_eq ss ts = false
 
--- the same bytes kept, or none of either, and the same header
+-- Returns true if the headers are equal, and the kept bytes are equal or both absent.
 abbrev pub protected_eq : ProtectedView → ProtectedView → Bool
 protected_eq p q = option_eq (pointwise ◌==◌) p.original q.original && header_eq p.header q.header
 
--- the same headers, and the same bytes
+-- Returns true if the headers and the signatures' bytes are equal.
 abbrev pub signature_eq : SignatureView → SignatureView → Bool
 signature_eq s t = protected_eq s.protected t.protected && (header_eq s.unprotected t.unprotected && pointwise ◌==◌ s.signature t.signature)

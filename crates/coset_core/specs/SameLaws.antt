@@ -1,4 +1,4 @@
--- The tests of `Same` answer `true` exactly where what they compare is equal.
+-- The tests of `Same` return `true` exactly when their arguments are equal.
 use Rattle.std.specs.Prelude.{◌≡◌, Bool, true, ◌==◌, ◌&&◌, Option, Some, None, refl}
 use Rattle.std.specs.Option.{option_eq}
 use Rattle.std.specs.Cmp.{IsEquivalence, decided}
@@ -12,7 +12,7 @@ use Rattle.coset_label.specs.SameLaws.{algorithm_eq-decides, entry_eq-decides, s
 use Rattle.coset_core.specs.Headers.{HeaderView, header_of, Signatures, no_signatures, signature_and}
 use Rattle.coset_core.specs.Same.{critical_eq, content_type_eq, fields_eq, signatures_eq, header_eq, protected_eq, signature_eq}
 
--- a test is that where what passes it is equal, and all passes it against itself
+-- A test decides equality if it returns true only for equal values, and for every value with itself.
 told : {A : Type 0} (test : A → A → Bool) → ((x y : A) → test x y ≡ true → x ≡ y) → ((x : A) → test x x ≡ true) → IsEquality test
 told test sound itself x y = (sound x y, λ e. subst (λ z. test x z ≡ true) e (itself x))
 
@@ -67,7 +67,7 @@ fields_eq-decides f g =
     (Decides-and (option_eq (pointwise ◌==◌) f.countersignature0_v2 g.countersignature0_v2) (pointwise entry_eq f.rest g.rest)
     (kept-decides f.countersignature0_v2 g.countersignature0_v2) (pointwise_decides entry_eq-decides f.rest g.rest))))))))
 
--- headers and signatures that pass the test are equal
+-- Headers and signatures that pass the test are equal.
 mutual
   header-sound : (h g : HeaderView) → header_eq h g ≡ true → h ≡ g
   header-sound (header_of f ss ts) (header_of g us ws) h =
@@ -95,7 +95,7 @@ mutual
       λ i. signature_and (kept i) (inner i) (outer i) (bytes i) (after i)
   signatures-sound ss ts h = absurd (true≢false (sym h))
 
--- and they pass the test against themselves
+-- Headers and signatures pass the test against themselves.
 mutual
   header-itself : (h : HeaderView) → header_eq h h ≡ true
   header-itself (header_of f ss ts) =
@@ -129,7 +129,7 @@ signature_eq-decides s t =
     (Decides-and (header_eq s.unprotected t.unprotected) (pointwise ◌==◌ s.signature t.signature) (header_eq-decides s.unprotected t.unprotected)
     (bytes_decides s.signature t.signature)))
 
--- so they are reflexive, symmetric and transitive
+-- The tests are reflexive, symmetric and transitive.
 pub header_eq_equiv : IsEquivalence header_eq
 header_eq_equiv = decided header_eq header_eq-decides
 

@@ -1,4 +1,4 @@
--- What a header is seen as that was made, and one that is opened.
+-- The views of headers, protected headers and signatures, from the views of their parts.
 use Rattle.std.specs.Prelude.{◌≡◌, map, option_map}
 use Rattle.coset_core.specs.Headers.{HeaderView, header_of, ProtectedView, SignatureView, signatures_of}
 use Rattle.coset_core.specs.FieldViews.{fields_level}
@@ -12,7 +12,7 @@ use Rattle.coset_core.specs.declared.protected.ProtectedHeader.{fold-roll-Protec
 use Rattle.coset_core.specs.declared.signature.CoseSignature.{CoseSignature, CoseSignature-F, out-CoseSignature, roll-CoseSignature, fold-roll-CoseSignature}
 use Rattle.coset_core.specs.declared.signature.CoseSignature.{fold_out-CoseSignature}
 
--- one level of each
+-- One unrolled level of each type.
 abbrev pub HeaderLevel : Type 0
 HeaderLevel = Header-F CoseCountersignature Header ProtectedHeader CoseSignature
 
@@ -25,7 +25,7 @@ SignatureLevel = CoseSignature-F CoseCountersignature Header ProtectedHeader Cos
 abbrev pub CountersignatureLevel : Type 0
 CountersignatureLevel = CoseCountersignature-F CoseCountersignature Header ProtectedHeader CoseSignature
 
--- what each level is seen as
+-- The view of one level of each type.
 abbrev pub header_level : HeaderLevel → HeaderView
 header_level h = header_of (fields_level h) (signatures_of (map signature_view h.counter_signatures.items))
     (signatures_of (map countersignature_view h.countersignatures_v2.items))

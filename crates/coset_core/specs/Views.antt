@@ -1,4 +1,4 @@
--- Headers without their memory.
+-- The views of headers, protected headers and signatures.
 use Rattle.std.specs.Prelude.{map, option_map}
 use Rattle.coset_iana.specs.CoapContentFormat as content_formats
 use Rattle.coset_iana.specs.HeaderParameter as parameters
@@ -21,7 +21,7 @@ critical_view = registered_or_private_view parameters.number
 abbrev pub content_type_view : RegisteredLabel CoapContentFormat → Name
 content_type_view = registered_view content_formats.number
 
--- what one level of a header holds beside its counter signatures
+-- The view of one level of a header, without its counter signatures.
 abbrev pub fields_step : {C H P S : Type 0} → Header-F C H P S → FieldsView
 fields_step h = record {
   alg = option_map algorithm_view h.alg;
@@ -34,7 +34,7 @@ fields_step h = record {
   rest = map entry_view h.rest.items;
 }
 
--- one level of each, where what it holds is seen already
+-- The view of one level of each type, if its parts are already replaced by their views.
 abbrev pub header_step : Header-F SignatureView HeaderView ProtectedView SignatureView → HeaderView
 header_step h = header_of (fields_step h) (signatures_of h.counter_signatures.items) (signatures_of h.countersignatures_v2.items)
 
@@ -56,7 +56,7 @@ protected_view = fold-ProtectedHeader SignatureView HeaderView ProtectedView Sig
 abbrev pub signature_view : CoseSignature → SignatureView
 signature_view = fold-CoseSignature SignatureView HeaderView ProtectedView SignatureView countersignature_step header_step protected_step signature_step
 
--- what was signed by a countersignature of version 2 is seen as what is signed by a signature
+-- The view of a countersignature of version 2 has the same type as that of a signature.
 abbrev pub countersignature_view : CoseCountersignature → SignatureView
 countersignature_view = fold-CoseCountersignature SignatureView HeaderView ProtectedView SignatureView countersignature_step header_step protected_step
     signature_step

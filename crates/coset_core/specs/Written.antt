@@ -18,14 +18,14 @@ use Rattle.coset_core.specs.Headers.{counter_signatures_item, signature_item, si
 
 -- ---- items, one after the other
 
--- new is old, and then the shortest encodings of these items
+-- new is old, followed by the shortest encodings of these items.
 pub record AppendsItems (old new : List ℕ) (vs : List Item) : Type 0 where
   pub in_range : AreInRange (items_of vs)
   pub parts : new ≡ old ++ least_encodings (items_of vs)
 
 -- ---- fields
 
--- new is old, and then the pairs of the first six labels, each where its field is there
+-- new is old, followed by the pairs of labels 1 to 6 whose fields are set.
 pub record AppendsFirst (old new : List ℕ) (f : FieldsView) : Type 0 where
   pub behind_alg : List ℕ
   pub behind_crit : List ℕ
@@ -39,38 +39,39 @@ pub record AppendsFirst (old new : List ℕ) (f : FieldsView) : Type 0 where
   pub iv : AppendsField (parameters.number Iv) ((unless_empty nonempty_bstr).image f.iv) behind_kid behind_iv
   pub partial_iv : AppendsField (parameters.number PartialIv) ((unless_empty nonempty_bstr).image f.partial_iv) behind_iv new
 
--- which of a header's fields are there, in the order of their labels
+-- Whether each field of a header is set, in the order of their labels.
 abbrev pub are_there : HeaderView → List Bool
 are_there (header_of f ss ts) =
     is_some f.alg ∷ is_nonempty f.crit ∷ is_some f.content_type ∷ is_nonempty f.key_id ∷ is_nonempty f.iv ∷ is_nonempty f.partial_iv
     ∷ not (are_none ss) ∷ not (are_none ts) ∷ is_some f.countersignature0_v2 ∷ []
 
--- how many pairs a header's map has
+-- The number of pairs in a header's map.
 abbrev pub count_pairs : HeaderView → ℕ
 count_pairs h = length (filter (λ b. b) (are_there h)) + length (fields_in h).rest
 
 -- ---- headers and signatures
 
--- new is old, and then the shortest encodings of the arrays of these signatures
+-- new is old, followed by the shortest encodings of the arrays of these signatures.
 abbrev pub AppendsSignatures : List ℕ → List ℕ → List SignatureView → Type 0
 AppendsSignatures old new ss = (vs : List Item) × (signatures_image (signatures_of ss) ≡ Some (items_of vs)) × (length vs ≡ length ss) × AppendsItems old new vs
 
--- new is old, and then the pair of that label, where there are signatures
+-- new is old, followed by the pair of this parameter, if there are signatures.
 abbrev pub AppendsCounterSignatures : HeaderParameter → List ℕ → List ℕ → Signatures → Type 0
 AppendsCounterSignatures p old new ss = AppendsField (parameters.number p) (counter_signatures_item ss (signatures_image ss)) old new
 
--- the array of a signature
+-- The array of a signature.
 abbrev pub signature_array : SignatureView → Option Item
 signature_array s = signature_item (option_map bytes (protected_bytes s.protected)) (header_image s.unprotected) s.signature
 
 -- ---- the bytes of protected headers
 
--- of a header that isn't empty and wasn't read, the bytes are the shortest encoding of its map
+-- If the header is not empty and has no kept bytes, b is the shortest encoding of its map.
 abbrev pub AreShortest : Option (List ℕ) → HeaderView → List ℕ → Type 0
 AreShortest (Some read) h b = ⊤
 AreShortest None h b = is_empty_header h ≡ false → (v : Item) → header_image h ≡ Some v → IsShortest b v
 
--- of a header that isn't empty and wasn't read, a byte string holds the shortest encoding of its map
+-- The item is a byte string. If the header is not empty and has no kept bytes, the content is the shortest encoding of
+-- its map.
 abbrev pub HoldsShortest : Option (List ℕ) → HeaderView → Item → Type 0
 HoldsShortest original h (bytes b) = AreShortest original h b
 HoldsShortest original h v = ⊥

@@ -1,4 +1,4 @@
-//! Closures of callers, which are asked about a structure or make something of it.
+//! Calls of the caller's closures, which check a structure or make something of it.
 
 ghost use Rattle.std.specs.Prelude.{◌≡◌, Option};
 ghost use Rattle.coset_value.specs.Item.{Item};
@@ -7,11 +7,12 @@ ghost use Rattle.coset_core.specs.Calls.{AsksAbout, TriesToCreate};
 
 use coset_codec::{CallError, Result};
 
-/// Asks `f` about these bytes and the structure that goes with them: a signature, and what it is over. It is asked once
-/// where the structure could be made, and not at all otherwise.
+/// Calls `f` with `bytes` and a structure, in this order, such as a signature and the bytes that it
+/// is over. Calls it once if the structure could be made, and not at all otherwise.
 ///
 /// # Errors
-/// The structure's; or `Caller` with the error that `f` returns.
+/// - The error in `structure`.
+/// - `Caller` with the error that `f` returns.
 pub fn verify_with<F, U, E>(
     bytes: &[u8],
     structure: Result<Vec<u8>>,
@@ -31,11 +32,12 @@ where
     }
 }
 
-/// What `f` makes of a structure: a signature of it. It is called once where the structure could be made, and not at
-/// all otherwise.
+/// Returns the result of `f` for a structure, such as a signature over it. Calls `f` once if the
+/// structure could be made, and not at all otherwise.
 ///
 /// # Errors
-/// The structure's; or `Caller` with the error that `f` returns.
+/// - The error in `structure`.
+/// - `Caller` with the error that `f` returns.
 pub fn create_with<F, V, E>(structure: Result<Vec<u8>>, f: F) -> Result<V, CallError<E>>
 where
     F: FnOnce(&[u8]) -> Result<V, E> + Drop,

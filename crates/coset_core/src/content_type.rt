@@ -1,4 +1,4 @@
-//! Content types of headers: formats of CoAP, or media types (RFC 8152, section 3.1).
+//! Content types of headers: CoAP content formats or media types (RFC 8152, section 3.1).
 
 ghost use Rattle.std.specs.Prelude.{◌≡◌, ◌≤◌, option_map, OnOk, IfOk, IfErr, filter, length, ◌==◌, OnErr};
 ghost use Rattle.coset_core.specs.Views.{content_type_view};
@@ -16,17 +16,18 @@ use coset_codec::{CoseError, Result};
 use coset_label::{ContentType, RegisteredLabel};
 use std::alloc::Global;
 
-/// How many of the text's bytes are `/`.
+/// Returns the number of `/` in the text.
 fn slashes(text: &str) -> usize
     ensures { result ≡ length (filter (λ b. b == 47) text.now) }
 {
     text.as_bytes().iter().filter(|b| **b == b'/').count()
 }
 
-/// Asks that a text names a media type.
+/// Checks that the text has the form of a media type.
 ///
 /// # Errors
-/// `UnexpectedItem`: the text is empty, begins or ends with white space, or hasn't exactly one `/`.
+/// `UnexpectedItem` if the text is empty, begins or ends with white space, or does not have exactly
+/// one `/`.
 fn ask_media_type(text: &str) -> Result<()>
     ensures ok { IfOk result (λ _. IsMediaType text.now) }
     ensures refused { IfErr result (λ e. IsUnexpected e × (IsMediaType text.now → ⊥)) }
@@ -60,7 +61,7 @@ fn read_content_type(alloc: Global, input: &mut Decoder<'_>) -> Result<ContentTy
     Ok(content_type)
 }
 
-/// Sets the content type, where there is none yet.
+/// Sets the content type. Returns `DuplicateMapKey` if it is set already.
 pub(crate) fn set_content_type(
     alloc: Global,
     field: &mut Option<ContentType>,

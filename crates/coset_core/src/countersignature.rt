@@ -1,5 +1,6 @@
-//! Countersignatures of version 2: their shape is that of a signature, and what they are over is more than what those of
-//! label 7 are over. The shape, the structures and their contexts are this library's own, modelled on RFC 9338.
+//! Countersignatures of version 2. They have the shape of a signature, and they cover more than
+//! counter signatures of label 7. The shape, the structures and their contexts are this library's
+//! own, modelled on RFC 9338.
 
 ghost use Rattle.std.specs.Prelude.{◌≡◌, [], map, OnOk, IfOk, IfErr, IfSome, IsTrue, None, ◌↔◌, ◌+◌, ◌<◌};
 ghost use Rattle.coset_codec.specs.declared.error.CoseError.TheVariants.{OutOfMemory};
@@ -29,8 +30,10 @@ use coset_codec::{Codec, Result, TaggedCodec};
 use std::alloc::{AllocError, Global};
 use std::marker::Model;
 
-/// A countersignature of version 2: its array is that of a signature, and it may be under tag 19. It is in headers
-/// under label 11 ([`Header::countersignatures_v2`]). It is modelled on RFC 9338, section 3.1.
+/// A countersignature of version 2, modelled on RFC 9338, section 3.1.
+///
+/// Its array is that of a signature, and it may be under tag 19. It is in headers under label 11
+/// ([`Header::countersignatures_v2`]).
 ///
 /// ```cddl
 /// COSE_Countersignature = [ Headers, signature : bstr ]
@@ -40,14 +43,14 @@ use std::marker::Model;
 pub struct CoseCountersignature {
     /// The header that the countersignature covers.
     pub protected: ProtectedHeader,
-    /// The header that it doesn't.
+    /// The header that the countersignature doesn't cover.
     pub unprotected: Header,
     /// The countersignature's bytes.
     pub signature: Vec<u8>,
 }
 
 impl CoseCountersignature {
-    /// A countersignature of no bytes with empty headers. It takes no memory.
+    /// Returns a countersignature without bytes and with empty headers. Allocates nothing.
     pub fn new(alloc: Global) -> CoseCountersignature
         ensures { countersignature_view result ≡ empty_signature }
     {
@@ -59,7 +62,7 @@ impl CoseCountersignature {
     }
 }
 
-/// What was read as a signature, as a countersignature.
+/// Converts a decoded signature to a countersignature.
 fn countersignature_of(signed: CoseSignature) -> CoseCountersignature
     ensures { countersignature_view result ≡ signature_view signed }
 {
@@ -75,7 +78,7 @@ fn countersignature_of(signed: CoseSignature) -> CoseCountersignature
     }
 }
 
-/// What were read as signatures, as countersignatures.
+/// Converts decoded signatures to countersignatures.
 pub(crate) fn countersignatures_of(
     alloc: Global,
     read: Vec<CoseSignature>,
@@ -91,7 +94,7 @@ pub(crate) fn countersignatures_of(
     Ok(all)
 }
 
-/// Equality of the headers and of the countersignature's bytes.
+/// Compares the headers and the countersignature's bytes.
 impl PartialEq for CoseCountersignature {
     ghost eq = { on countersignature_view signature_eq };
 
@@ -123,10 +126,10 @@ impl Clone for CoseCountersignature {
 }
 
 impl CoseCountersignature {
-    /// A countersignature that equals this one.
+    /// Returns an equal countersignature.
     ///
     /// # Errors
-    /// `OutOfMemory` alone.
+    /// `OutOfMemory` if an allocation fails.
     pub fn clone(&self) -> Result<CoseCountersignature>
         ensures copy { IfOk result (λ s. countersignature_view s ≡ countersignature_view self.now) }
         ensures memory { IfErr result (λ e. e ≡ OutOfMemory) }
@@ -192,7 +195,7 @@ pub(crate) fn write_each_countersignature(
     Ok(())
 }
 
-/// Appends the array of the countersignature.
+/// Appends the countersignature's array.
 #[cycle(write)]
 fn write_countersignature(
     alloc: Global,
@@ -218,7 +221,7 @@ impl InPlace for CoseCountersignature {
     }
 }
 
-/// Copies countersignatures into a list, in place of those that it holds.
+/// Replaces the content of `copies` with copies of the countersignatures.
 #[cycle(copy)]
 pub(crate) fn copy_countersignatures(
     all: &[CoseCountersignature],
@@ -236,7 +239,7 @@ pub(crate) fn copy_countersignatures(
     Ok(())
 }
 
-/// Copies a countersignature into another.
+/// Copies `signature` into `copy`.
 #[cycle(copy)]
 fn copy_countersignature(
     signature: &CoseCountersignature,
@@ -278,7 +281,8 @@ fn same_countersignature(a: &CoseCountersignature, b: &CoseCountersignature) -> 
         && a.signature == b.signature
 }
 
-/// Of the last countersignature the counter signatures of its two headers. The rest of it is let go.
+/// Removes the last countersignature and returns the counter signatures of its two headers. Drops
+/// everything else in it.
 #[inline(never)]
 pub(crate) fn take_last_countersignature(
     all: &mut Vec<CoseCountersignature>,
@@ -295,8 +299,8 @@ pub(crate) fn take_last_countersignature(
     Some(held_by(protected, unprotected))
 }
 
-/// Makes a [`CoseCountersignature`], field by field. Contracts see it as the countersignature that
-/// [`build`](CoseCountersignatureBuilder::build) gives.
+/// Builds a [`CoseCountersignature`] field by field. Contracts see the builder as the
+/// countersignature that [`build`](CoseCountersignatureBuilder::build) returns.
 #[derive(Debug, Drop)]
 pub struct CoseCountersignatureBuilder(CoseCountersignature);
 
@@ -315,21 +319,22 @@ impl Model for CoseCountersignatureBuilder {
 }
 
 impl CoseCountersignatureBuilder {
-    /// A countersignature of no bytes with empty headers. It takes no memory.
+    /// Returns a builder of a countersignature without bytes and with empty headers. Allocates
+    /// nothing.
     pub fn new(alloc: Global) -> CoseCountersignatureBuilder
         ensures { countersignature_view result ≡ empty_signature }
     {
         CoseCountersignatureBuilder(CoseCountersignature::new(alloc))
     }
 
-    /// The countersignature that was made.
+    /// Returns the finished countersignature.
     pub fn build(self) -> CoseCountersignature
         ensures { result ≡ self }
     {
         self.0
     }
 
-    /// Sets the protected header: one that was made, and not read, so that it has no bytes of its own yet.
+    /// Sets the protected header, without kept bytes.
     pub fn protected(mut self, header: Header) -> CoseCountersignatureBuilder
         ensures { countersignature_view result ≡ record (countersignature_view self) {
           protected = record { original = None; header = header_view header };
@@ -357,10 +362,10 @@ impl CoseCountersignatureBuilder {
         self
     }
 
-    /// As [`signature`](CoseCountersignatureBuilder::signature), of a copy of these bytes.
+    /// Calls [`signature`](CoseCountersignatureBuilder::signature) with a copy of these bytes.
     ///
     /// # Errors
-    /// `OutOfMemory` alone.
+    /// `OutOfMemory` if an allocation fails.
     pub fn signature_from(
         self,
         alloc: Global,

@@ -1,4 +1,4 @@
-//! The labels of a header that must be understood, and labels that registries assign (RFC 8152, section 3.1).
+//! The `crit` parameter: the labels that a reader must understand (RFC 8152, section 3.1).
 
 ghost use Rattle.std.specs.Prelude.{◌≡◌, ◌≤◌, map, OnOk, IfOk, IfErr, OnErr};
 ghost use Rattle.coset_core.specs.Views.{critical_view};
@@ -17,7 +17,7 @@ use coset_iana::HeaderParameter;
 use coset_label::RegisteredLabelWithPrivate;
 use std::alloc::Global;
 
-/// Reads the labels that must be understood.
+/// Reads the value of `crit`, which must not be empty.
 #[tactic(auto, unfolding(crate::specs::Fields::critical))]
 fn read_critical(
     alloc: Global,
@@ -35,7 +35,7 @@ fn read_critical(
     )
 }
 
-/// Sets the labels that must be understood, where there are none yet.
+/// Sets `crit`. Returns `DuplicateMapKey` if it is set already.
 pub(crate) fn set_critical(
     alloc: Global,
     field: &mut Vec<RegisteredLabelWithPrivate<HeaderParameter>>,

@@ -1,4 +1,4 @@
-//! Headers: what is said of a message's content beside it (RFC 8152, sections 3 and 3.1).
+//! Headers, which carry the parameters of a message (RFC 8152, sections 3 and 3.1).
 
 ghost use Rattle.std.specs.Prelude.{◌≡◌, map, option_map, OnOk, IfOk, IfErr, ◌<◌, Option, IsTrue, Err, ◌↔◌, Some};
 ghost use Rattle.std.specs.Map.{lookup};
@@ -40,13 +40,13 @@ pub(crate) mod writing;
 
 pub use builder::HeaderBuilder;
 
-/// About what a header takes beside its byte strings.
+/// The estimated size of a header without its byte strings, in bytes.
 const HEADS: usize = 24;
 
-/// About what a pair of the rest takes, a label and a short value.
+/// The estimated size of a pair of `rest`, in bytes: a label and a short value.
 const PAIR: usize = 8;
 
-/// At most this many byte strings of protected headers are within one another.
+/// The maximum number of protected headers' byte strings inside one another.
 pub(crate) const LAYERS: usize = 16;
 
 /// A header (RFC 8152, section 3.1).
@@ -71,27 +71,28 @@ pub(crate) const LAYERS: usize = 16;
 pub struct Header {
     /// The algorithm (label 1).
     pub alg: Option<Algorithm>,
-    /// The labels that a reader must understand (label 2); none where it is empty.
+    /// The labels that a reader must understand (label 2). Empty means absent.
     pub crit: Vec<RegisteredLabelWithPrivate<HeaderParameter>>,
-    /// The type of the content (label 3).
+    /// The content type (label 3).
     pub content_type: Option<ContentType>,
-    /// The key's identifier (label 4); none where it is empty.
+    /// The key identifier (label 4). Empty means absent.
     pub key_id: Vec<u8>,
-    /// The IV (label 5); none where it is empty.
+    /// The IV (label 5). Empty means absent.
     pub iv: Vec<u8>,
-    /// The Partial IV (label 6); none where it is empty.
+    /// The Partial IV (label 6). Empty means absent.
     pub partial_iv: Vec<u8>,
-    /// The counter signatures (label 7); none where it is empty.
+    /// The counter signatures (label 7). Empty means absent.
     pub counter_signatures: Vec<CoseSignature>,
-    /// The countersignatures of version 2 (label 11); none where it is empty.
+    /// The countersignatures of version 2 (label 11). Empty means absent.
     pub countersignatures_v2: Vec<CoseCountersignature>,
-    /// The abbreviated countersignature of version 2 (label 12), which may be empty.
+    /// The abbreviated countersignature of version 2 (label 12). It may be empty bytes.
     pub countersignature0_v2: Option<Vec<u8>>,
-    /// The pairs of other labels, in order.
+    /// The pairs with other labels, in order.
     pub rest: Vec<(Label, Value)>,
 }
 
-/// The counter signatures are dropped by a function of their own, since input decides how deep the headers in them nest.
+/// Drops the counter signatures in a function of their own, to save stack: the input decides how
+/// deep headers nest in them.
 impl Drop for Header {
     fn drop(self) {
         drop_held(self.into_signatures());
@@ -99,7 +100,7 @@ impl Drop for Header {
 }
 
 impl Header {
-    /// The counter signatures alone, of both versions.
+    /// Returns the counter signatures of both versions, and drops the other fields.
     #[inline(always)]
     pub(crate) fn into_signatures(self) -> Held
         ensures { (result.0.items, result.1.items) ≡ signatures_held self }
@@ -119,7 +120,7 @@ impl Header {
         (counter_signatures, countersignatures_v2)
     }
 
-    /// An empty header. It takes no memory.
+    /// Returns an empty header. Allocates nothing.
     pub fn new(alloc: Global) -> Header
         ensures { header_view result ≡ empty_header }
     {
@@ -137,7 +138,7 @@ impl Header {
         }
     }
 
-    /// Whether the header holds nothing.
+    /// Returns true if the header has no parameters.
     pub fn is_empty(&self) -> bool
         ensures { result ≡ is_empty_header (header_view self.now) }
     {
@@ -153,8 +154,10 @@ impl Header {
             && self.rest.is_empty()
     }
 
-    /// The value of the first pair of `rest` with this label; `None` where none has it. A label that has a field (1 to 7,
-    /// 11 and 12) isn't among the rest of a header that was read (RFC 8152, section 3).
+    /// Returns the value of the first pair of `rest` with this label, or `None` if there is none.
+    ///
+    /// In a decoded header, `rest` has no label of a field (1 to 7, 11 and 12; RFC 8152, section
+    /// 3).
     pub fn get(&self, label: &Label) -> Option<&Value>
         ensures { option_map (λ v. value_item v.now) result ≡ lookup (same_name
             (label_view label.now))
@@ -164,7 +167,7 @@ impl Header {
     }
 }
 
-/// Equality of every field; the rest is compared pair by pair, in order.
+/// Compares all fields. `rest` is compared pair by pair, in order.
 impl PartialEq for Header {
     ghost eq = { on header_view header_eq };
 
@@ -194,10 +197,10 @@ impl Clone for Header {
 }
 
 impl Header {
-    /// A header that equals this one.
+    /// Returns an equal header.
     ///
     /// # Errors
-    /// `OutOfMemory` alone.
+    /// `OutOfMemory` if an allocation fails.
     pub fn clone(&self) -> Result<Header>
         ensures copy { IfOk result (λ h. header_view h ≡ header_view self.now) }
         ensures memory { IfErr result (λ e. e ≡ errors.OutOfMemory) }
@@ -231,7 +234,8 @@ impl Codec for Header {
         Ok(header)
     }
 
-    /// Enough for all but counter signatures of both versions, where the values of the rest are short.
+    /// Estimates the size from `key_id`, `iv`, `partial_iv` and the number of pairs in `rest`.
+    /// Counter signatures and long values need more.
     fn size_hint(&self) -> usize {
         HEADS
             .saturating_add(self.key_id.len())
@@ -246,7 +250,7 @@ impl Codec for Header {
     }
 }
 
-/// Copies what a header holds beside its counter signatures.
+/// Copies all fields except `counter_signatures` and `countersignatures_v2`.
 #[inline(never)]
 fn copy_fields(header: &Header, copy: &mut Header) -> Result<(), AllocError>
     ensures copy { OnOk result (fields_view copy.new ≡ fields_view header.now) }
@@ -263,10 +267,10 @@ fn copy_fields(header: &Header, copy: &mut Header) -> Result<(), AllocError>
     Ok(())
 }
 
-/// Copies a header into another.
+/// Copies `header` into `copy`.
 ///
 /// # Errors
-/// That memory ran out. The copy may then have a part of the header.
+/// `AllocError` if an allocation fails. `copy` may then have a part of the header.
 #[cycle(copy)]
 pub fn copy_header(header: &Header, copy: &mut Header) -> Result<(), AllocError>
     ensures { OnOk result (header_view copy.new ≡ header_view header.now) }
@@ -285,7 +289,7 @@ pub(crate) fn same_header(a: &Header, b: &Header) -> bool
         && same_countersignatures(&a.countersignatures_v2, &b.countersignatures_v2)
 }
 
-/// Whether two headers are the same but for their counter signatures.
+/// Returns true if all fields except `counter_signatures` and `countersignatures_v2` are equal.
 fn same_fields(a: &Header, b: &Header) -> bool
     ensures { result ≡ fields_eq (fields_view a.now) (fields_view b.now) }
 {

@@ -20,7 +20,8 @@ use coset_codec::read::{Decode, DecodeElements, Decoder};
 use coset_codec::{CoseError, Result};
 use std::alloc::Global;
 
-/// Reads the first place of a message into an empty header, and keeps its bytes.
+/// Reads the first element of a message into `protected`, and keeps its bytes. The header of
+/// `protected` must be empty.
 ///
 /// # Errors
 /// The same as [`ProtectedHeader::from_cbor_bstr`].
@@ -41,10 +42,11 @@ pub fn fill_protected_header(
     }
 }
 
-/// Reads the second place of a message into an empty header.
+/// Reads the second element of a message into `unprotected`, which must be empty.
 ///
 /// # Errors
-/// `OutOfMemory`, or the first fault found, from the first pair on.
+/// - `OutOfMemory` if an allocation fails.
+/// - The first fault found, from the first pair on.
 pub fn fill_unprotected_header(
     unprotected: &mut Header,
     alloc: Global,
@@ -62,7 +64,8 @@ pub fn fill_unprotected_header(
     }
 }
 
-/// A payload or a ciphertext, unless it is detached: `bstr / nil` (RFC 8152, sections 2, 5.1).
+/// A payload or a ciphertext, or `None` if it is detached: `bstr / nil` (RFC 8152, sections 2 and
+/// 5.1).
 #[derive(Debug, Drop)]
 pub struct BstrOrNil(pub Option<Vec<u8>>);
 
@@ -81,11 +84,14 @@ impl Decode for BstrOrNil {
     }
 }
 
-/// Reads a message: its first two elements into empty headers, where these are, and the elements behind them.
+/// Reads a message: its two headers into `protected` and `unprotected`, which must be empty.
+/// Returns the other elements.
 ///
 /// # Errors
-/// `OutOfMemory`; `UnexpectedItem` where the item is no array, or, with `want`, one of another number of elements; or the
-/// fault of the last place that has one.
+/// - `OutOfMemory` if an allocation fails.
+/// - `UnexpectedItem` if the item is not an array.
+/// - `UnexpectedItem` with `want` if the array has a wrong number of elements.
+/// - The fault of the last element that has one.
 pub fn read_headed<P: DecodeElements + Drop>(
     protected: &mut ProtectedHeader,
     unprotected: &mut Header,

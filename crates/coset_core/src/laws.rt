@@ -1,5 +1,5 @@
-//! Laws of headers, which callers may cite. Each is the contract of a function that does nothing. What holds of each type
-//! that is read and written is in `coset_codec::laws`.
+//! Laws of headers, which callers may cite. Each law is the contract of a function that does
+//! nothing. The laws of all types that are read and written are in `coset_codec::laws`.
 
 ghost use Rattle.std.specs.Prelude.{◌≡◌, ◌↔◌, ℕ, List, None, Some, true};
 ghost use Rattle.coset_value.specs.Item.{Item, bytes};
@@ -11,9 +11,10 @@ ghost use Rattle.coset_core.specs.Headers.{HeaderView, ProtectedView, SignatureV
 ghost use Rattle.coset_core.specs.Kept.{KeepsAbbreviated, KeepsOwn, KeepsReceived, KeepsSignature, KeepsSignatures, SignaturesReadAs};
 ghost use Rattle.coset_core.specs.Written.{AreShortest};
 
-/// A header is the map of its fields, whose labels 7 and 11 hold signatures, one or several: with every number of layers
-/// left its shape is that map with the shape of signatures in it, with as many layers left. An item represents the same
-/// headers by both, a header is written as the same item, and an error names the same faults.
+/// A header is the map of its fields, with one or several signatures under labels 7 and 11.
+///
+/// For any number of layers, a header's shape is this map, with signatures of the same number of
+/// layers in it. The two shapes describe the same headers, and have the same images and faults.
 pub fn headers_hold_signatures()
     ensures describes { (n : ℕ) (v : Item) (h : HeaderView) → (layered_header n).describes v h
         ↔ (header_map (signatures_within n)).describes v h }
@@ -23,30 +24,32 @@ pub fn headers_hold_signatures()
         ↔ (header_map (signatures_within n)).faults v e }
 {}
 
-/// A header holds nothing exactly where it is the empty one: an empty byte string is read as the header that is written as
-/// one.
+/// A header has no parameters exactly when it is the empty header. So an empty byte string decodes
+/// to the header that encodes to it.
 pub fn one_empty_header()
     ensures { (h : HeaderView) → (is_empty_header h ≡ true) ↔ (h ≡ empty_header) }
 {}
 
-/// The bytes that represent a protected header that was read are those that it was read from.
+/// A decoded protected header is represented by the bytes that it was decoded from.
 pub fn kept_as_received()
     ensures { (b : List ℕ) (p : ProtectedView) → protected.describes (bytes b) p → protected_bytes p
         ≡ Some b }
 {}
 
-/// The bytes that represent a protected header that was read from what another is written as are that one's, however the
-/// item was spelled.
+/// A protected header that is written and read again is represented by the same bytes, however the
+/// item was encoded.
 pub fn kept_as_written()
     ensures { (v : Item) (p q : ProtectedView) → protected.image p ≡ Some v
         → protected.describes v q
         → protected_bytes q ≡ protected_bytes p }
 {}
 
-/// Of a signature or countersignature that was read, plain or under a tag, the bytes that represent its protected header are
-/// those of the byte string in its first place; and each signature in a header that was read, under label 7 and under
-/// label 11, kept the bytes that its protected header was read from. So with every number of layers left: it holds of the
-/// signatures in the headers of signatures too.
+/// The protected header of a decoded signature or countersignature is represented by the bytes of
+/// the byte string in the first element. Under a tag, it is represented by the bytes that it was
+/// decoded from.
+///
+/// The same holds for each signature in a decoded header, protected or not, under labels 7 and 11.
+/// It holds for any number of layers, and so for the signatures in the headers of signatures.
 pub fn signatures_kept_as_received()
     ensures signature { (k : ℕ) (v : Item) (s : SignatureView)
         → (layered_signature k).describes v s → KeepsReceived v s }
@@ -56,10 +59,15 @@ pub fn signatures_kept_as_received()
     ensures protected { (k : ℕ) → WhenRead (layered_protected k) (λ p. KeepsSignatures p.header) }
 {}
 
-/// A signature or countersignature that was read from what another is written as, plain or under a tag, is the same
-/// signature under the same protected bytes, however the item was spelled; and so are the signatures in a header, under
-/// label 7 and under label 11, in order and as many. The bytes under label 12 stay too. So with every number of layers left.
-/// The same holds of those in a protected header that was built, read from the bytes that `protected_bytes` returns of it.
+/// A signature or countersignature that is written and read again has the same signature bytes and
+/// the same protected bytes. This holds with and without a tag, however the item was encoded.
+///
+/// It also holds for the signatures in a header, under labels 7 and 11, which keep their number and
+/// order. If the header has none under a label, none are read, unless `rest` has that label. The
+/// bytes under label 12 stay the same. All this holds for any number of layers.
+///
+/// The same holds for the signatures and the bytes under label 12 in a protected header that was
+/// built, encoded by `protected_bytes` and decoded again.
 pub fn signatures_kept_as_written()
     ensures signature { (k : ℕ) → AsWritten (layered_signature k) KeepsSignature }
     ensures tagged_signature { (n k : ℕ) → AsWritten (tagged n (layered_signature k))

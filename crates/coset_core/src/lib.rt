@@ -1,4 +1,7 @@
-//! Headers of COSE messages (RFC 8152, section 3).
+//! COSE headers and protected headers (RFC 8152, section 3), and the signatures in them.
+//!
+//! The crate also encodes the structures that are signed or authenticated, and calls the caller's
+//! closures on them.
 #![tactic(auto)]
 
 pub mod calls;

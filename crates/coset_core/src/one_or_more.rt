@@ -1,5 +1,5 @@
-//! Arrays that hold one or several: one that begins with a byte string is one, and one that begins with an array holds
-//! several.
+//! Arrays that are one signature or a list of several. An array that begins with a byte string is
+//! one signature. An array that begins with an array is a list.
 
 ghost use Rattle.std.specs.Prelude.{◌≤◌, ◌<◌, IfOk, List, ℕ};
 ghost use Rattle.coset_value.specs.Item.{Item, Items, no_items, null};
@@ -16,14 +16,14 @@ use coset_codec::util::{cbor_type_error, pull_type_error};
 use coset_codec::{CoseError, Result};
 use std::mem;
 
-/// The error of an array without elements.
+/// Returns the error for an empty array.
 fn no_one_or_more() -> CoseError
     ensures { IsUnexpected result × SaysFirst no_items result }
 {
     CoseError::UnexpectedItem("empty sig array", "non-empty sig array")
 }
 
-/// Whether the elements begin with a byte string, or else with an array.
+/// Returns true if the first element is a byte string, and false if it is an array.
 fn tree_is_one(elements: &Vec<Value>) -> Result<bool>
     ensures { BeginsSo (value_items elements.now.items) result }
 {
@@ -39,7 +39,8 @@ fn tree_is_one(elements: &Vec<Value>) -> Result<bool>
     }
 }
 
-/// The elements of a value that is an array, and whether they begin with a byte string, or else with an array.
+/// Returns the elements of an array, with true if the first is a byte string and false if it is an
+/// array.
 fn tree_one_or_more(value: Value) -> Result<(bool, ArrayElements)>
     ensures deeper { IfOk result (λ x. (s : State)
         → items_size x.1 s < input_size (tree (value_item value))) }
@@ -54,7 +55,7 @@ fn tree_one_or_more(value: Value) -> Result<(bool, ArrayElements)>
     }
 }
 
-/// Whether the elements that are still to come begin with a byte string, or else with an array.
+/// Returns true if the next element is a byte string, and false if it is an array.
 fn is_one_lent(elements: Remaining, cursor: Cursor<'_>) -> Result<bool>
     ensures { (vs : Items) (a : List ℕ) → lent_within elements vs (bytes_left cursor.entry) a
         → BeginsSo vs result }
@@ -73,11 +74,13 @@ fn is_one_lent(elements: Remaining, cursor: Cursor<'_>) -> Result<bool>
     Err(pull_type_error(cursor.take()?, "array or bstr value"))
 }
 
-/// Goes to the first element of an array that begins with a byte string, or else with an array, and says whether it is the
-/// first of these. It takes no memory.
+/// Enters an array. Returns true if its first element is a byte string, and false if it is an
+/// array.
+///
+/// Allocates nothing.
 ///
 /// # Errors
-/// `UnexpectedItem`: the item is another; it is skipped.
+/// `UnexpectedItem` if the item is not such an array. The item is then skipped.
 pub(crate) fn enter_one_or_more(input: &mut Decoder<'_>) -> Result<(bool, ArrayElements)>
     ensures shrinks { length_left (state input.new) ≤ length_left (state input.old) }
     ensures deeper { IfOk result (λ x. items_size x.1 (state input.new) < input_size

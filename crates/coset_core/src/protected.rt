@@ -1,4 +1,4 @@
-//! Protected headers: those that a signature covers, kept as they were read (RFC 8152, section 3).
+//! Protected headers, which signatures cover. A decoded one keeps its bytes (RFC 8152, section 3).
 
 ghost use Rattle.std.specs.Prelude.{◌≡◌, ◌≤◌, option_map, OnOk, IfOk, IfErr, IsTrue, Some, None, ℕ, List, ◌↔◌};
 ghost use Rattle.coset_codec.specs.declared.error.CoseError.TheVariants.{OutOfMemory};
@@ -48,14 +48,15 @@ use std::borrow::CowSlice;
 #[cycle(header)]
 #[derive(Debug, Drop)]
 pub struct ProtectedHeader {
-    /// The bytes that held the header, where it was read: signatures are over them.
+    /// The content of the byte string from which the header was decoded, or `None` if there was
+    /// none. Signatures are over these kept bytes.
     pub original_data: Option<Vec<u8>>,
     /// The header.
     pub header: Header,
 }
 
 impl ProtectedHeader {
-    /// An empty header, which wasn't read. It takes no memory.
+    /// Returns an empty protected header without kept bytes. Allocates nothing.
     pub fn new(alloc: Global) -> ProtectedHeader
         ensures { protected_view result ≡ record { original = None; header = empty_header } }
     {
@@ -65,18 +66,23 @@ impl ProtectedHeader {
         }
     }
 
-    /// Whether the header holds nothing, whatever bytes were kept.
+    /// Returns true if the header is empty, whatever bytes were kept.
     pub fn is_empty(&self) -> bool
         ensures { result ≡ is_empty_header (protected_view self.now).header }
     {
         self.header.is_empty()
     }
 
-    /// Reads a protected header from the byte string that holds it, and keeps its bytes.
+    /// Decodes a protected header from its byte string, and keeps the bytes.
     ///
     /// # Errors
-    /// `OutOfMemory`, or the first fault found: the value is no byte string (`UnexpectedItem`), what it holds isn't an
-    /// item within 256 levels (`DecodeFailed`), others follow that (`ExtraneousData`), or it isn't a header.
+    /// - `OutOfMemory` if an allocation fails.
+    /// - `UnexpectedItem` if the value is not a byte string.
+    /// - `DecodeFailed` if there are bytes, but no item within 256 levels at their start.
+    /// - `ExtraneousData` if bytes follow the item.
+    /// - A fault in the header.
+    ///
+    /// Of several faults, the first one found is returned.
     pub fn from_cbor_bstr(alloc: Global, value: Value) -> Result<ProtectedHeader>
         ensures read { Reads protected_shape protected_view (value_item value) result }
         ensures refused { RefusesItem protected_shape (value_item value) result }
@@ -84,7 +90,7 @@ impl ProtectedHeader {
         ProtectedHeader::from_source_bstr(alloc, ItemSource::Tree(value))
     }
 
-    /// Reads a protected header from the lent byte string that holds it, and keeps its bytes.
+    /// Decodes a protected header from its borrowed byte string, and keeps a copy of the bytes.
     ///
     /// # Errors
     /// The same as [`ProtectedHeader::from_cbor_bstr`].
@@ -95,7 +101,7 @@ impl ProtectedHeader {
         ProtectedHeader::from_source_bstr(alloc, ItemSource::Lent(pull))
     }
 
-    /// Reads a protected header from the byte string that holds it, whichever way that is given, and keeps its bytes.
+    /// Decodes a protected header from its byte string, given in either form, and keeps the bytes.
     ///
     /// # Errors
     /// The same as [`ProtectedHeader::from_cbor_bstr`].
@@ -106,12 +112,16 @@ impl ProtectedHeader {
         read_protected(alloc, &mut Decoder::new(source))
     }
 
-    /// The bytes that represent the header in messages and under signatures (RFC 8152, sections 3 and 4.4): those that
-    /// were read; else none where the header is empty; else the shortest encoding of its map.
+    /// Returns the bytes that represent the header in messages and under signatures (RFC 8152,
+    /// sections 3 and 4.4).
+    ///
+    /// If bytes were kept, they are returned. Otherwise, an empty header has no bytes, and any
+    /// other header has the shortest encoding of its map.
     ///
     /// # Errors
-    /// `OutOfMemory`, or `DuplicateMapKey` where no bytes were read, and a label occurs twice in the rest of the
-    /// header, or in that of one inside it whose bytes weren't read either.
+    /// - `OutOfMemory` if an allocation fails.
+    /// - `DuplicateMapKey` if no bytes were kept, and a label occurs twice in the `rest` of the
+    ///   header or of a header inside it. Nothing inside kept bytes is checked.
     pub fn protected_bytes(&self, alloc: Global) -> Result<CowSlice<'_, u8, Global>>
         ensures ok { IfOk result (λ b. protected_bytes (protected_view self.now)
             ≡ Some (cow_slice_items b)) }
@@ -125,7 +135,7 @@ impl ProtectedHeader {
         Ok(CowSlice::Owned(fresh_bytes(alloc, &self.header)?))
     }
 
-    /// The byte string that represents the header in messages.
+    /// Returns the byte string that represents the header in messages.
     ///
     /// # Errors
     /// The same as [`ProtectedHeader::protected_bytes`].
@@ -145,7 +155,7 @@ impl ProtectedHeader {
     }
 }
 
-/// Equality of the header and of the bytes that were kept, if any.
+/// Compares the header and the kept bytes, if any.
 impl PartialEq for ProtectedHeader {
     ghost eq = { on protected_view protected_eq };
 
@@ -176,10 +186,10 @@ impl Clone for ProtectedHeader {
 }
 
 impl ProtectedHeader {
-    /// A protected header that equals this one, with the same bytes kept.
+    /// Returns an equal protected header, with the same kept bytes.
     ///
     /// # Errors
-    /// `OutOfMemory` alone.
+    /// `OutOfMemory` if an allocation fails.
     pub fn clone(&self) -> Result<ProtectedHeader>
         ensures copy { IfOk result (λ p. protected_view p ≡ protected_view self.now) }
         ensures memory { IfErr result (λ e. e ≡ OutOfMemory) }
@@ -188,7 +198,7 @@ impl ProtectedHeader {
     }
 }
 
-/// A protected header that wasn't read from a byte string.
+/// Returns a protected header without kept bytes.
 pub(crate) fn protected_from_header(header: Header) -> ProtectedHeader
     ensures { protected_view result ≡ record { original = None; header = header_view header } }
 {
@@ -220,13 +230,13 @@ impl Codec for ProtectedHeader {
         self.header.encoded_size_hint()
     }
 
-    /// Writes the header's map, whatever bytes were kept.
+    /// Writes the header's map, and ignores any kept bytes.
     fn write(&self, alloc: Global, out: &mut Vec<u8>) -> Result<()> {
         self.header.encode(alloc, out)
     }
 }
 
-/// A protected header as the byte string that represents it in messages.
+/// A borrowed protected header, to be encoded as the byte string that represents it in messages.
 #[derive(Clone, Copy)]
 pub struct ProtectedRef<'a>(pub &'a ProtectedHeader);
 
@@ -240,16 +250,17 @@ impl Encode for ProtectedRef<'_> {
         }
     }
 
-    /// The same as [`ProtectedHeader::protected_bytes`].
+    /// Appends the byte string of [`ProtectedHeader::protected_bytes`], with the same errors.
     fn encode(&self, alloc: Global, out: &mut Vec<u8>) -> Result<()> {
         write_protected(alloc, self.0, out)
     }
 }
 
-/// The bytes of a byte string.
+/// Returns the bytes of a byte string.
 ///
 /// # Errors
-/// `OutOfMemory`, or `UnexpectedItem`: the item is no byte string.
+/// - `OutOfMemory` if an allocation fails.
+/// - `UnexpectedItem` if the item is not a byte string.
 pub(crate) fn string_bytes(
     alloc: Global,
     input: &mut Decoder<'_>,
@@ -262,10 +273,12 @@ pub(crate) fn string_bytes(
     store_error(input.bytes(alloc, "bstr"), error)
 }
 
-/// Reads the header that the bytes hold which an empty protected header keeps.
+/// Decodes the kept bytes of an empty protected header into its header.
 ///
 /// # Errors
-/// `OutOfMemory`, or the first fault found: the bytes are one layer too many (`DecodeFailed`); or of what they hold.
+/// - `OutOfMemory` if an allocation fails.
+/// - `DecodeFailed` if no layer is left for the bytes.
+/// - The first fault found in the bytes.
 #[cycle(read)]
 #[inline(never)]
 pub(crate) fn fill_protected(
@@ -289,11 +302,16 @@ pub(crate) fn fill_protected(
     fill_content(&mut protected.header, alloc, content, layers - 1, error)
 }
 
-/// Reads the header that the content of a byte string is: none is the empty one.
+/// Decodes the content of a byte string into `header`, which must be empty. Empty content is the
+/// empty header.
 ///
 /// # Errors
-/// `OutOfMemory`, or the first fault found: the content isn't an item within 256 levels (`DecodeFailed`), others follow
-/// that (`ExtraneousData`), or it isn't a header.
+/// - `OutOfMemory` if an allocation fails.
+/// - `DecodeFailed` if there is content, but no item within 256 levels at its start.
+/// - `ExtraneousData` if bytes follow the item.
+/// - A fault in the header.
+///
+/// Of several faults, the first one found is returned.
 #[cycle(read)]
 fn fill_content(
     header: &mut Header,
@@ -314,7 +332,7 @@ fn fill_content(
     fill_header(header, alloc, &mut input, layers, error)
 }
 
-/// Reads a protected header from its byte string into an empty one.
+/// Reads a protected header from its byte string into `protected`, whose header must be empty.
 pub(crate) fn fill_bstr(
     protected: &mut ProtectedHeader,
     alloc: Global,
@@ -332,7 +350,7 @@ pub(crate) fn fill_bstr(
     fill_protected(protected, alloc, LAYERS, error)
 }
 
-/// Reads a protected header.
+/// Reads a protected header from its byte string.
 pub(crate) fn read_protected(alloc: Global, input: &mut Decoder<'_>) -> Result<ProtectedHeader>
     ensures forward { ReadsForward (state input.old) (state input.new) result
         (λ v. Reads protected_shape protected_view v result) }
@@ -345,7 +363,8 @@ pub(crate) fn read_protected(alloc: Global, input: &mut Decoder<'_>) -> Result<P
     Ok(protected)
 }
 
-/// Appends the byte string that represents the protected header. Bytes that were read aren't copied first.
+/// Appends the byte string that represents the protected header. Kept bytes are written without
+/// another copy.
 #[cycle(write)]
 pub(crate) fn write_protected(
     alloc: Global,
@@ -365,7 +384,8 @@ pub(crate) fn write_protected(
     Ok(())
 }
 
-/// The bytes of a header that wasn't read: none where it is empty, else the shortest encoding of its map.
+/// Encodes a header without kept bytes: no bytes if it is empty, else the shortest encoding of its
+/// map.
 ///
 /// # Errors
 /// The same as [`write_header`].
@@ -386,10 +406,10 @@ fn fresh_bytes(alloc: Global, header: &Header) -> Result<Vec<u8>>
     Ok(bytes)
 }
 
-/// Copies a protected header into another, with the bytes that it keeps.
+/// Copies `protected` into `copy`, with its kept bytes.
 ///
 /// # Errors
-/// That memory ran out. The copy may then have a part of the header.
+/// `AllocError` if an allocation fails. `copy` may then have a part of the header.
 #[cycle(copy)]
 pub fn copy_protected(
     protected: &ProtectedHeader,

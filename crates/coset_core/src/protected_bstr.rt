@@ -1,4 +1,4 @@
-//! Protected headers as they are in messages: in byte strings.
+//! Protected headers as messages have them: in byte strings.
 
 ghost use Rattle.coset_core.specs.Headers.{protected};
 ghost use Rattle.coset_core.specs.Views.{protected_view};
@@ -9,8 +9,10 @@ use coset_codec::write::Encode;
 use coset_codec::{Codec, Result};
 use std::alloc::Global;
 
-/// A protected header as a type whose item is the byte string that represents it in messages (RFC 8152, section 3). A
-/// [`ProtectedHeader`] as such is read from its map, and written as that.
+/// A protected header as its byte string in messages (RFC 8152, section 3).
+///
+/// It is read and written as that byte string. A [`ProtectedHeader`] itself is read and written as
+/// its map.
 ///
 /// ```cddl
 /// empty_or_serialized_map = bstr .cbor header_map / bstr .size 0

@@ -1,4 +1,4 @@
-//! Signatures: those of a message, and those that countersign (RFC 8152, sections 4.1 and 4.5).
+//! Signatures of messages, and counter signatures (RFC 8152, sections 4.1 and 4.5).
 
 ghost use Rattle.std.specs.Prelude.{◌≡◌, ◌≢◌, [], map, option_map, OnOk, IfOk, IfErr, codes, ◌≤◌, ◌<◌, IsTrue, None, ◌↔◌, ◌+◌, IfSome};
 ghost use Rattle.coset_codec.specs.declared.error.CoseError.TheVariants.{OutOfMemory};
@@ -41,8 +41,9 @@ use coset_codec::{Codec, CoseError, Result};
 use std::alloc::{AllocError, Global};
 use std::marker::Model;
 
-/// One signature (RFC 8152, section 4.1), which has its own headers: of a `COSE_Sign` message, or a counter signature
-/// (section 4.5).
+/// One signature, with its own headers (RFC 8152, section 4.1).
+///
+/// It is a signature of a `COSE_Sign` message or a counter signature (section 4.5).
 ///
 /// ```cddl
 /// COSE_Signature = [ Headers, signature : bstr ]
@@ -52,17 +53,17 @@ use std::marker::Model;
 pub struct CoseSignature {
     /// The header that the signature covers.
     pub protected: ProtectedHeader,
-    /// The header that it doesn't.
+    /// The header that the signature doesn't cover.
     pub unprotected: Header,
     /// The signature's bytes.
     pub signature: Vec<u8>,
 }
 
-/// What the error of another number of elements asks for.
+/// The expected item, as the error for a wrong number of elements names it.
 const PLACES: &str = "array with 3 items";
 
 impl CoseSignature {
-    /// A signature of no bytes with empty headers. It takes no memory.
+    /// Returns a signature without bytes and with empty headers. Allocates nothing.
     pub fn new(alloc: Global) -> CoseSignature
         ensures { signature_view result
             ≡ record {
@@ -79,7 +80,7 @@ impl CoseSignature {
     }
 }
 
-/// Equality of the headers and of the signature's bytes.
+/// Compares the headers and the signature's bytes.
 impl PartialEq for CoseSignature {
     ghost eq = { on signature_view signature_eq };
 
@@ -110,10 +111,10 @@ impl Clone for CoseSignature {
 }
 
 impl CoseSignature {
-    /// A signature that equals this one.
+    /// Returns an equal signature.
     ///
     /// # Errors
-    /// `OutOfMemory` alone.
+    /// `OutOfMemory` if an allocation fails.
     pub fn clone(&self) -> Result<CoseSignature>
         ensures copy { IfOk result (λ s. signature_view s ≡ signature_view self.now) }
         ensures memory { IfErr result (λ e. e ≡ OutOfMemory) }
@@ -167,11 +168,12 @@ impl InPlace for CoseSignature {
     }
 }
 
-/// Reads the first place of a signature's array, a byte string that is kept; the second then is at the input. It says
-/// whether the first is one, and why not in a place of its own, since the later elements are judged before it.
+/// Reads the first element of a signature's array into `kept`, and goes to the second. Returns
+/// false if the first could not be read as a byte string. Its error is then in `why`: a fault of a
+/// later element has priority over it.
 ///
 /// # Errors
-/// `UnexpectedItem`: the array has fewer elements.
+/// `UnexpectedItem` if the array has fewer than two elements.
 #[inline(never)]
 fn begin_elements(
     kept: &mut Option<Vec<u8>>,
@@ -208,10 +210,11 @@ fn begin_elements(
     }
 }
 
-/// Reads the third and last place of a signature's array.
+/// Reads the third and last element of a signature's array.
 ///
 /// # Errors
-/// `OutOfMemory`, or `UnexpectedItem`: there is none, or it isn't the last, or it is no byte string.
+/// - `OutOfMemory` if an allocation fails.
+/// - `UnexpectedItem` if the element is missing, is not the last, or is not a byte string.
 #[inline(never)]
 fn end_elements(
     signature: &mut Vec<u8>,
@@ -269,10 +272,11 @@ pub(crate) fn fill_bare(
     fill_elements(&mut all[last], alloc, elements, input, layers, error)
 }
 
-/// Reads each of some signatures into an empty list.
+/// Reads a list of signatures into an empty list.
 ///
 /// # Errors
-/// `OutOfMemory`, or the fault of the first that has one.
+/// - `OutOfMemory` if an allocation fails.
+/// - The fault of the first signature that has one.
 #[cycle(read)]
 pub(crate) fn fill_listed(
     all: &mut Vec<CoseSignature>,
@@ -296,11 +300,12 @@ pub(crate) fn fill_listed(
     Ok(())
 }
 
-/// Reads an array of signatures, each where it is in the list. Whatever is at fault with one of them, it is
-/// `UnexpectedItem` with the two texts of `blame`.
+/// Reads an array of signatures. Each one is read directly into its place in the list.
 ///
 /// # Errors
-/// `OutOfMemory`; or `UnexpectedItem`, which asks for an array where the item is none.
+/// - `OutOfMemory` if an allocation fails.
+/// - `UnexpectedItem`, with an array as the expectation, if the item is not an array.
+/// - `UnexpectedItem` with the two texts of `blame`, for any fault in a signature.
 pub fn read_signatures(
     alloc: Global,
     input: &mut Decoder<'_>,
@@ -327,7 +332,7 @@ pub fn read_signatures(
     }
 }
 
-/// The error with these two texts, in place of one for another fault.
+/// Returns `UnexpectedItem` with these two texts in place of `error`, unless that is `OutOfMemory`.
 fn masked_error(error: CoseError, blame: (&'static str, &'static str)) -> CoseError
     ensures memory { error ≡ OutOfMemory → result ≡ OutOfMemory }
     ensures blames { UnlessMemory error (λ e. IsUnexpected result
@@ -339,10 +344,10 @@ fn masked_error(error: CoseError, blame: (&'static str, &'static str)) -> CoseEr
     }
 }
 
-/// Goes to the first element of an array.
+/// Enters an array.
 ///
 /// # Errors
-/// `UnexpectedItem`: the item is no array; it is skipped.
+/// `UnexpectedItem` if the item is not an array. The item is then skipped.
 #[inline(never)]
 fn begin_items(
     elements: &mut ArrayElements,
@@ -361,10 +366,11 @@ fn begin_items(
     Ok(())
 }
 
-/// Reads a signature into one that holds nothing.
+/// Reads a signature into `signed`, which must be empty.
 ///
 /// # Errors
-/// `UnexpectedItem`: the item is no array; or the same as [`fill_elements`].
+/// - `UnexpectedItem` if the item is not an array.
+/// - The same as [`fill_elements`] otherwise.
 #[cycle(read)]
 fn fill_signature(
     signed: &mut CoseSignature,
@@ -387,11 +393,13 @@ fn fill_signature(
     filled
 }
 
-/// Reads the elements of a signature's array into one that holds nothing. They are read from the first on, and judged
-/// from the last on.
+/// Reads the elements of a signature's array into `signed`, which must be empty. They are read from
+/// first to last, but a fault of a later element has priority.
 ///
 /// # Errors
-/// `OutOfMemory`; `UnexpectedItem` where they are not three; or the fault of the last place that has one.
+/// - `OutOfMemory` if an allocation fails.
+/// - `UnexpectedItem` if there are not three elements.
+/// - The fault of the last element that has one.
 #[cycle(read)]
 fn fill_elements(
     signed: &mut CoseSignature,
@@ -440,7 +448,7 @@ pub(crate) fn write_signatures(
     Ok(())
 }
 
-/// Appends the array of the signature.
+/// Appends the signature's array.
 #[cycle(write)]
 fn write_signature(alloc: Global, signature: &CoseSignature, out: &mut Vec<u8>) -> Result<()>
     ensures written { Encodes (signature_array (signature_view signature.now)) out.old.items
@@ -454,7 +462,7 @@ fn write_signature(alloc: Global, signature: &CoseSignature, out: &mut Vec<u8>) 
     Ok(())
 }
 
-/// Copies bytes.
+/// Copies `bytes` into `copy`.
 #[inline(never)]
 pub(crate) fn copy_into(bytes: &Vec<u8>, copy: &mut Vec<u8>) -> Result<(), AllocError>
     ensures { OnOk result (copy.new.items ≡ bytes.now.items) }
@@ -463,7 +471,7 @@ pub(crate) fn copy_into(bytes: &Vec<u8>, copy: &mut Vec<u8>) -> Result<(), Alloc
     Ok(())
 }
 
-/// Copies signatures into a list, in place of those that it holds.
+/// Replaces the content of `copies` with copies of the signatures.
 #[cycle(copy)]
 pub(crate) fn copy_signatures(
     all: &[CoseSignature],
@@ -480,7 +488,7 @@ pub(crate) fn copy_signatures(
     Ok(())
 }
 
-/// Copies a signature into another.
+/// Copies `signature` into `copy`.
 #[cycle(copy)]
 fn copy_signature(signature: &CoseSignature, copy: &mut CoseSignature) -> Result<(), AllocError>
     ensures { OnOk result (signature_view copy.new ≡ signature_view signature.now) }
@@ -515,10 +523,10 @@ fn same_signature(a: &CoseSignature, b: &CoseSignature) -> bool
         && a.signature == b.signature
 }
 
-/// The counter signatures of both versions.
+/// Counter signatures of both versions.
 pub(crate) type Held = (Vec<CoseSignature>, Vec<CoseCountersignature>);
 
-/// The counter signatures of the two headers, whose rest is let go.
+/// Returns the counter signatures of the two headers, and drops everything else in them.
 #[inline(always)]
 pub(crate) fn held_by(protected: ProtectedHeader, unprotected: Header) -> (Held, Held)
     ensures { held_in result.0.0.items result.0.1.items + held_in result.1.0.items result.1.1.items
@@ -531,7 +539,8 @@ pub(crate) fn held_by(protected: ProtectedHeader, unprotected: Header) -> (Held,
     (header.into_signatures(), unprotected.into_signatures())
 }
 
-/// Of the last signature the counter signatures of its two headers. The rest of it is let go.
+/// Removes the last signature and returns the counter signatures of its two headers. Drops
+/// everything else in it.
 #[inline(never)]
 fn take_last_signature(all: &mut Vec<CoseSignature>) -> Option<(Held, Held)>
     ensures none { result ≡ None → all.old.items ≡ [] }
@@ -546,7 +555,8 @@ fn take_last_signature(all: &mut Vec<CoseSignature>) -> Option<(Held, Held)>
     Some(held_by(protected, unprotected))
 }
 
-/// Of the last signature of either version the counter signatures of its two headers. The rest of it is let go.
+/// Removes the last signature of `all`, or else the last of `version_2`. Returns the counter
+/// signatures of its two headers, and drops everything else in it.
 #[inline(always)]
 fn take_last(
     all: &mut Vec<CoseSignature>,
@@ -566,7 +576,7 @@ fn take_last(
     take_last_countersignature(version_2)
 }
 
-/// Lets go what a header holds. Most headers hold none.
+/// Drops the counter signatures of a header. Most headers have none.
 #[cycle(drop_nested)]
 #[inline(always)]
 pub(crate) fn drop_held(held: Held) {
@@ -579,7 +589,7 @@ pub(crate) fn drop_held(held: Held) {
     }
 }
 
-/// Lets signatures of both versions go, and those in their headers.
+/// Drops signatures of both versions, and all signatures in their headers.
 #[cycle(drop_nested)]
 #[inline(never)]
 pub(crate) fn drop_nested(all: Vec<CoseSignature>, version_2: Vec<CoseCountersignature>) {
@@ -593,8 +603,8 @@ pub(crate) fn drop_nested(all: Vec<CoseSignature>, version_2: Vec<CoseCountersig
     version_2.destroy_empty();
 }
 
-/// Makes a [`CoseSignature`], field by field. Contracts see it as the signature that
-/// [`build`](CoseSignatureBuilder::build) gives.
+/// Builds a [`CoseSignature`] field by field. Contracts see the builder as the signature that
+/// [`build`](CoseSignatureBuilder::build) returns.
 #[derive(Debug, Drop)]
 pub struct CoseSignatureBuilder(CoseSignature);
 
@@ -613,21 +623,21 @@ impl Model for CoseSignatureBuilder {
 }
 
 impl CoseSignatureBuilder {
-    /// A signature of no bytes with empty headers. It takes no memory.
+    /// Returns a builder of a signature without bytes and with empty headers. Allocates nothing.
     pub fn new(alloc: Global) -> CoseSignatureBuilder
         ensures { signature_view result ≡ empty_signature }
     {
         CoseSignatureBuilder(CoseSignature::new(alloc))
     }
 
-    /// The signature that was made.
+    /// Returns the finished signature.
     pub fn build(self) -> CoseSignature
         ensures { result ≡ self }
     {
         self.0
     }
 
-    /// Sets the protected header: one that was made, and not read, so that it has no bytes of its own yet.
+    /// Sets the protected header, without kept bytes.
     pub fn protected(mut self, header: Header) -> CoseSignatureBuilder
         ensures { signature_view result ≡ record (signature_view self) {
           protected = record { original = None; header = header_view header };
@@ -655,10 +665,10 @@ impl CoseSignatureBuilder {
         self
     }
 
-    /// As [`signature`](CoseSignatureBuilder::signature), of a copy of these bytes.
+    /// Calls [`signature`](CoseSignatureBuilder::signature) with a copy of these bytes.
     ///
     /// # Errors
-    /// `OutOfMemory` alone.
+    /// `OutOfMemory` if an allocation fails.
     pub fn signature_from(self, alloc: Global, signature: &[u8]) -> Result<CoseSignatureBuilder>
         ensures ok { IfOk result (λ b. signature_view b
             ≡ record (signature_view self) { signature = signature.now }) }

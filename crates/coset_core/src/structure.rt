@@ -1,5 +1,5 @@
-//! The structures whose bytes are signed or authenticated, or go with a ciphertext (RFC 8152, sections 4.4, 5.3 and
-//! 6.3).
+//! The structures that are signed, authenticated, or go with a ciphertext (RFC 8152, sections 4.4,
+//! 5.3 and 6.3).
 
 ghost use Rattle.std.specs.Prelude.{◌≡◌, ◌≤◌, map, IfOk, IfErr};
 ghost use Rattle.coset_cbor.specs.Shortest.{IsShortest};
@@ -11,14 +11,14 @@ use coset_cbor::ser::{write_array_head, write_bytes, write_text};
 use coset_codec::Result;
 use std::alloc::Global;
 
-/// No head is longer (RFC 8949, section 3).
+/// The length of the longest head, in bytes (RFC 8949, section 3).
 const LONGEST_HEAD: usize = 9;
 
-/// The shortest encoding of an array of a context and byte strings. It is written straight from these, into a vector
-/// that is made large enough at once.
+/// Returns the shortest encoding of an array of a context and byte strings. It is written directly
+/// into a vector that is large enough from the start.
 ///
 /// # Errors
-/// `OutOfMemory` alone.
+/// `OutOfMemory` if an allocation fails.
 pub fn structure_bytes(alloc: Global, context: &str, parts: &[&[u8]]) -> Result<Vec<u8>>
     ensures encoding { IfOk result (λ b. IsShortest b.items
         (structure context.now (map (λ part. part.now) parts.now))) }
@@ -29,11 +29,12 @@ pub fn structure_bytes(alloc: Global, context: &str, parts: &[&[u8]]) -> Result<
     Ok(out)
 }
 
-/// The beginning of the shortest encoding of a structure: its head, the context and these byte strings, behind which so
-/// many elements follow. It is made large enough at once for these, and for so many bytes more.
+/// Returns the beginning of the shortest encoding of a structure: its head, the context and these
+/// byte strings. The head also counts `elements` further elements (0 or 1), which the caller
+/// appends. The vector has room for `more` further bytes.
 ///
 /// # Errors
-/// `OutOfMemory` alone.
+/// `OutOfMemory` if an allocation fails.
 #[inline(always)]
 pub fn begin_structure(
     alloc: Global,
@@ -57,7 +58,7 @@ pub fn begin_structure(
     Ok(out)
 }
 
-/// As many bytes as an array of these takes at most.
+/// Returns the maximum encoded size of an array of these byte strings.
 pub fn byte_strings_room(parts: &[Vec<u8>]) -> usize {
     let mut room = LONGEST_HEAD;
     for part in parts {
@@ -66,7 +67,7 @@ pub fn byte_strings_room(parts: &[Vec<u8>]) -> usize {
     room
 }
 
-/// As many bytes as these take at most, each behind its head.
+/// Returns the maximum encoded size of an array of the context and these byte strings.
 fn room_for(context: &str, parts: &[&[u8]]) -> usize {
     let mut room = LONGEST_HEAD
         .saturating_add(LONGEST_HEAD)

@@ -1,4 +1,4 @@
--- What a binary search finds among values in ascending order of their numbers.
+-- The result of a binary search among values in ascending order of their numbers.
 use Rattle.std.proofs.Common.{◌≡◌, ℕ, zero, suc, ◌+◌, ◌<◌, ℤ, true, false, List, [], ◌∷◌, length, get_or, IsTrue, Some, None, Result, Ok, Err, MatchResult}
 use Rattle.std.proofs.Common.{refl, ap, arith}
 use Rattle.std.specs.Prelude.{int_lt}
@@ -12,7 +12,7 @@ use native.Mathlib.Numerals.{unary_clauses}
 use Rattle.coset_iana.specs.Registry.{first_numbered, is_ascending}
 
 module _ {T : Type 0} (number : T → ℤ) where
-  -- in ascending order, the first number is below all others
+  -- In ascending order, the first number is below all others.
   first_below : (x : T) (xs : List T) (k : ℕ) (d : T) → is_ascending number (x ∷ xs) ≡ true → k < length xs → int_lt (number x) (number (get_or xs k d)) ≡ true
   first_below x [] k d up lt = absurd (omega arith)
   first_below x (y ∷ ys) zero d up lt = grind arith
@@ -24,7 +24,7 @@ module _ {T : Type 0} (number : T → ℤ) where
   tail_ascends x [] up = refl
   tail_ascends x (y ∷ ys) up = grind arith
 
-  -- so they are sorted
+  -- Values in ascending order are sorted by their numbers.
   sorted : (xs : List T) → is_ascending number xs ≡ true → IsSortedByKey number int_cmp xs
   sorted [] up k d low lt = absurd (omega arith)
   sorted (x ∷ xs) up zero d low lt =
@@ -36,7 +36,7 @@ module _ {T : Type 0} (number : T → ℤ) where
       simp unary_clauses (simp unary_clauses at later)
 
   module _ (i : ℤ) where
-    -- the value at a place is the first with its number
+    -- A value with the number is the first with it.
     first_at : (xs : List T) (at : ℕ) (d : T) → is_ascending number xs ≡ true → at < length xs → int_cmp (number (get_or xs at d)) i ≡ Equal
         → first_numbered number xs i ≡ Some (get_or xs at d)
     first_at [] at d up lt same = absurd (omega arith)
@@ -46,12 +46,12 @@ module _ {T : Type 0} (number : T → ℤ) where
         let differs : int_eq (number x) i ≡ false = grind (arith, ints) in
         rw differs (first_at xs k d (tail_ascends x xs up) (omega arith) same)
 
-    -- where no value has the number, none is found
+    -- If no value has the number, the look-up finds none.
     none_first : (xs : List T) → ((k : ℕ) (d : T) → k < length xs → int_eq (number (get_or xs k d)) i ≡ false) → first_numbered number xs i ≡ None
     none_first [] none = refl
     none_first (x ∷ xs) none = rw (none 0 x (omega arith)) (none_first xs (λ k d lt. none (suc k) d (omega arith)))
 
-    -- so a binary search for the number ends at the first value with it, or where there is none
+    -- So a binary search and `first_numbered` find the same value, or both find none.
     pub searched : (xs : List T) (r : Result ℕ ℕ) → IsTrue (is_ascending number xs) → IsSearchInRange r (length xs)
         → IsBinarySearchResult (λ x. int_cmp (number x) i) xs r
         → MatchResult r (λ at. (d : T) → first_numbered number xs i ≡ Some (get_or xs at d)) (λ _. first_numbered number xs i ≡ None)

@@ -8,7 +8,7 @@ abbrev pub number : AkpKeyParameter → ℤ
 number Pub = minus 1
 number Priv = minus 2
 
--- the name of each, as IANA's registry "COSE Key Type Parameters" spells it
+-- The name of each, as IANA's registry "COSE Key Type Parameters" spells it.
 abbrev pub name : AkpKeyParameter → List ℕ
 name Pub = codes "pub"
 name Priv = codes "priv"

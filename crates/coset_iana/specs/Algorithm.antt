@@ -101,7 +101,7 @@ number AES_CCM_64_128_128 = pos 32
 number AES_CCM_64_128_256 = pos 33
 number IV_GENERATION = pos 34
 
--- the name of each, as IANA's registry "COSE Algorithms" spells it
+-- The name of each, as IANA's registry "COSE Algorithms" spells it.
 abbrev pub name : Algorithm → List ℕ
 name RS1 = codes "RS1"
 name AesCtr128 = codes "A128CTR"

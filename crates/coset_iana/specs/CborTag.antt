@@ -13,7 +13,7 @@ number CoseEncrypt = pos 96
 number CoseMac = pos 97
 number CoseSign = pos 98
 
--- the name of each: its semantics in IANA's registry "CBOR Tags"
+-- The name of each: its semantics in IANA's registry "CBOR Tags".
 abbrev pub name : CborTag → List ℕ
 name CoseEncrypt0 = codes "COSE Single Recipient Encrypted Data Object"
 name CoseMac0 = codes "COSE Mac w/o Recipients Object"

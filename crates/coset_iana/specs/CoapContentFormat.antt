@@ -1,4 +1,4 @@
--- The numbers and names of formats of content (RFC 7252, section 12.3).
+-- The numbers and names of content formats (RFC 7252, section 12.3).
 use Rattle.std.specs.Prelude.{ℕ, ℤ, pos, List, codes}
 use Rattle.coset_iana.specs.declared.content_formats.CoapContentFormat.{CoapContentFormat}
 use Rattle.coset_iana.specs.declared.content_formats.CoapContentFormat.TheVariants.{TextPlainUtf8, CoseEncrypt0, CoseMac0, CoseSign1, AceCbor, ImageGif}
@@ -98,7 +98,8 @@ number VndOmaLwm2mCbor = pos 11544
 number TextCss = pos 20000
 number ImageSvgXml = pos 30000
 
--- the name of each, as IANA's registry "CoAP Content-Formats" spells it: the content type, and in parentheses the content coding
+-- The name of each, as IANA's registry "CoAP Content-Formats" spells it: the content type, then the content coding in
+-- parentheses.
 abbrev pub name : CoapContentFormat → List ℕ
 name TextPlainUtf8 = codes "text/plain; charset=utf-8"
 name CoseEncrypt0 = codes "application/cose; cose-type=\"cose-encrypt0\""

@@ -1,4 +1,4 @@
--- The numbers and names of the names of claims (RFC 8392, sections 3.1 and 9.1).
+-- The numbers and names of claim names (RFC 8392, sections 3.1 and 9.1).
 use Rattle.std.specs.Prelude.{ℕ, ℤ, pos, List, codes}
 use Rattle.coset_iana.specs.Registry.{minus}
 use Rattle.coset_iana.specs.declared.claims.CwtClaimName.{CwtClaimName}
@@ -85,7 +85,8 @@ number PsaCertificationReference = pos 2398
 number PsaSoftwareComponents = pos 2399
 number PsaVerificationServiceIndicator = pos 2400
 
--- the name of each, as IANA's registry "CBOR Web Token (CWT) Claims" spells it; those of attestation tokens in the short spelling of RFC 9711
+-- The name of each, as IANA's registry "CBOR Web Token (CWT) Claims" spells it. Claims of attestation tokens have the
+-- short spelling of RFC 9711.
 abbrev pub name : CwtClaimName → List ℕ
 name GlobalPlatformComponents = codes "GlobalPlatform Components"
 name Hcert = codes "hcert"

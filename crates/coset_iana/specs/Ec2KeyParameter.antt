@@ -10,7 +10,7 @@ number X = minus 2
 number Y = minus 3
 number D = minus 4
 
--- the name of each, as IANA's registry "COSE Key Type Parameters" spells it
+-- The name of each, as IANA's registry "COSE Key Type Parameters" spells it.
 abbrev pub name : Ec2KeyParameter → List ℕ
 name Crv = codes "crv"
 name X = codes "x"

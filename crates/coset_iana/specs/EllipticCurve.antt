@@ -19,7 +19,7 @@ number BrainpoolP320R1 = pos 257
 number BrainpoolP384R1 = pos 258
 number BrainpoolP512R1 = pos 259
 
--- the name of each, as IANA's registry "COSE Elliptic Curves" spells it
+-- The name of each, as IANA's registry "COSE Elliptic Curves" spells it.
 abbrev pub name : EllipticCurve → List ℕ
 name Reserved = codes "Reserved"
 name P_256 = codes "P-256"

@@ -1,4 +1,4 @@
--- The numbers and names of the labels of headers that go with an algorithm (RFC 8152, section 16.3).
+-- The numbers and names of the header labels of recipients' algorithms (RFC 8152, section 16.3).
 use Rattle.std.specs.Prelude.{ℕ, ℤ, List, codes}
 use Rattle.coset_iana.specs.Registry.{minus}
 use Rattle.coset_iana.specs.declared.headers.HeaderAlgorithmParameter.{HeaderAlgorithmParameter}
@@ -21,7 +21,7 @@ number StaticKeyId = minus 3
 number StaticKey = minus 2
 number EphemeralKey = minus 1
 
--- the name of each, as IANA's registry "COSE Header Algorithm Parameters" spells it
+-- The name of each, as IANA's registry "COSE Header Algorithm Parameters" spells it.
 abbrev pub name : HeaderAlgorithmParameter → List ℕ
 name X5ChainSender = codes "x5chain-sender"
 name X5USender = codes "x5u-sender"

@@ -1,4 +1,4 @@
--- The numbers and names of the labels of headers (RFC 8152, sections 3.1 and 16.2).
+-- The numbers and names of the header labels (RFC 8152, sections 3.1 and 16.2).
 use Rattle.std.specs.Prelude.{ℕ, ℤ, pos, List, codes}
 use Rattle.coset_iana.specs.declared.headers.HeaderParameter.{HeaderParameter}
 use Rattle.coset_iana.specs.declared.headers.HeaderParameter.TheVariants.{Reserved, Alg, Crit, ContentType, Kid, Iv, PartialIv, CounterSignature}
@@ -30,7 +30,7 @@ number X5U = pos 35
 number CuphNonce = pos 256
 number CuphOwnerPubKey = pos 257
 
--- the name of each, as IANA's registry "COSE Header Parameters" spells it
+-- The name of each, as IANA's registry "COSE Header Parameters" spells it.
 abbrev pub name : HeaderParameter → List ℕ
 name Reserved = codes "Reserved"
 name Alg = codes "alg"

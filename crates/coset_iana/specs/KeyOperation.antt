@@ -1,4 +1,4 @@
--- The numbers and names of the uses of keys (RFC 8152, section 7.1, table 4).
+-- The numbers and names of the key operations (RFC 8152, section 7.1, table 4).
 use Rattle.std.specs.Prelude.{ℕ, ℤ, pos, List, codes}
 use Rattle.coset_iana.specs.declared.keys.KeyOperation.{KeyOperation}
 use Rattle.coset_iana.specs.declared.keys.KeyOperation.TheVariants.{Sign, Verify, Encrypt, Decrypt, WrapKey, UnwrapKey, DeriveKey, DeriveBits, MacCreate}
@@ -16,7 +16,7 @@ number DeriveBits = pos 8
 number MacCreate = pos 9
 number MacVerify = pos 10
 
--- the name of each, as RFC 8152 has it
+-- The name of each, as RFC 8152 spells it.
 abbrev pub name : KeyOperation → List ℕ
 name Sign = codes "sign"
 name Verify = codes "verify"

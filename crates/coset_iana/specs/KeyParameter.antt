@@ -11,7 +11,7 @@ number Alg = pos 3
 number KeyOps = pos 4
 number BaseIv = pos 5
 
--- the name of each, as IANA's registry "COSE Key Common Parameters" spells it
+-- The name of each, as IANA's registry "COSE Key Common Parameters" spells it.
 abbrev pub name : KeyParameter → List ℕ
 name Reserved = codes "Reserved"
 name Kty = codes "kty"

@@ -1,4 +1,4 @@
--- The numbers and names of the kinds of keys (RFC 8152, sections 13 and 16.7).
+-- The numbers and names of the key types (RFC 8152, sections 13 and 16.7).
 use Rattle.std.specs.Prelude.{ℕ, ℤ, pos, List, codes}
 use Rattle.coset_iana.specs.declared.keys.KeyType.{KeyType}
 use Rattle.coset_iana.specs.declared.keys.KeyType.TheVariants.{Reserved, OKP, EC2, RSA, Symmetric, HSS_LMS, WalnutDSA, AKP}
@@ -13,7 +13,7 @@ number HSS_LMS = pos 5
 number WalnutDSA = pos 6
 number AKP = pos 7
 
--- the name of each, as IANA's registry "COSE Key Types" spells it
+-- The name of each, as IANA's registry "COSE Key Types" spells it.
 abbrev pub name : KeyType → List ℕ
 name Reserved = codes "Reserved"
 name OKP = codes "OKP"

@@ -9,7 +9,7 @@ number Crv = minus 1
 number X = minus 2
 number D = minus 4
 
--- the name of each, as IANA's registry "COSE Key Type Parameters" spells it
+-- The name of each, as IANA's registry "COSE Key Type Parameters" spells it.
 abbrev pub name : OkpKeyParameter → List ℕ
 name Crv = codes "crv"
 name X = codes "x"

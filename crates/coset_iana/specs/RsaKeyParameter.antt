@@ -18,7 +18,7 @@ number RI = minus 10
 number DI = minus 11
 number TI = minus 12
 
--- the name of each, as IANA's registry "COSE Key Type Parameters" spells it
+-- The name of each, as IANA's registry "COSE Key Type Parameters" spells it.
 abbrev pub name : RsaKeyParameter → List ℕ
 name N = codes "n"
 name E = codes "e"

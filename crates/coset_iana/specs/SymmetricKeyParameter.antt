@@ -7,6 +7,6 @@ use Rattle.coset_iana.specs.declared.key_parameters.SymmetricKeyParameter.TheVar
 abbrev pub number : SymmetricKeyParameter → ℤ
 number K = minus 1
 
--- its name, as IANA's registry "COSE Key Type Parameters" spells it
+-- Its name, as IANA's registry "COSE Key Type Parameters" spells it.
 abbrev pub name : SymmetricKeyParameter → List ℕ
 name K = codes "k"

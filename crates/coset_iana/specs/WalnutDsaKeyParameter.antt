@@ -1,4 +1,4 @@
--- The numbers and names of the labels of keys of WalnutDSA (RFC 9021).
+-- The numbers and names of the labels of WalnutDSA keys (RFC 9021).
 use Rattle.std.specs.Prelude.{ℕ, ℤ, List, codes}
 use Rattle.coset_iana.specs.Registry.{minus}
 use Rattle.coset_iana.specs.declared.key_parameters.WalnutDsaKeyParameter.{WalnutDsaKeyParameter}
@@ -12,7 +12,7 @@ number Matrix1 = minus 4
 number Permutation1 = minus 5
 number Matrix2 = minus 6
 
--- the name of each, as IANA's registry "COSE Key Type Parameters" spells it
+-- The name of each, as IANA's registry "COSE Key Type Parameters" spells it.
 abbrev pub name : WalnutDsaKeyParameter → List ℕ
 name N = codes "N"
 name Q = codes "q"

@@ -59,9 +59,9 @@ pub enum Algorithm {
     ML_DSA_44 = -48,
     /// ECDSA on secp256k1 with SHA-256 (RFC 8812, section 3.2).
     ES256K = -47,
-    /// HSS/LMS, a signature built of hashes (RFC 8778).
+    /// HSS/LMS, a hash-based signature (RFC 8778).
     HSS_LMS = -46,
-    /// SHAKE-256 with a value of 512 bits (RFC 9054, section 3.3).
+    /// SHAKE-256 with an output of 512 bits (RFC 9054, section 3.3).
     SHAKE256 = -45,
     /// SHA-512 (RFC 9054, section 3.2).
     SHA_512 = -44,
@@ -71,8 +71,7 @@ pub enum Algorithm {
     RSAES_OAEP_SHA_512 = -42,
     /// RSAES-OAEP with SHA-256 (RFC 8230, section 3).
     RSAES_OAEP_SHA_256 = -41,
-    /// RSAES-OAEP with the parameters that RFC 8017 takes where none are given (RFC 8230, section
-    /// 3).
+    /// RSAES-OAEP with the default parameters of RFC 8017 (RFC 8230, section 3).
     RSAES_OAEP_RFC_8017_default = -40,
     /// RSASSA-PSS with SHA-512 (RFC 8230, section 2).
     PS512 = -39,
@@ -84,35 +83,35 @@ pub enum Algorithm {
     ES512 = -36,
     /// ECDSA with SHA-384, on any curve.
     ES384 = -35,
-    /// ECDH of two static keys, its key wrapping another by AES with 256 bits.
+    /// ECDH with two static keys, then AES key wrap with a key of 256 bits.
     ECDH_SS_A256KW = -34,
-    /// ECDH of two static keys, its key wrapping another by AES with 192 bits.
+    /// ECDH with two static keys, then AES key wrap with a key of 192 bits.
     ECDH_SS_A192KW = -33,
-    /// ECDH of two static keys, its key wrapping another by AES with 128 bits.
+    /// ECDH with two static keys, then AES key wrap with a key of 128 bits.
     ECDH_SS_A128KW = -32,
-    /// ECDH with an ephemeral key, its key wrapping another by AES with 256 bits.
+    /// ECDH with an ephemeral key, then AES key wrap with a key of 256 bits.
     ECDH_ES_A256KW = -31,
-    /// ECDH with an ephemeral key, its key wrapping another by AES with 192 bits.
+    /// ECDH with an ephemeral key, then AES key wrap with a key of 192 bits.
     ECDH_ES_A192KW = -30,
-    /// ECDH with an ephemeral key, its key wrapping another by AES with 128 bits.
+    /// ECDH with an ephemeral key, then AES key wrap with a key of 128 bits.
     ECDH_ES_A128KW = -29,
-    /// ECDH of two static keys, its HKDF with SHA-512 giving the key.
+    /// ECDH with two static keys, from which HKDF with SHA-512 derives the key.
     ECDH_SS_HKDF_512 = -28,
-    /// ECDH of two static keys, its HKDF with SHA-256 giving the key.
+    /// ECDH with two static keys, from which HKDF with SHA-256 derives the key.
     ECDH_SS_HKDF_256 = -27,
-    /// ECDH with an ephemeral key, its HKDF with SHA-512 giving the key.
+    /// ECDH with an ephemeral key, from which HKDF with SHA-512 derives the key.
     ECDH_ES_HKDF_512 = -26,
-    /// ECDH with an ephemeral key, its HKDF with SHA-256 giving the key.
+    /// ECDH with an ephemeral key, from which HKDF with SHA-256 derives the key.
     ECDH_ES_HKDF_256 = -25,
     /// EdDSA on Ed25519.
     Ed25519 = -19,
-    /// SHAKE-128 with a value of 256 bits (RFC 9054, section 3.3).
+    /// SHAKE-128 with an output of 256 bits (RFC 9054, section 3.3).
     SHAKE128 = -18,
     /// SHA-512/256 (RFC 9054, section 3.2).
     SHA_512_256 = -17,
     /// SHA-256 (RFC 9054, section 3.2).
     SHA_256 = -16,
-    /// SHA-256 cut to 64 bits (RFC 9054, section 3.2).
+    /// SHA-256, truncated to 64 bits (RFC 9054, section 3.2).
     SHA_256_64 = -15,
     /// SHA-1 (RFC 9054, section 3.1).
     SHA_1 = -14,
@@ -126,11 +125,11 @@ pub enum Algorithm {
     Direct_HKDF_SHA_256 = -10,
     /// ECDSA on P-256 with SHA-256.
     ESP256 = -9,
-    /// EdDSA, on either curve.
+    /// EdDSA on Ed25519 or Ed448.
     EdDSA = -8,
     /// ECDSA with SHA-256, on any curve.
     ES256 = -7,
-    /// The shared secret is itself the content's key.
+    /// The shared secret itself is the content key.
     Direct = -6,
     /// AES key wrap with a key of 256 bits.
     A256KW = -5,
@@ -140,13 +139,13 @@ pub enum Algorithm {
     A128KW = -3,
     /// Never an algorithm; reserved.
     Reserved = 0,
-    /// AES-GCM with a key of 128 bits and a tag of 128.
+    /// AES-GCM with a 128-bit key and a 128-bit tag.
     A128GCM = 1,
-    /// AES-GCM with a key of 192 bits and a tag of 128.
+    /// AES-GCM with a 192-bit key and a 128-bit tag.
     A192GCM = 2,
-    /// AES-GCM with a key of 256 bits and a tag of 128.
+    /// AES-GCM with a 256-bit key and a 128-bit tag.
     A256GCM = 3,
-    /// HMAC with SHA-256, cut to 64 bits.
+    /// HMAC with SHA-256, truncated to 64 bits.
     HMAC_256_64 = 4,
     /// HMAC with SHA-256.
     HMAC_256_256 = 5,
@@ -154,33 +153,33 @@ pub enum Algorithm {
     HMAC_384_384 = 6,
     /// HMAC with SHA-512.
     HMAC_512_512 = 7,
-    /// AES-CCM with a key of 128 bits, a tag of 64 and a nonce of 13 bytes.
+    /// AES-CCM with a 128-bit key, a 64-bit tag and a 13-byte nonce.
     AES_CCM_16_64_128 = 10,
-    /// AES-CCM with a key of 256 bits, a tag of 64 and a nonce of 13 bytes.
+    /// AES-CCM with a 256-bit key, a 64-bit tag and a 13-byte nonce.
     AES_CCM_16_64_256 = 11,
-    /// AES-CCM with a key of 128 bits, a tag of 64 and a nonce of 7 bytes.
+    /// AES-CCM with a 128-bit key, a 64-bit tag and a 7-byte nonce.
     AES_CCM_64_64_128 = 12,
-    /// AES-CCM with a key of 256 bits, a tag of 64 and a nonce of 7 bytes.
+    /// AES-CCM with a 256-bit key, a 64-bit tag and a 7-byte nonce.
     AES_CCM_64_64_256 = 13,
-    /// AES-CBC-MAC with a key of 128 bits and a tag of 64.
+    /// AES-CBC-MAC with a 128-bit key and a 64-bit tag.
     AES_MAC_128_64 = 14,
-    /// AES-CBC-MAC with a key of 256 bits and a tag of 64.
+    /// AES-CBC-MAC with a 256-bit key and a 64-bit tag.
     AES_MAC_256_64 = 15,
-    /// ChaCha20 and Poly1305 with a key of 256 bits and a tag of 128.
+    /// ChaCha20 and Poly1305 with a 256-bit key and a 128-bit tag.
     ChaCha20Poly1305 = 24,
-    /// AES-CBC-MAC with a key of 128 bits and a tag of 128.
+    /// AES-CBC-MAC with a 128-bit key and a 128-bit tag.
     AES_MAC_128_128 = 25,
-    /// AES-CBC-MAC with a key of 256 bits and a tag of 128.
+    /// AES-CBC-MAC with a 256-bit key and a 128-bit tag.
     AES_MAC_256_128 = 26,
-    /// AES-CCM with a key of 128 bits, a tag of 128 and a nonce of 13 bytes.
+    /// AES-CCM with a 128-bit key, a 128-bit tag and a 13-byte nonce.
     AES_CCM_16_128_128 = 30,
-    /// AES-CCM with a key of 256 bits, a tag of 128 and a nonce of 13 bytes.
+    /// AES-CCM with a 256-bit key, a 128-bit tag and a 13-byte nonce.
     AES_CCM_16_128_256 = 31,
-    /// AES-CCM with a key of 128 bits, a tag of 128 and a nonce of 7 bytes.
+    /// AES-CCM with a 128-bit key, a 128-bit tag and a 7-byte nonce.
     AES_CCM_64_128_128 = 32,
-    /// AES-CCM with a key of 256 bits, a tag of 128 and a nonce of 7 bytes.
+    /// AES-CCM with a 256-bit key, a 128-bit tag and a 7-byte nonce.
     AES_CCM_64_128_256 = 33,
-    /// Makes initialization vectors for symmetric algorithms (RFC 9459).
+    /// Generates initialization vectors for symmetric algorithms (RFC 9053, section 10.2).
     IV_GENERATION = 34,
 }
 

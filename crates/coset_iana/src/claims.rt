@@ -1,4 +1,4 @@
-//! Names of claims.
+//! Claim names.
 
 ghost use Rattle.std.specs.Prelude.{Some, refl};
 ghost use Rattle.coset_iana.specs.WithPrivateRange.{is_private_use};
@@ -7,12 +7,12 @@ use crate::registry::Registry;
 use crate::{Named, WithPrivateRange};
 use std::fmt;
 
-/// Names of claims below this number are for private use (RFC 8392, section 9.1).
+/// Claim names below this number are for private use (RFC 8392, section 9.1).
 pub const CWT_CLAIM_PRIVATE_USE_MAX: i64 = -65536;
 
 /// The name of a claim, as IANA's registry "CBOR Web Token (CWT) Claims" assigns it (RFC 8392,
-/// sections 3.1 and 9.1). Sections without an RFC are of RFC 8392; device, boot, hardware and
-/// software claims are those of attestation tokens (RFC 9711).
+/// sections 3.1 and 9.1). Sections without an RFC are of RFC 8392. Claims about the device, its
+/// boot, hardware and software are those of attestation tokens (RFC 9711).
 #[derive(Clone, Copy, Debug, Eq, Ord, PartialEq, PartialOrd)]
 pub enum CwtClaimName {
     /// The components that a GlobalPlatform token attests.
@@ -28,58 +28,57 @@ pub enum CwtClaimName {
     EatFido = -257,
     /// Never a claim; reserved.
     Reserved = 0,
-    /// Who issued the token (section 3.1.1).
+    /// The issuer of the token (section 3.1.1).
     Iss = 1,
-    /// Whom the claims are about (section 3.1.2).
+    /// The subject of the claims (section 3.1.2).
     Sub = 2,
-    /// Whom the token is meant for (section 3.1.3).
+    /// The audience that the token is meant for (section 3.1.3).
     Aud = 3,
-    /// When the token ends to be valid (section 3.1.4).
+    /// The time at which the token stops being valid (section 3.1.4).
     Exp = 4,
-    /// When the token begins to be valid (section 3.1.5).
+    /// The time at which the token starts being valid (section 3.1.5).
     Nbf = 5,
-    /// When the token was issued (section 3.1.6).
+    /// The time at which the token was issued (section 3.1.6).
     Iat = 6,
     /// The identifier of the token (section 3.1.7).
     Cti = 7,
-    /// The key whose possession the presenter proves (RFC 8747, section 3.1).
+    /// The key that the presenter must prove to possess (RFC 8747, section 3.1).
     Cnf = 8,
-    /// What the token grants (RFC 8693, section 4.2).
+    /// The scope that the token grants (RFC 8693, section 4.2).
     Scope = 9,
-    /// Shows that an attestation is fresh (RFC 9711).
+    /// A nonce, which shows that an attestation is fresh (RFC 9711).
     Nonce = 10,
-    /// The profile of ACE in which the token is used (RFC 9200, section 5.10).
+    /// The ACE profile to use with the token (RFC 9200, section 5.10).
     AceProfile = 38,
-    /// A nonce by which a server knows that the token is fresh (RFC 9200, section 5.10).
+    /// A nonce by which a server recognizes a fresh token (RFC 9200, section 5.10).
     CNonce = 39,
-    /// For how many seconds the token is valid from when it is first seen (RFC 9200, section
-    /// 5.10.3).
+    /// The token's lifetime in seconds, counted from its first receipt (RFC 9200, section 5.10.3).
     Exi = 40,
     /// The identifier of the device, for its whole life.
     UEID = 256,
     /// Identifiers of the device that last for a part of its life.
     SUEIDs = 257,
-    /// Who made the hardware.
+    /// The maker of the hardware.
     HardwareOemid = 258,
     /// The model of the hardware.
     HardwareModel = 259,
     /// The version of the hardware.
     HardwareVersion = 260,
-    /// Seconds since the device was started.
+    /// Seconds since the device was booted.
     Uptime = 261,
-    /// Whether only software that the maker authorized was started.
+    /// Whether the device booted only software that its maker authorized.
     OemAuthorizedBoot = 262,
     /// Whether debugging is possible.
     DebugStatus = 263,
-    /// Where the device is.
+    /// The location of the device.
     Location = 264,
     /// The profile that the attestation token follows.
     EatProfile = 265,
     /// The claims of the device's parts.
     SubmodulesSection = 266,
-    /// How often the device was started.
+    /// The number of times that the device has booted.
     BootCount = 267,
-    /// A number that each start of the device picks anew.
+    /// A number that is new at each boot of the device.
     BootSeed = 268,
     /// Digital letters of approval.
     DLoAs = 269,
@@ -87,79 +86,79 @@ pub enum CwtClaimName {
     SoftwareName = 270,
     /// The version of the software.
     SoftwareVersion = 271,
-    /// What the software's makers say is on the device.
+    /// Descriptions of the software on the device, by the makers of the software.
     SoftwareManifests = 272,
-    /// What was measured of the software on the device.
+    /// Measurements of the software on the device.
     Measurements = 273,
-    /// How the measurements compare with what was expected.
+    /// The results of comparing the measurements with expected ones.
     SoftwareMeasurementResults = 274,
-    /// What the attestation token is to be used for.
+    /// The intended use of the attestation token.
     IntendedUse = 275,
     /// A place, as a geohash.
     Geohash = 282,
-    /// Of a watermark token, the version.
+    /// The version of a watermark token.
     WmVersion = 300,
-    /// Of a watermark token, the vendor.
+    /// The vendor of a watermark token.
     WmVendor = 301,
-    /// Of a watermark token, the length of the pattern.
+    /// The length of the pattern of a watermark token.
     WmPatternLen = 302,
-    /// Of a watermark token, the length of a segment in time.
+    /// The duration of a segment of a watermark token.
     WmSegmentDuration = 303,
-    /// Of a watermark token, the pattern.
+    /// The pattern of a watermark token.
     WmPattern = 304,
-    /// Of a watermark token, the identifier.
+    /// The identifier of a watermark token.
     WmId = 305,
-    /// Of a watermark token, the identifier of the operator.
+    /// The identifier of the operator of a watermark token.
     WmOpId = 306,
-    /// Of a watermark token, the version of the key.
+    /// The version of the key of a watermark token.
     WmKeyVer = 307,
-    /// Of a common access token, whether it may be used again.
+    /// Whether a common access token may be used again.
     CatReplay = 308,
-    /// Of a common access token, its probability of rejection.
+    /// The probability that a common access token is rejected.
     CatPor = 309,
-    /// Of a common access token, its version.
+    /// The version of a common access token.
     CatVersion = 310,
-    /// Of a common access token, the networks that may use it.
+    /// The networks that may use a common access token.
     CatNetworkIp = 311,
-    /// Of a common access token, the URIs that it opens.
+    /// The URIs that a common access token gives access to.
     CatUri = 312,
-    /// Of a common access token, the HTTP methods that it allows.
+    /// The HTTP methods that a common access token allows.
     CatMethod = 313,
-    /// Of a common access token, the protocols of ALPN that it allows.
+    /// The ALPN protocols that a common access token allows.
     CatAlpn = 314,
-    /// Of a common access token, the HTTP headers that it asks for.
+    /// The HTTP headers that a common access token requires.
     CatHeader = 315,
-    /// Of a common access token, the countries that it holds in.
+    /// The countries in which a common access token is valid.
     CatGeoIso3166 = 316,
-    /// Of a common access token, the places that it holds in.
+    /// The places in which a common access token is valid.
     CatGeoCoord = 317,
-    /// Of a common access token, the altitudes that it holds in.
+    /// The altitudes at which a common access token is valid.
     CatGeoAlt = 318,
-    /// Of a common access token, the public key of the TLS client.
+    /// The public key of the TLS client of a common access token.
     CatTlsPublicKey = 319,
-    /// Of a common access token, what the conditions are tested on.
+    /// The data on which the conditions of a common access token are tested.
     CatIfData = 320,
-    /// Of a common access token, how possession is proved by DPoP.
+    /// The way in which DPoP proves possession for a common access token.
     CatDPoP = 321,
-    /// Of a common access token, what is done under which condition.
+    /// The conditions of a common access token, each with its consequence.
     CatIf = 322,
-    /// Of a common access token, how it is renewed.
+    /// The way in which a common access token is renewed.
     CatRenewal = 323,
-    /// Of a PSA token, who asked for the token (RFC 9783).
+    /// The requester of a PSA token (RFC 9783).
     PsaClientId = 2394,
-    /// Of a PSA token, the state of the device's life (RFC 9783).
+    /// The state of the device's life, in a PSA token (RFC 9783).
     PsaSecurityLifecycle = 2395,
-    /// Of a PSA token, the identifier of the root of trust (RFC 9783).
+    /// The identifier of the root of trust, in a PSA token (RFC 9783).
     PsaImplementationId = 2396,
-    /// Of a PSA token, the certificate of the device (RFC 9783).
+    /// The certificate of the device, in a PSA token (RFC 9783).
     PsaCertificationReference = 2398,
-    /// Of a PSA token, the software that was started (RFC 9783).
+    /// The software that was booted, in a PSA token (RFC 9783).
     PsaSoftwareComponents = 2399,
-    /// Of a PSA token, where the token can be verified (RFC 9783).
+    /// The service that verifies a PSA token (RFC 9783).
     PsaVerificationServiceIndicator = 2400,
 }
 
-/// The names of claims, in ascending order of their numbers.
+/// The claim names, in ascending order of their numbers.
 pub const CWT_CLAIM_NAMES: [CwtClaimName; 70] = [
     CwtClaimName::GlobalPlatformComponents,
     CwtClaimName::Hcert,

@@ -1,4 +1,4 @@
-//! Formats of content.
+//! CoAP content formats.
 
 ghost use Rattle.std.specs.Prelude.{Some, refl};
 
@@ -6,8 +6,8 @@ use crate::Named;
 use crate::registry::Registry;
 use std::fmt;
 
-/// What content holds, as IANA's registry "CoAP Content-Formats" assigns it (RFC 7252, section
-/// 12.3): a media type, with its coding where it has one.
+/// A content format, as IANA's registry "CoAP Content-Formats" assigns it (RFC 7252, section 12.3):
+/// a media type, and a content coding if there is one.
 #[derive(Clone, Copy, Debug, Eq, Ord, PartialEq, PartialOrd)]
 pub enum CoapContentFormat {
     /// `text/plain; charset=utf-8`
@@ -170,7 +170,7 @@ pub enum CoapContentFormat {
     ImageSvgXml = 30000,
 }
 
-/// The formats of content, in ascending order of their numbers.
+/// The content formats, in ascending order of their numbers.
 pub const COAP_CONTENT_FORMATS: [CoapContentFormat; 79] = [
     CoapContentFormat::TextPlainUtf8,
     CoapContentFormat::CoseEncrypt0,

@@ -1,4 +1,4 @@
-//! Labels of headers and of what recipients add to them.
+//! Labels of header parameters, and of those that belong to a recipient's algorithm.
 
 ghost use Rattle.std.specs.Prelude.{Some, refl};
 ghost use Rattle.coset_iana.specs.WithPrivateRange.{is_private_use};
@@ -7,40 +7,40 @@ use crate::registry::Registry;
 use crate::{Named, WithPrivateRange};
 use std::fmt;
 
-/// Labels of headers below this number are for private use (RFC 8152, section 16.2).
+/// Header labels below this number are for private use (RFC 8152, section 16.2).
 pub const HEADER_PARAMETER_PRIVATE_USE_MAX: i64 = -65536;
 
-/// A label of a header, as IANA's registry "COSE Header Parameters" assigns it (RFC 8152, sections
-/// 3.1 and 16.2).
+/// The label of a header parameter, as IANA's registry "COSE Header Parameters" assigns it (RFC
+/// 8152, sections 3.1 and 16.2).
 #[derive(Clone, Copy, Debug, Eq, Ord, PartialEq, PartialOrd)]
 pub enum HeaderParameter {
-    /// Never a label of a header; reserved.
+    /// Never a header label; reserved.
     Reserved = 0,
     /// The algorithm: int or tstr.
     Alg = 1,
     /// The labels that a recipient must understand: an array of labels.
     Crit = 2,
-    /// What the payload holds: a CoAP content format or a media type.
+    /// The type of the payload: a CoAP content format or a media type.
     ContentType = 3,
-    /// A hint at the key: bstr.
+    /// The key identifier, a hint at the key: bstr.
     Kid = 4,
-    /// The whole initialization vector: bstr.
+    /// The full initialization vector: bstr.
     Iv = 5,
     /// The part of the initialization vector that changes with each message: bstr.
     PartialIv = 6,
     /// One countersignature or several.
     CounterSignature = 7,
-    /// A countersignature bare of headers: bstr.
+    /// A countersignature without headers: bstr.
     CounterSignature0 = 9,
     /// Distinguishes equal key identifiers of different senders: bstr (RFC 8613, section 5.1).
     KidContext = 10,
     /// One countersignature or several, version 2 (RFC 9338, section 3.1).
     CounterSignatureV2 = 11,
-    /// A countersignature bare of headers, version 2 (RFC 9338, section 3.2).
+    /// A countersignature without headers, version 2 (RFC 9338, section 3.2).
     CounterSignature0V2 = 12,
-    /// A CWT whose `cnf` claim holds the key (RFC 9528).
+    /// A CWT whose `cnf` claim contains the key (RFC 9528).
     KeyCwt = 13,
-    /// An unsigned claims set whose `cnf` claim holds the key (RFC 9528).
+    /// An unsigned claims set whose `cnf` claim contains the key (RFC 9528).
     KeyCwtClaimsSet = 14,
     /// Claims about the message, outside of its payload: map (RFC 9597).
     CwtClaims = 15,
@@ -52,7 +52,7 @@ pub enum HeaderParameter {
     X5Chain = 33,
     /// The hash of the end entity's X.509 certificate (RFC 9360, section 2).
     X5T = 34,
-    /// Where an X.509 certificate or chain can be had: a URI (RFC 9360, section 2).
+    /// The URI of an X.509 certificate or chain (RFC 9360, section 2).
     X5U = 35,
     /// A nonce of FIDO Device Onboard: bstr.
     CuphNonce = 256,
@@ -60,7 +60,7 @@ pub enum HeaderParameter {
     CuphOwnerPubKey = 257,
 }
 
-/// The labels of headers, in ascending order of their numbers.
+/// The header labels, in ascending order of their numbers.
 pub const HEADER_PARAMETERS: [HeaderParameter; 22] = [
     HeaderParameter::Reserved,
     HeaderParameter::Alg,
@@ -159,40 +159,39 @@ impl WithPrivateRange for HeaderParameter {
     }
 }
 
-/// A label of a header whose meaning goes with the algorithm of a recipient, as IANA's registry
+/// The label of a header parameter that belongs to a recipient's algorithm, as IANA's registry
 /// "COSE Header Algorithm Parameters" assigns it (RFC 8152, sections 11 to 12 and 16.3).
 #[derive(Clone, Copy, Debug, Eq, Ord, PartialEq, PartialOrd)]
 pub enum HeaderAlgorithmParameter {
     /// The certificate chain of the sender's static key (RFC 9360, section 3).
     X5ChainSender = -29,
-    /// Where the certificate chain of the sender's static key can be had: a URI (RFC 9360, section
-    /// 3).
+    /// The URI of the certificate chain of the sender's static key (RFC 9360, section 3).
     X5USender = -28,
     /// The hash of the certificate of the sender's static key (RFC 9360, section 3).
     X5TSender = -27,
-    /// More about party V: bstr.
+    /// Other information about party V: bstr.
     PartyVOther = -26,
-    /// A nonce that party V gives: bstr or int.
+    /// A nonce from party V: bstr or int.
     PartyVNonce = -25,
-    /// Who party V is: bstr.
+    /// The identity of party V: bstr.
     PartyVIdentity = -24,
-    /// More about party U: bstr.
+    /// Other information about party U: bstr.
     PartyUOther = -23,
-    /// A nonce that party U gives: bstr or int.
+    /// A nonce from party U: bstr or int.
     PartyUNonce = -22,
-    /// Who party U is: bstr.
+    /// The identity of party U: bstr.
     PartyUIdentity = -21,
-    /// A random salt of HKDF: bstr.
+    /// A random salt for HKDF: bstr.
     Salt = -20,
     /// The identifier of the sender's static key: bstr.
     StaticKeyId = -3,
     /// The sender's static public key: COSE_Key.
     StaticKey = -2,
-    /// The sender's public key for this message alone: COSE_Key.
+    /// The sender's ephemeral public key, for this message only: COSE_Key.
     EphemeralKey = -1,
 }
 
-/// The labels of headers that go with an algorithm, in ascending order of their numbers.
+/// The header labels of recipients' algorithms, in ascending order of their numbers.
 pub const HEADER_ALGORITHM_PARAMETERS: [HeaderAlgorithmParameter; 13] = [
     HeaderAlgorithmParameter::X5ChainSender,
     HeaderAlgorithmParameter::X5USender,

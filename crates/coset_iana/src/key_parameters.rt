@@ -1,4 +1,5 @@
-//! Labels of keys that go with the kind of key. The numbers of one kind mean other things in another.
+//! Labels of keys that depend on the key type. One number means different things for different key
+//! types.
 
 ghost use Rattle.std.specs.Prelude.{Some, refl};
 
@@ -71,7 +72,7 @@ impl fmt::Display for OkpKeyParameter {
     }
 }
 
-/// A label of a key on an elliptic curve with two coordinates, as IANA's registry "COSE Key Type
+/// A label of an elliptic curve key with two coordinates, as IANA's registry "COSE Key Type
 /// Parameters" assigns it to key type 2 (RFC 8152, sections 13.1.1 and 16.6).
 #[derive(Clone, Copy, Debug, Eq, Ord, PartialEq, PartialOrd)]
 pub enum Ec2KeyParameter {
@@ -79,7 +80,7 @@ pub enum Ec2KeyParameter {
     Crv = -1,
     /// The x coordinate: bstr.
     X = -2,
-    /// The y coordinate: bstr, or bool for its sign alone.
+    /// The y coordinate: bstr, or only its sign: bool.
     Y = -3,
     /// The private key: bstr.
     D = -4,
@@ -160,13 +161,13 @@ pub enum RsaKeyParameter {
     DQ = -7,
     /// The inverse of q modulo p.
     QInv = -8,
-    /// What is known of further prime factors: an array of maps.
+    /// The further prime factors: an array of maps.
     Other = -9,
-    /// In such a map, the prime factor.
+    /// A further prime factor, in such a map.
     RI = -10,
-    /// In such a map, d modulo the prime factor less 1.
+    /// d modulo (that prime factor minus 1), in such a map.
     DI = -11,
-    /// In such a map, the inverse of the product of all factors before it.
+    /// The inverse of the product of all earlier prime factors, in such a map.
     TI = -12,
 }
 
@@ -296,15 +297,15 @@ impl fmt::Display for SymmetricKeyParameter {
     }
 }
 
-/// A label of a key of HSS/LMS, as IANA's registry "COSE Key Type Parameters" assigns it to key
-/// type 5 (RFC 8778).
+/// A label of an HSS/LMS key, as IANA's registry "COSE Key Type Parameters" assigns it to key type
+/// 5 (RFC 8778).
 #[derive(Clone, Copy, Debug, Eq, Ord, PartialEq, PartialOrd)]
 pub enum HssLmsKeyParameter {
     /// The public key: bstr.
     Pub = -1,
 }
 
-/// The label of keys of HSS/LMS.
+/// The label of HSS/LMS keys.
 pub const HSS_LMS_KEY_PARAMETERS: [HssLmsKeyParameter; 1] = [HssLmsKeyParameter::Pub];
 
 impl Registry for HssLmsKeyParameter {
@@ -351,8 +352,8 @@ impl fmt::Display for HssLmsKeyParameter {
     }
 }
 
-/// A label of a key of WalnutDSA, as IANA's registry "COSE Key Type Parameters" assigns it to key
-/// type 6 (RFC 9021).
+/// A label of a WalnutDSA key, as IANA's registry "COSE Key Type Parameters" assigns it to key type
+/// 6 (RFC 9021).
 #[derive(Clone, Copy, Debug, Eq, Ord, PartialEq, PartialOrd)]
 pub enum WalnutDsaKeyParameter {
     /// The size of the braid group.
@@ -369,7 +370,7 @@ pub enum WalnutDsaKeyParameter {
     Matrix2 = -6,
 }
 
-/// The labels of keys of WalnutDSA, in ascending order of their numbers.
+/// The labels of WalnutDSA keys, in ascending order of their numbers.
 pub const WALNUT_DSA_KEY_PARAMETERS: [WalnutDsaKeyParameter; 6] = [
     WalnutDsaKeyParameter::Matrix2,
     WalnutDsaKeyParameter::Permutation1,

@@ -1,4 +1,4 @@
-//! What a key says of itself, whatever its kind.
+//! Labels of every key, key types, elliptic curves, and key operations.
 
 ghost use Rattle.std.specs.Prelude.{Some, refl};
 ghost use Rattle.coset_iana.specs.WithPrivateRange.{is_private_use};
@@ -10,21 +10,21 @@ use std::fmt;
 /// Elliptic curves below this number are for private use (RFC 8152, section 16.8).
 pub const ELLIPTIC_CURVE_PRIVATE_USE_MAX: i64 = -65536;
 
-/// A label of a key of any kind, as IANA's registry "COSE Key Common Parameters" assigns it (RFC
-/// 8152, sections 7.1 and 16.5).
+/// A label that keys of every type may have, as IANA's registry "COSE Key Common Parameters"
+/// assigns it (RFC 8152, sections 7.1 and 16.5).
 #[derive(Clone, Copy, Debug, Eq, Ord, PartialEq, PartialOrd)]
 pub enum KeyParameter {
     /// Never a label of a key; reserved.
     Reserved = 0,
-    /// The kind of key, which decides the other parameters: int or tstr.
+    /// The key type, which decides the other parameters: int or tstr.
     Kty = 1,
-    /// The identifier of the key: bstr.
+    /// The key identifier: bstr.
     Kid = 2,
-    /// The only algorithm that the key may serve: int or tstr.
+    /// The only algorithm that the key may be used with: int or tstr.
     Alg = 3,
-    /// What the key may be used for: an array of key operations.
+    /// The permitted uses of the key: an array of key operations.
     KeyOps = 4,
-    /// The bytes that a partial initialization vector is added to: bstr.
+    /// The base IV, which is combined with a message's Partial IV: bstr.
     BaseIv = 5,
 }
 
@@ -87,29 +87,29 @@ impl fmt::Display for KeyParameter {
     }
 }
 
-/// A kind of key, as IANA's registry "COSE Key Types" assigns it (RFC 8152, sections 13 and 16.7).
+/// A key type, as IANA's registry "COSE Key Types" assigns it (RFC 8152, sections 13 and 16.7).
 #[derive(Clone, Copy, Debug, Eq, Ord, PartialEq, PartialOrd)]
 #[allow(non_camel_case_types)]
 pub enum KeyType {
     /// Never a key type; reserved.
     Reserved = 0,
-    /// Octet key pair: a key of which one coordinate is given, as of X25519 or Ed25519.
+    /// Octet key pair: a key given by one coordinate, as for X25519 or Ed25519.
     OKP = 1,
     /// A key on an elliptic curve, given by two coordinates.
     EC2 = 2,
     /// RSA (RFC 8230, section 4).
     RSA = 3,
-    /// A secret shared by both sides.
+    /// A symmetric key, a secret that both sides share.
     Symmetric = 4,
-    /// A public key of HSS/LMS (RFC 8778).
+    /// A public key for HSS/LMS (RFC 8778).
     HSS_LMS = 5,
-    /// A public key of WalnutDSA (RFC 9021).
+    /// A public key for WalnutDSA (RFC 9021).
     WalnutDSA = 6,
-    /// Algorithm key pair: a key that serves only the algorithm it names, as ML-DSA.
+    /// Algorithm key pair: a key for the one algorithm that it names, such as ML-DSA.
     AKP = 7,
 }
 
-/// The kinds of keys, in ascending order of their numbers.
+/// The key types, in ascending order of their numbers.
 pub const KEY_TYPES: [KeyType; 8] = [
     KeyType::Reserved,
     KeyType::OKP,
@@ -286,25 +286,25 @@ impl WithPrivateRange for EllipticCurve {
     }
 }
 
-/// What a key may be used for, as the label `key_ops` lists it. IANA keeps no registry of these:
-/// the numbers are those of RFC 8152, section 7.1, table 4.
+/// A permitted use of a key, as an entry of `key_ops`. IANA keeps no registry of these. The numbers
+/// are those of RFC 8152, section 7.1, table 4.
 #[derive(Clone, Copy, Debug, Eq, Ord, PartialEq, PartialOrd)]
 pub enum KeyOperation {
-    /// To make signatures, with a private key.
+    /// To make signatures; requires a private key.
     Sign = 1,
     /// To verify signatures.
     Verify = 2,
-    /// To encrypt content or, of a recipient, keys.
+    /// To encrypt content, or a key in a recipient.
     Encrypt = 3,
-    /// To decrypt content or, of a recipient, keys; with a private key.
+    /// To decrypt content, or a key in a recipient; requires a private key.
     Decrypt = 4,
     /// To wrap keys.
     WrapKey = 5,
-    /// To unwrap keys; with a private key.
+    /// To unwrap keys; requires a private key.
     UnwrapKey = 6,
-    /// To derive keys; with a private key.
+    /// To derive keys; requires a private key.
     DeriveKey = 7,
-    /// To derive bits that are no key; with a private key.
+    /// To derive bits that aren't used as a key; requires a private key.
     DeriveBits = 8,
     /// To make MAC tags.
     MacCreate = 9,
@@ -312,7 +312,7 @@ pub enum KeyOperation {
     MacVerify = 10,
 }
 
-/// The uses of keys, in ascending order of their numbers.
+/// The key operations, in ascending order of their numbers.
 pub const KEY_OPERATIONS: [KeyOperation; 10] = [
     KeyOperation::Sign,
     KeyOperation::Verify,

@@ -1,4 +1,4 @@
-//! What holds of the registries as such. Each law is the contract of a function that does nothing.
+//! Laws of the registries. Each law is the contract of an empty function.
 
 ghost use Rattle.coset_iana.specs.EnumI64.{IsInverse};
 ghost use Rattle.coset_iana.specs.Registry.{IsOrderOf};
@@ -10,7 +10,7 @@ use crate::{
     WalnutDsaKeyParameter,
 };
 
-/// Of every enum with numbers, a caller's own too, `from_i64(i)` is `Some(e)` exactly when
+/// For every enum with numbers, including a caller's own, `from_i64(i)` is `Some(e)` exactly if
 /// `e.to_i64()` is `i`.
 pub fn numbers_are_inverse<T: EnumI64>()
     ensures { IsInverse T.number T.value_of }

@@ -1,10 +1,11 @@
-//! The registries that COSE and CBOR web tokens are built on: enums whose values are the numbers that IANA assigns.
+//! IANA's registries for COSE and CBOR web tokens, as enums.
 //!
-//! Each enum's variants carry the registry's numbers, `to_i64` gives a value's number, and `from_i64`
-//! the value of a number, if it has one. The two are inverse to each other, which [`EnumI64`] has as a
-//! law, so that generic code holds for these seventeen registries and for a caller's own. Values are
-//! ordered by their numbers. `name` gives the registry's own name of a value ([`Named`]), which
-//! `Display` writes.
+//! The variants of each enum have the numbers that IANA assigns; those of [`KeyOperation`] are of
+//! RFC 8152. `to_i64` returns a value's number, and `from_i64` returns the value of a number, if
+//! there is one. The two functions are inverse to each other. [`EnumI64`] states this as a law, so
+//! generic code can rely on it for these seventeen registries and for a caller's own. Values are
+//! ordered by their numbers. `name` returns a value's name in its registry ([`Named`]), and
+//! `Display` writes it.
 #![tactic(auto)]
 
 ghost use Rattle.std.specs.Prelude.{◌≡◌, ℕ, ℤ, Bool, List, Option, Some};
@@ -32,21 +33,21 @@ pub use keys::{
 };
 pub use tags::CborTag;
 
-/// An enum each of whose values has a number of `i64` of its own.
+/// An enum that gives each of its values an `i64` number of its own.
 ///
-/// Contracts see `number`, the number of a value, and `value_of`, the value of a number, if it has
-/// one. An implementer gives both and proves the two laws, which make them inverse: `from_i64(i)` is
-/// `Some(e)` exactly when `e.to_i64()` is `i`.
+/// Contracts see `number`, the number of a value, and `value_of`, the value of a number, if there
+/// is one. An implementer defines both and proves two laws. Together the laws say that
+/// `from_i64(i)` is `Some(e)` exactly if `e.to_i64()` is `i`.
 pub trait EnumI64: Sized + Eq {
     ghost number: { Self → ℤ };
 
     ghost value_of: { ℤ → Option Self };
 
-    /// The value whose number is `i`, or `None` where no value has it.
+    /// Returns the value whose number is `i`, or `None` if there is none.
     fn from_i64(i: i64) -> Option<Self>
         ensures { result ≡ value_of i };
 
-    /// The number of this value.
+    /// Returns the number of this value.
     fn to_i64(&self) -> i64
         ensures { result ≡ number self.now };
 
@@ -57,22 +58,22 @@ pub trait EnumI64: Sized + Eq {
 
 /// An enum whose values have names in a registry.
 ///
-/// Contracts see `name`, the bytes of a value's name.
+/// Contracts see the bytes of a value's name as `name`.
 pub trait Named {
     ghost name: { Self → List ℕ };
 
-    /// The name of this value, as its registry spells it.
+    /// Returns the name of this value, as its registry spells it.
     fn name(&self) -> &'static str
         ensures { result.now ≡ name self.now };
 }
 
-/// An enum beside whose numbers there is a range that is left to private use.
+/// An enum whose registry leaves a range of numbers to private use.
 ///
 /// Contracts see the range as the test `is_private`.
 pub trait WithPrivateRange {
     ghost is_private: { ℤ → Bool };
 
-    /// Whether the number `i` is left to private use.
+    /// Returns true if the number `i` is left to private use.
     fn is_private(i: i64) -> bool
         ensures { result ≡ is_private i };
 }

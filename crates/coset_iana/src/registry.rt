@@ -1,11 +1,11 @@
-//! What all registries share: the look-up of a number.
+//! The look-up of a number, which all registries share.
 
 ghost use Rattle.std.specs.Prelude.{◌≡◌, ℤ, List, Some, IsTrue};
 ghost use Rattle.coset_iana.specs.Registry.{first_numbered, is_ascending, number-first_numbered};
 
 use crate::EnumI64;
 
-/// A registry: an enum each of whose values has a number of `i64`.
+/// A registry: an enum that lists its values and gives each an `i64` number.
 pub(crate) trait Registry: Copy + Eq + 'static {
     ghost number: { Self → ℤ };
 
@@ -15,11 +15,11 @@ pub(crate) trait Registry: Copy + Eq + 'static {
 
     ghost has_each: { (x : Self) → first_numbered number values (number x) ≡ Some x };
 
-    /// Its values, in ascending order of their numbers.
+    /// Returns all values, in ascending order of their numbers.
     fn values() -> &'static [Self]
         ensures { result.now ≡ values };
 
-    /// The number of this value.
+    /// Returns the number of this value.
     fn number(self) -> i64
         ensures { result ≡ number self };
 }

@@ -1,4 +1,4 @@
-//! Tags of CBOR.
+//! CBOR tags.
 
 ghost use Rattle.std.specs.Prelude.{Some, refl};
 
@@ -6,8 +6,8 @@ use crate::Named;
 use crate::registry::Registry;
 use std::fmt;
 
-/// A tag that names a kind of COSE message or a token, as IANA's registry "CBOR Tags" assigns it
-/// (RFC 8949, section 9.2; RFC 8152, section 2).
+/// The tag of a kind of COSE message or of a token, as IANA's registry "CBOR Tags" assigns it (RFC
+/// 8949, section 9.2; RFC 8152, section 2).
 #[derive(Clone, Copy, Debug, Eq, Ord, PartialEq, PartialOrd)]
 pub enum CborTag {
     /// A message encrypted for one recipient, whose key is known.
@@ -16,7 +16,7 @@ pub enum CborTag {
     CoseMac0 = 17,
     /// A message with one signature.
     CoseSign1 = 18,
-    /// A countersignature that is by itself (RFC 9338).
+    /// A standalone countersignature (RFC 9338).
     CoseCountersignature = 19,
     /// A CBOR web token (RFC 8392, section 6).
     Cwt = 61,

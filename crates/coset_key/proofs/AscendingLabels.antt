@@ -1,4 +1,4 @@
--- The labels of a key whose params are in order ascend, but for label 0.
+-- The labels of a key whose params are in order ascend, except for label 0.
 use Rattle.std.proofs.Common.{◌≡◌, ◌≤◌, ◌<◌, ℕ, zero, suc, List, [], ◌∷◌, ◌++◌, Option, Some, None, Bool, true, false, option_map, Contains, refl, sym, ◌∙◌, ap}
 use Rattle.std.proofs.Common.{subst, inl, inr, arith, true≢false, Ordering, Less, nat_cmp}
 use Rattle.std.specs.Prelude.{◌≢◌, pos, negsuc}
@@ -41,7 +41,7 @@ both-parts f (Some a) (Some b) c h = (a, b, refl, refl, some-one refl h)
 both-parts f (Some a) None c h = absurd (cc)
 both-parts f None q c h = absurd (cc)
 
--- the pairs that are written have the labels that they are written of
+-- The pairs of an image have the labels from which they were written.
 none_written : (es : List (Name × Item)) → Named label.describes no_pairs es → es ≡ []
 none_written [] n = refl
 none_written (e ∷ es) n = absurd n
@@ -72,7 +72,7 @@ image_parts true rest (Some cs) ps h = (cs, refl, go (named_image label.image (c
 image_parts true rest None ps h = absurd (cc)
 image_parts false rest m ps h = absurd (cc)
 
--- the fields that are written of a key, and then its params
+-- The pairs of an image are the fields of the key, followed by its params.
 pub fields_and_params : (x : KeyView) (ps : Pairs) (es : List (Name × Item)) → key.image x ≡ Some (dict ps) → Named label.describes ps es
     → (cs : List (Name × Item)) × (fields.image (parts_of x).0 ≡ Some cs) × (es ≡ cs ++ x.params)
 unfolding key
@@ -100,7 +100,7 @@ then-less n p h q = grind arith
 then-not-less : (n : ℕ) (p : Ordering) → 1 ≤ n → is_lt p ≡ false → is_lt (ordering_then (nat_cmp n 1) p) ≡ false
 then-not-less n p h q = grind arith
 
--- a number of one byte that is less in one order is less in the other, since no encoding is shorter
+-- If a one-byte number is less in one order, it is less in the other, because no encoding is shorter than one byte.
 less-by : (o : CborOrdering) (c : ℕ) (b : Name) → c < 24 → name_cmp (number (pos c)) b ≡ Less → name_cmp_by o (number (pos c)) b ≡ Less
 less-by Lexicographic c b k h = h
 less-by LengthFirstLexicographic c b k h =
@@ -108,11 +108,11 @@ less-by LengthFirstLexicographic c b k h =
     (λ i. ordering_then (nat_cmp (e i) (encoded_length b)) (name_cmp (number (pos c)) b))
     ∙ then-less (encoded_length b) (name_cmp (number (pos c)) b) (filled b) h
 
--- the fields' labels ascend
+-- The labels of the fields ascend.
 ascends : (o : CborOrdering) (m n : ℕ) → m < n → n ≤ 5 → name_cmp_by o (number (pos m)) (number (pos n)) ≡ Less
 ascends o m n h k = less-by o m (number (pos n)) (omega arith) (rw (less m n h) refl)
 
--- a label that is neither a field's nor 0
+-- A label that is neither a field's nor 0.
 abbrev IsOther : Name → Type 0
 IsOther l = (is_field l ≡ false) × (l ≢ number (pos 0))
 
@@ -134,7 +134,7 @@ is_field-number (suc (suc (suc (suc zero)))) h k = refl
 is_field-number (suc (suc (suc (suc (suc zero))))) h k = refl
 is_field-number (suc (suc (suc (suc (suc (suc n)))))) h k = absurd (omega (arith, k))
 
--- and are all less than others
+-- The labels 0 to 5 are less than all such labels.
 above-fields : (o : CborOrdering) (c : ℕ) (b : Name) → c ≤ 5 → IsOther b → name_cmp_by o (number (pos c)) b ≡ Less
 above-fields o c b k h = less-by o c b (omega arith) (by b h)
   where
@@ -143,7 +143,7 @@ above-fields o c b k h = less-by o c b (omega arith) (by b h)
     by (number (negsuc n)) h = refl
     by (text_label s) h = refl
 
--- none is less than 0
+-- No label is less than 0.
 zero_least : (o : CborOrdering) (b : Name) → is_lt (name_cmp_by o b (number (pos 0))) ≡ false
 zero_least o b = by o
   where
@@ -181,14 +181,14 @@ all-both P (x ∷ xs) ys h k = (h.0, all-both P xs ys h.1 k)
 all-moved : {X : Type 0} (P : X → Type 0) (xs ys : List X) → IsPermutation xs ys → AllByRecursion P xs → AllByRecursion P ys
 all-moved P xs ys m h = recursion_from_All P ys (All-permutation P xs ys m (All-from_recursion P xs h))
 
--- the label is a number from c to 5
+-- The label is a number from `c` to 5.
 record IsFrom (c : ℕ) (l : Name) : Type 0 where
   pub at : ℕ
   pub is : l ≡ number (pos at)
   pub low : c ≤ at
   pub high : at ≤ 5
 
--- pairs whose labels are numbers from c to 5 and ascend
+-- Pairs whose labels ascend and are numbers from `c` to 5.
 record Rises (o : CborOrdering) (c : ℕ) (es : List (Name × Item)) : Type 0 where
   pub each : AllByRecursion (λ e. IsFrom c e.0) es
   pub ascending : IsStrictlySortedBy (name_cmp_by o) (keys_of es)
@@ -236,9 +236,9 @@ fields_rise o x =
     (field_rises o 4 _ _ (omega arith)
     (field_rises o 5 _ _ (omega arith) (none_rises o 6)))))
 
--- ---- fields, and then others
+-- ---- fields, followed by others
 
--- the label is less than all that are neither fields' nor 0
+-- A field's label is less than all labels that are neither a field's nor 0.
 less-than-others : (o : CborOrdering) (l m : Name) → IsFrom 1 l → IsOther m → name_cmp_by o l m ≡ Less
 less-than-others o l m f h = subst (λ n. name_cmp_by o n m ≡ Less) (sym f.is) (above-fields o f.at m f.high h)
 
@@ -253,7 +253,7 @@ joined o (c ∷ cs) rs r s h =
       joined o cs rs (record { each = r.each.1; ascending = r.ascending.1 }) s h,
     )
 
--- what holds of the params of a key that was read holds of those in order
+-- No param has a field's label, also once the params are in order.
 others_apart : (o : CborOrdering) (v : Item) (k x : KeyView) → key.describes v k → IsCanonicalOf o k x → AllByRecursion (λ e. is_field e.0 ≡ false) x.params
 unfolding key
 others_apart o v k x p c =
@@ -275,7 +275,7 @@ labels_ascend o k es w none =
 
 -- ---- label 0
 
--- where labels ascend, it is the first
+-- If the labels ascend, label 0 is the first.
 zero_first :
     (o : CborOrdering) (v : Item) (es : List (Name × Item)) → IsStrictlySortedBy (name_cmp_by o) (keys_of es) → Contains es (number (pos 0), v)
     → (back : List (Name × Item)) × (es ≡ (number (pos 0), v) ∷ back)
@@ -286,7 +286,7 @@ zero_first o v (e ∷ es) s c =
       | inr m ↦ absurd (true≢false (sym (ap is_lt (above (total_by o) e es (number (pos 0), v) s m)) ∙ zero_least o e.0))
     ]
 
--- and none behind it is 0
+-- No later label is 0.
 no-zero : (o : CborOrdering) (v : Item) (es : List (Name × Item)) → IsStrictlySortedBy (name_cmp_by o) (keys_of ((number (pos 0), v) ∷ es))
     → AllByRecursion (λ e. e.0 ≢ number (pos 0)) es
 unfolding IsStrictlySortedBy

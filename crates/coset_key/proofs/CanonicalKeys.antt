@@ -34,21 +34,21 @@ apart_by : (o : CborOrdering) → TellsApart (name_cmp_by o)
 apart_by Lexicographic = name_cmp-apart
 apart_by LengthFirstLexicographic = canonical_cmp-apart
 
--- either order calls level what is one label
+-- Two labels are the same exactly if they compare as equal, in either order.
 level : (o : CborOrdering) (a b : Name) → same_name a b ≡ eq_by_cmp (name_cmp_by o) a b
 level o a b = both_ways (same_name a b) (eq_by_cmp (name_cmp_by o) a b) (λ h. (apart_by o a b).1 ((name_cmp-apart a b).0 h))
     (λ h. (name_cmp-apart a b).1 ((apart_by o a b).0 h))
 
 -- ---- a key with its params in another order
 
--- it is written as an item that represents it
+-- Such a key is written as an item that describes it.
 arranged : (v : Item) (k : KeyView) (ps : List (Name × Item)) → key.describes v k → IsPermutation k.params ps → Again KeyView key v (with_params ps k)
 unfolding key
 arranged v k ps p m =
     let a = labelled_arranged names names_laws true fields fields_laws v (parts_of k) ps p.0 m in
     record { image = a.image; is_image = a.is_image; described = (a.described, p.1); shallow = a.shallow }
 
--- the labels of the params of a key that was read differ
+-- The labels of the params of a key that was read differ.
 params_differ : (o : CborOrdering) (v : Item) (k : KeyView) → key.describes v k → IsDistinct (eq_by_cmp (name_cmp_by o)) (keys_of k.params)
 unfolding key
 params_differ o v k p =
@@ -56,14 +56,14 @@ params_differ o v k p =
     let d : IsDistinct same_name (keys_of k.params) = rest_distinct names fields.labels e.entries k.params e.rest e.distinct in
     subst (λ t. IsDistinct t (keys_of k.params)) (λ i a b. level o a b i) d
 
--- and differ once they are in order
+-- The labels also differ once the params are in order.
 pub canonical_differ : (o : CborOrdering) (v : Item) (k x : KeyView) → key.describes v k → IsCanonicalOf o k x
     → IsDistinct (eq_by_cmp (name_cmp_by o)) (keys_of x.params)
 canonical_differ o v k x p c =
     IsDistinct-IsPermutation (eq_by_cmp (name_cmp_by o)) (eq_by_cmp_equiv (total_by o)).symm (keys_of k.params) (keys_of x.params)
     (IsPermutation-map (λ e. e.0) k.params x.params c.agree.params) (params_differ o v k p)
 
--- keys in order are equal where they are of keys that agree but for the order, and only there
+-- If two keys agree except for the order of their params, they are equal once their params are in order.
 canonical_one : (o : CborOrdering) (v : Item) (k l x y : KeyView) → key.describes v k → IsCanonicalOf o k x → IsCanonicalOf o l y → AgreeButForOrder k l → x ≡ y
 canonical_one o v k l x y p c d h =
     let moved = IsPermutation-trans x.params l.params y.params
@@ -79,7 +79,7 @@ canonical_of_one o k l x y c d e =
           (subst (λ z. IsPermutation z.params l.params) (sym e) (IsPermutation-sym l.params y.params d.agree.params));
     }
 
--- a key in order is written as an item that represents it
+-- A key with its params in order is written as an item that describes it.
 in_order : (o : CborOrdering) (v : Item) (k x : KeyView) → key.describes v k → IsCanonicalOf o k x → Again KeyView key v x
 in_order o v k x p c = subst (Again KeyView key v) c.agree.others (arranged v k x.params p c.agree.params)
 

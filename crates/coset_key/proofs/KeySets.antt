@@ -1,4 +1,4 @@
--- Sets as they lie in memory, as contracts see them, and as the elements of arrays are read into them.
+-- Sets in memory, their views, and arrays whose elements are read into sets.
 use Rattle.std.proofs.Common.{◌≡◌, ◌⊎◌, ◌||◌, List, [], ◌∷◌, ◌++◌, map, Bool, true, false, Some, Result, Ok, Err, Contains, length, refl, sym, ◌∙◌, ap, subst}
 use Rattle.std.proofs.Common.{inl, inr, arith, true≢false, Ordering, Less, Equal, Greater}
 use Rattle.std.specs.Cmp.{IsTotalOrder}
@@ -21,7 +21,7 @@ use Rattle.coset_codec.specs.SetLaws.{set_has, set_push, distinct_push, set_of_n
 use Rattle.coset_codec.specs.Shape.{Shape, Each, EachFaults}
 use Rattle.coset_codec.proofs.Encoding.{and_items}
 
--- ---- as contracts see them
+-- ---- views
 
 module _ {K N : Type 0} (view : K → N) where
   pub no-keys : (ks : List K) → length ks ≡ 0 → map view ks ≡ []
@@ -48,7 +48,7 @@ module _ {K N : Type 0} (view : K → N) (cmp : N → N → Ordering) where
   contains-view [] k = refl
   contains-view (x ∷ xs) k = ap (λ b. is_eq (cmp (view k) (view x)) || b) (contains-view xs k)
 
--- ---- as arrays are read
+-- ---- arrays that are read into sets
 
 and_items-assoc : (us vs ws : Items) → and_items (and_items us vs) ws ≡ and_items us (and_items vs ws)
 and_items-assoc no_items vs ws = refl
@@ -74,7 +74,7 @@ module _ {A : Type 0} (cmp : A → A → Ordering) (o : IsTotalOrder cmp) (exact
   element-behind no_items ws x f = f
   element-behind (item v vs) ws x f = inr (element-behind vs ws x f)
 
-  -- an item that represents one of the values before it
+  -- An item that describes an earlier value again is a repeat.
   repeats-behind : (vs : Items) (xs : List A) (v : Item) (ws : Items) (x : A) → Each s.describes vs xs → list_any (eq_by_cmp cmp x) xs ≡ true → s.describes v x
       → Repeats s.describes (and_items vs (item v ws))
   repeats-behind no_items [] v ws x p h d = absurd (true≢false (sym h))
@@ -88,7 +88,7 @@ module _ {A : Type 0} (cmp : A → A → Ordering) (o : IsTotalOrder cmp) (exact
       by true e q later = inl (x, subst (s.describes u) (sym (tells_apart exact x y e)) p.0, element-behind us (item v ws) x (inl d))
       by false e q later = inr (later q d)
 
-  -- of the items of an array some were read, which make this set, and left are still to come
+  -- Some items of an array were read and make this set. The items `left` follow.
   pub record Gathered (all : Items) (set : List A) (left : Items) : Type 0 where
     pub done : Items
     pub read : List A
@@ -101,7 +101,7 @@ module _ {A : Type 0} (cmp : A → A → Ordering) (o : IsTotalOrder cmp) (exact
   unfolding IsDistinct
   none_gathered all = record { done = no_items; read = []; parts = refl; each = tt; is_set = set_of_none cmp; distinct = tt }
 
-  -- one more, which is new
+  -- One more item was read, and its value is new.
   pub more_gathered :
       (all old new : Items) (set : List A) (v : Item) (x : A) → Gathered all set old → old ≡ item v new → s.describes v x
       → list_any (eq_by_cmp cmp x) set ≡ false → Gathered all (insert_key cmp set x) new
@@ -115,24 +115,24 @@ module _ {A : Type 0} (cmp : A → A → Ordering) (o : IsTotalOrder cmp) (exact
         distinct = distinct_push o exact g.read set x g.is_set g.distinct h;
       }
 
-  -- all of them
+  -- All items were read.
   all_each : (all left : Items) (set : List A) (g : Gathered all set left) → left ≡ no_items → Each s.describes all g.read
   all_each all left set g n = subst (λ vs. Each s.describes vs g.read) (sym (g.parts ∙ (ap (and_items g.done) n ∙ and_items-none g.done))) g.each
 
-  -- ---- where they are
+  -- ---- positions
 
-  -- some were read, and the others are there
+  -- Some items were read, and the others are at the input.
   pub record Midway (all : Items) (z : State) (m : ArrayElements) (t : State) (set : List A) : Type 0 where
     pub left : Items
     pub gathered : Gathered all set left
     pub within : AreWithin m left t z
 
-  -- the next of them was passed, whatever was read of it
+  -- The next item was consumed, whether or not reading it succeeded.
   pub passed : (t u z : State) (m : ArrayElements) (left : Items) (Q : Item → Type 0) → Nexts left t z m true → ReadsAt t u Q → (others : Items)
       × AreWithin m others u z
   passed t u z m left Q next read = (next.1, subst (λ (y : State). AreWithin m next.1 y z) (sym (read next.0 next.2 next.4).0) next.5)
 
-  -- it is new
+  -- The value of the next item is new.
   pub one_more :
       (all : Items) (r t u z : State) (m n : ArrayElements) (set : List A) (x : A) → (w : Midway all z m r set) → Nexts w.left t z n true
       → ReadsAt t u (λ v. s.describes v x) → list_any (eq_by_cmp cmp x) set ≡ false
@@ -146,7 +146,7 @@ module _ {A : Type 0} (cmp : A → A → Ordering) (o : IsTotalOrder cmp) (exact
       }
 
   module _ {T : Type 0} (view : T → List A) where
-    -- it was there before
+    -- The set contains the value already.
     pub stands_twice :
         (all : Items) (r t u z : State) (m n : ArrayElements) (set : List A) (x : A) (e : CoseError) → (w : Midway all z m r set) → Nexts w.left t z n true
         → ReadsAt t u (λ v. s.describes v x)
@@ -159,7 +159,7 @@ module _ {A : Type 0} (cmp : A → A → Ordering) (o : IsTotalOrder cmp) (exact
           λ i. inr (is, subst (Repeats s.describes) (sym (g.parts ∙ ap (and_items g.done) next.3)) stands),
         )
 
-    -- it is at fault
+    -- The next item is at fault.
     pub is_refused :
         (all : Items) (r t u z : State) (m n : ArrayElements) (set : List A) (e : CoseError) (q : Result T CoseError) → (w : Midway all z m r set)
         → Nexts w.left t z n true → ReadsAt t u (λ v. UnlessMemory e (s.faults v)) → IsErrAnd q (λ f. f ≡ e)
@@ -173,7 +173,7 @@ module _ {A : Type 0} (cmp : A → A → Ordering) (o : IsTotalOrder cmp) (exact
           inl (subst (λ vs. EachFaults s.faults vs f) (sym (g.parts ∙ ap (and_items g.done) next.3)) (fault-behind g.done (item next.0 next.1) f (inl fault))),
     )
 
-    -- none is left
+    -- No item is left.
     pub all_gathered :
         (all : Items) (r t z : State) (m n : ArrayElements) (x : T) → (w : Midway all z m r (view x)) → Nexts w.left t z n false
         → ((left : Items) × AreWithin n left t z) × ReadsSet cmp s view all (Ok x)

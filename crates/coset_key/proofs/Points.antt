@@ -11,7 +11,7 @@ first : List ℕ → ℕ
 first [] = 0
 first (b ∷ rest) = b
 
--- two halves each of one whole
+-- If two equal lists are each made of two halves of equal length, the halves are equal.
 halves : (x y a b : List ℕ) → x ++ y ≡ a ++ b → length x ≡ length y → length a ≡ length b → (x ≡ a) × (y ≡ b)
 halves x y a b e p q =
     let same : length x ≡ length a = omega (arith, length-append x y, length-append a b, ap length e, p, q) in (
@@ -19,7 +19,7 @@ halves x y a b e p q =
       sym (drop-append_seam x y) ∙ ((λ i. drop (same i) (e i)) ∙ drop-append_seam a b),
     )
 
--- an octet string is that of one point
+-- An octet string encodes at most one point.
 pub points_apart : (p q : Point) → octets p ≡ octets q → IsEven p → IsEven q → p ≡ q
 unfolding tail first
 points_apart (compressed false x) (compressed false y) e m n = ap (λ s. compressed false (tail s)) e

@@ -1,4 +1,4 @@
--- A pair of a key, by its label.
+-- Adding a pair to a partial key, by its label.
 use Rattle.std.proofs.Common.{◌≡◌, ℤ, pos, [], ◌∷◌, ◌++◌, Bool, ◌||◌, false, refl, sym, subst, Result, Ok, Err}
 use Rattle.std.specs.Ordering.{int_eq}
 use Rattle.std.specs.Prelude.{IfErr, OnOk}
@@ -13,13 +13,13 @@ use Rattle.coset_key.specs.Keys.{Parts, fields}
 use Rattle.coset_key.specs.Reading.{GoesTo}
 use Rattle.coset_key.specs.declared.key.Field.TheVariants.{Params}
 
--- the field of this label takes its value
+-- The field of this label takes the value.
 pub adds_at : (l m : Name) (v : Item) (r : Result (Unit {0}) CoseError) (x y : Parts) (P : Type 0) → m ≡ l → OnOk r P
     → (P → Adds names fields l v x y) → OnOk r (Adds names fields m v x y)
 adds_at l m v (Ok u) x y P h t put = subst (λ n. Adds names fields n v x y) (sym h) (put t)
 adds_at l m v (Err e) x y P h t put = t
 
--- or it refuses it
+-- The field of this label refuses the value.
 pub refuses_at :
     (l m : Name) (v : Item) (r : Result (Unit {0}) CoseError) (x : Parts) (P : CoseError → Type 0) → m ≡ l → IfErr r (λ e. UnlessMemory e P)
     → ((e : CoseError) → P e → Refuses names fields l v x e)
@@ -27,18 +27,18 @@ pub refuses_at :
 refuses_at l m v (Ok u) x P h t because = t
 refuses_at l m v (Err e) x P h t because = λ n. subst (λ k. Refuses names fields k v x e) (sym h) (because e (t n))
 
--- none of five tests passes
+-- None of five tests passes.
 none : (a b c d e : Bool) → a ≡ false → b ≡ false → c ≡ false → d ≡ false → e ≡ false → (a || (b || (c || (d || (e || false))))) ≡ false
 none a b c d e h1 h2 h3 h4 h5 = rw (h1, h2, h3, h4, h5) refl
 
--- a number that is no field's goes to the params
+-- A number that is no field's label goes to the params.
 pub other_number :
     (n : ℤ) → int_eq n (pos 1) ≡ false → int_eq n (pos 2) ≡ false → int_eq n (pos 3) ≡ false → int_eq n (pos 4) ≡ false → int_eq n (pos 5) ≡ false
     → GoesTo (number n) Params
 other_number n h1 h2 h3 h4 h5 =
     none _ _ _ _ _ (numbers_apart n _ h1) (numbers_apart n _ h2) (numbers_apart n _ h3) (numbers_apart n _ h4) (numbers_apart n _ h5)
 
--- a pair whose label is none of the fields' goes to the rest
+-- A pair with no field's label goes to the rest.
 pub adds_rest : (m : Name) (v : Item) (x y : Parts) → GoesTo m Params → x.0 ≡ y.0 → y.1 ≡ x.1 ++ (m, v) ∷ [] → Adds names fields m v x y
 adds_rest m v x y other same rest =
     subst (λ b. IfThenElse b (fields.takes m v x.0 y.0 × (y.1 ≡ x.1)) ((x.0 ≡ y.0) × (y.1 ≡ x.1 ++ (m, v) ∷ []))) (sym other) (same, rest)

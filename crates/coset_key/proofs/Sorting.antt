@@ -1,10 +1,10 @@
--- Params as they lie in memory, once sorted, and as contracts see them.
+-- Sorted params in memory, and their views.
 use Rattle.std.proofs.Common.{◌≡◌, ◌+◌, List, [], ◌∷◌, map, length, Bool, ◌∙◌, arith}
 use Rattle.std.specs.List.Sorted.{IsSortedBy}
 use Rattle.std.proofs.lemmas.List.{get_or-map, length-map}
 
 module _ {X Y : Type 0} (view : X → Y) (lt : Y → Y → Bool) where
-  -- a list whose elements are in the order of what they are seen as, is seen as one in order
+  -- If the elements are sorted by their views, the list of views is sorted.
   pub sorted-view : (xs : List X) → IsSortedBy (λ x y. lt (view x) (view y)) xs → IsSortedBy lt (map view xs)
   sorted-view [] s k d a b = absurd (omega (arith, b))
   sorted-view (x ∷ xs) s k d a b =

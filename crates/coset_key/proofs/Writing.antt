@@ -1,4 +1,4 @@
--- The fields of a key, written pair by pair.
+-- Writing the fields of a key, pair by pair.
 use Rattle.std.proofs.Common.{◌≡◌, List, [], ◌∷◌, length, map, not, Bool, true, false, Some, None, option_map, refl, sym, ap, arith}
 use Rattle.coset_value.specs.Item.{Item, Items, item, array}
 use Rattle.coset_codec.specs.Maps.{field_shape_image, is_nonempty}
@@ -7,14 +7,14 @@ use Rattle.coset_label.specs.Names.{Name, number, text_label, name_item, Registe
 use Rattle.coset_label.specs.Labels.{algorithm}
 use Rattle.coset_key.specs.Keys.{operation, key_ops}
 
--- a set is there where it isn't empty
+-- The pair of a set is written exactly if the set isn't empty.
 pub set-there : {K N : Type 0} (view : K → N) (ks : List K) (b : Bool) → (b ≡ true → length ks ≡ 0) → (length ks ≡ 0 → b ≡ true)
     → is_nonempty (map view ks) ≡ not b
 set-there view [] b none all = sym (ap not (all refl))
 set-there view (k ∷ ks) true none all = let e = none refl in absurd (omega (arith, e))
 set-there view (k ∷ ks) false none all = refl
 
--- an algorithm has an item
+-- An algorithm has an item.
 pub algorithm-has : (n : RegisteredName) → algorithm.image n ≡ None → ⊥
 unfolding algorithm
 algorithm-has (assigned i) e = absurd (cc)
@@ -35,7 +35,7 @@ operations_image (n ∷ ns) = let more = operations_image ns in (_, λ i. both i
 pub key_ops_image : (ns : List Name) → (v : Item) × ((list_of operation).image ns ≡ Some v)
 key_ops_image ns = let vs = operations_image ns in (array vs.0, ap (option_map array) vs.1)
 
--- they are written as the list that they are
+-- A nonempty set of key operations is written as the list of its elements.
 pub key_ops_list : (ns : List Name) → is_nonempty ns ≡ true → field_shape_image (is_nonempty ns) (key_ops.image ns) ≡ option_map Some
     ((list_of operation).image ns)
 unfolding key_ops

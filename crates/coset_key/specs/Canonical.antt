@@ -15,41 +15,41 @@ use Rattle.coset_label.specs.Sorted.{AreInOrder}
 use Rattle.coset_label.specs.declared.ordering.CborOrdering.{CborOrdering}
 use Rattle.coset_key.specs.Keys.{KeyView, fields, key}
 
--- with these params, and all else as it was
+-- The key with these params, and otherwise unchanged.
 abbrev pub with_params : List (Name × Item) → KeyView → KeyView
 with_params ps k = record k { params = ps }
 
--- two keys that agree but for the order of their params
+-- Two keys that agree except for the order of their params.
 pub record AgreeButForOrder (k l : KeyView) : Type 0 where
   pub others : with_params l.params k ≡ l
   pub params : IsPermutation k.params l.params
 
--- l is k with its params in the order of their labels
+-- The key `l` is `k` with its params in the order of their labels.
 pub record IsCanonicalOf (o : CborOrdering) (k l : KeyView) : Type 0 where
   pub agree : AgreeButForOrder k l
   pub ordered : AreInOrder (name_cmp_by o) l.params
 
--- k became l, which is k with its params in order; or memory ran out, and k is as it was
+-- On success, `l` is `k` with its params in order. On error, an allocation failed and `l` is `k`.
 abbrev pub Canonicalizes : {T : Type 0} → CborOrdering → KeyView → KeyView → Result T CoseError → Type 0
 Canonicalizes o k l (Ok x) = IsCanonicalOf o k l
 Canonicalizes o k l (Err e) = (e ≡ OutOfMemory) × (l ≡ k)
 
--- ---- what is written of keys that were read
+-- ---- the encodings of keys that were read
 
--- a key that was read, from whatever held the item that describes it, is written, once its params are in order, and read
--- again as itself
+-- A key that was read can be written once its params are in order, and is read again as itself. The premise is that an
+-- item of at most 256 levels describes the key that was read.
 abbrev pub CanonicalReadsAgain : CborOrdering → Type 0
 CanonicalReadsAgain o = (v : Item) (k x : KeyView) → key.describes v k → depth v ≤ 256 → IsCanonicalOf o k x → ReadsAgain key x
 
--- keys that were read are written, once their params are in order, as equal bytes exactly where they agree but for the
--- order of their params
+-- Two keys were read, and their params were put in order. Their encodings are equal bytes exactly if the keys agree
+-- except for the order of their params.
 abbrev pub CanonicalApart : CborOrdering → Type 0
 CanonicalApart o =
     (v w : Item) (c d : List ℕ) (k l x y : KeyView) → key.describes v k → key.describes w l → IsCanonicalOf o k x → IsCanonicalOf o l y → IsWritten key x c
     → IsWritten key y d
     → (c ≡ d) ↔ AgreeButForOrder k l
 
--- k was read, and is written, once its params are in order, as pairs of these labels and values
+-- The key `k` was read. With its params in order it is written as pairs with these labels and values.
 pub record IsWrittenInOrder (o : CborOrdering) (k : KeyView) (es : List (Name × Item)) : Type 0 where
   pub source : Item
   pub read : key.describes source k
@@ -59,19 +59,19 @@ pub record IsWrittenInOrder (o : CborOrdering) (k : KeyView) (es : List (Name ×
   pub is_image : key.image canonical ≡ Some (dict pairs)
   pub named : Named label.describes pairs es
 
--- no param has label 0
+-- No param has label 0.
 abbrev pub HasNoZero : KeyView → Type 0
 HasNoZero k = AllByRecursion (λ e. e.0 ≢ number (pos 0)) k.params
 
--- then all labels are written in that order
+-- If no param has label 0, all labels are written in order.
 abbrev pub LabelsAscend : CborOrdering → Type 0
 LabelsAscend o = (k : KeyView) (es : List (Name × Item)) → IsWrittenInOrder o k es → HasNoZero k → IsStrictlySortedBy (name_cmp_by o) (keys_of es)
 
--- the label is that of a field: it is one of 1 to 5
+-- Returns true if the label is a field's, one of 1 to 5.
 abbrev pub is_field : Name → Bool
 is_field l = is_core names fields.labels l
 
--- label 0 and its value are after the fields and before all other params, and the other labels are in order
+-- Label 0 and its value stand after the fields and before all other params. The other labels are in order.
 pub record StandsBehindFields (o : CborOrdering) (v : Item) (es : List (Name × Item)) : Type 0 where
   pub front : List (Name × Item)
   pub back : List (Name × Item)
@@ -80,7 +80,7 @@ pub record StandsBehindFields (o : CborOrdering) (v : Item) (es : List (Name × 
   pub params : AllByRecursion (λ e. is_field e.0 ≡ false) back
   pub others : IsStrictlySortedBy (name_cmp_by o) (keys_of (front ++ back))
 
--- a param with label 0 is written behind the fields, though that label is less than theirs
+-- A param with label 0 is written after the fields, although its label is less than theirs.
 abbrev pub ZeroBehindFields : CborOrdering → Type 0
 ZeroBehindFields o = (k : KeyView) (es : List (Name × Item)) (v : Item) → IsWrittenInOrder o k es → Contains k.params (number (pos 0), v)
     → StandsBehindFields o v es

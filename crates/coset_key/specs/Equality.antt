@@ -1,4 +1,4 @@
--- `==` of keys is equality of what contracts see.
+-- `==` of keys is equality of their views.
 use Rattle.std.specs.Prelude.{◌==◌, ◌&&◌, Bool}
 use Rattle.std.specs.Cmp.Lexicographic.{pointwise}
 use Rattle.std.specs.Option.{option_eq}
@@ -13,7 +13,7 @@ use Rattle.coset_label.specs.Views.{algorithm_view, entry_view}
 use Rattle.coset_key.specs.Keys.{key_view, kty_view, operation_view}
 use Rattle.coset_key.specs.declared.key.CoseKey.{CoseKey}
 
--- each field the same; the lists have as many elements, each the same as its counterpart
+-- Each field is the same. Lists have the same length and the same element at each index.
 abbrev key_eq : CoseKey → CoseKey → Bool
 key_eq k l =
     on kty_view same_name k.kty l.kty

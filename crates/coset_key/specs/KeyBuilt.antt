@@ -1,5 +1,5 @@
--- What the calls of a key's builder make (RFC 8152, sections 7.1 and 13): a key of a certain type, or one with a field set
--- and the rest as it was.
+-- The keys that the builder's calls make (RFC 8152, sections 7.1 and 13): a key of some type, or a key with one field
+-- set.
 use Rattle.std.specs.Prelude.{◌≡◌, ◌⊎◌, ℕ, ℤ, pos, int_lt, true, List, [], ◌∷◌, ◌++◌, Some}
 use Rattle.std.specs.BTreeSet.{insert_key}
 use Rattle.coset_value.specs.Item.{Item, integer, bytes}
@@ -22,19 +22,19 @@ use Rattle.coset_key.specs.declared.ml_dsa.MlDsaVariant.{MlDsaVariant}
 
 -- ---- keys of a type
 
--- a key of that type alone
+-- A key of this type, without any other field or param.
 abbrev pub key_of_type : KeyType → KeyView
 key_of_type t = record empty_key { kty = number (kinds.number t) }
 
--- and with these params
+-- A key of this type with these params.
 abbrev pub key_with : KeyType → List (Name × Item) → KeyView
 key_with t params = record (key_of_type t) { params = params }
 
--- an octet key pair
+-- An octet key pair.
 abbrev pub okp_key : KeyView
 okp_key = key_of_type OKP
 
--- the labels of a curve, of a point's coordinates, and of a private key
+-- The labels of a curve, of a point's coordinates, and of a private key.
 abbrev pub curve_label : Name
 curve_label = number (ec2.number coordinates.Crv)
 
@@ -47,52 +47,52 @@ y_label = number (ec2.number coordinates.Y)
 abbrev pub d_label : Name
 d_label = number (ec2.number coordinates.D)
 
--- the params of a point on a curve; y is a byte string, or a bool for its sign
+-- The params of a point on a curve. The item `y` is a byte string, or a bool for its sign.
 abbrev pub point_params : EllipticCurve → List ℕ → Item → List (Name × Item)
 point_params curve x y = (curve_label, integer (curves.number curve)) ∷ (x_label, bytes x) ∷ (y_label, y) ∷ []
 
--- an elliptic curve key with two coordinates
+-- An elliptic curve key with two coordinates.
 abbrev pub ec2_key : EllipticCurve → List ℕ → Item → KeyView
 ec2_key curve x y = key_with EC2 (point_params curve x y)
 
--- and with the private key
+-- An elliptic curve key with two coordinates and the private key.
 abbrev pub ec2_private_key : EllipticCurve → List ℕ → List ℕ → List ℕ → KeyView
 ec2_private_key curve x y d = key_with EC2 (point_params curve x (bytes y) ++ (d_label, bytes d) ∷ [])
 
--- a public key of ML-DSA
+-- A public ML-DSA key.
 abbrev pub ml_dsa_key : MlDsaVariant → List ℕ → KeyView
 ml_dsa_key variant k = record (key_with AKP ((number (akp.number Pub), bytes k) ∷ [])) { alg = Some (assigned (algorithms.number (algorithm_of variant))) }
 
--- a symmetric key
+-- A symmetric key.
 abbrev pub symmetric_key : List ℕ → KeyView
 symmetric_key k = key_with Symmetric ((number (symmetric.number K), bytes k) ∷ [])
 
--- ---- fields set
+-- ---- keys with one field set
 
--- the key with this type, and all else as it was
+-- The key with this type, and otherwise unchanged.
 abbrev pub with_kty : Name → KeyView → KeyView
 with_kty t k = record k { kty = t }
 
--- the key with this identifier, and all else as it was
+-- The key with this identifier, and otherwise unchanged.
 abbrev pub with_key_id : List ℕ → KeyView → KeyView
 with_key_id b k = record k { key_id = b }
 
--- the key with this algorithm, and all else as it was
+-- The key with this algorithm, and otherwise unchanged.
 abbrev pub with_algorithm : RegisteredName → KeyView → KeyView
 with_algorithm a k = record k { alg = Some a }
 
--- the key with this Base IV, and all else as it was
+-- The key with this Base IV, and otherwise unchanged.
 abbrev pub with_base_iv : List ℕ → KeyView → KeyView
 with_base_iv b k = record k { base_iv = b }
 
--- one more operation at its place, unless it is there
+-- The key with this operation inserted at its place, unless it has the operation already.
 abbrev pub and_operation : Name → KeyView → KeyView
 and_operation l k = record k { key_ops = insert_key name_cmp k.key_ops l }
 
--- one more pair of another label, behind the others
+-- The key with one more pair, after its other params.
 abbrev pub and_param : Name → Item → KeyView → KeyView
 and_param l v k = record k { params = k.params ++ (l, v) ∷ [] }
 
--- IANA assigns the label to no parameter that all keys have in common: it is none of 0 to 5
+-- The label is none of 0 to 5. IANA reserves 0, and assigns 1 to 5 to the parameters that keys of all types share.
 abbrev pub IsOtherLabel : ℤ → Type 0
 IsOtherLabel n = (int_lt n (pos 0) ≡ true) ⊎ (int_lt (pos 5) n ≡ true)

@@ -27,7 +27,7 @@ pub operation_laws : Lawful Name operation
 unfolding operation
 operation_laws = registered_laws _
 
--- labels that compare as level are one
+-- Labels that compare as equal are equal.
 pub names_exact : CmpEqualImpliesEq name_cmp
 names_exact a b h = (name_cmp-apart a b).0 (ap is_eq h)
 
@@ -43,7 +43,7 @@ flat_number i d = record { key = integer i; is_image = refl; described = d; is_f
 filled_laws : LawfulFieldShape _ (unless_empty nonempty_bstr)
 filled_laws = unless_empty_laws nonempty_bstr (λ v p. p.1 refl) nonempty_bstr_laws
 
--- no item represents an empty set
+-- No item describes an empty set.
 never_empty : (v : Item) → key_ops.describes v [] → ⊥
 unfolding key_ops
 never_empty v p = set_nonempty p.0 [] p.1.0.1 p.2 refl

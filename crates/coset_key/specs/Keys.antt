@@ -1,4 +1,4 @@
--- Keys and sets of keys, and which items represent them (RFC 8152, section 7).
+-- Keys and sets of keys, and the items that describe them (RFC 8152, section 7).
 use Rattle.std.specs.Prelude.{◌≢◌, ℕ, List, [], Option, Some, None, map, option_map, unwrap_or, is_some}
 use Rattle.coset_value.specs.Item.{Item}
 use Rattle.coset_iana.specs.KeyOperation as operations
@@ -20,7 +20,7 @@ use Rattle.coset_key.specs.KeyLabels as labels
 use Rattle.coset_key.specs.declared.key.CoseKey.{CoseKey}
 use Rattle.coset_key.specs.declared.key_set.CoseKeySet.{CoseKeySet}
 
--- a key without its memory; `key_ops` are in the order of their encodings, each once
+-- The view of a key. `key_ops` are in the order of their encodings, without repeats.
 pub record KeyView : Type 0 where
   pub kty : Name
   pub key_id : List ℕ
@@ -48,35 +48,35 @@ key_view k = record {
 abbrev pub key_set_view : CoseKeySet → List KeyView
 key_set_view s = map key_view s.0.items
 
--- the key type that no key has
+-- The reserved key type, which a key that is read must not have.
 abbrev pub reserved : Name
 reserved = number (kinds.number Reserved)
 
--- a key that says nothing
+-- A key of the reserved type without any other field or param.
 abbrev pub empty_key : KeyView
 empty_key = record { kty = reserved; key_id = []; alg = None; key_ops = []; base_iv = []; params = [] }
 
 -- ---- the fields' values
 
--- a key type: the number of one that IANA assigned, or a text
+-- A key type: a number that IANA assigned, or a text.
 unfoldable pub key_type : Shape Name
 key_type = registered (λ i. is_some (first_numbered kinds.number KEY_TYPES i))
 
--- a key operation: the number of one that IANA assigned, or a text
+-- A key operation: a number of RFC 8152, section 7.1, table 4, or a text.
 unfoldable pub operation : Shape Name
 operation = registered (λ i. is_some (first_numbered operations.number KEY_OPERATIONS i))
 
--- [+ operation], none of them twice: a set, which is written in the order of the operations' encodings
+-- [+ operation] without repeats: a set, which is written in the order of the operations' encodings.
 unfoldable pub key_ops : Shape (List Name)
 key_ops = set_of name_cmp operation
 
 -- ---- keys
 
--- the fields by label
+-- The fields by label.
 abbrev pub FieldTuple : Type 0
 FieldTuple = Option Name × (List ℕ × (Option RegisteredName × (List Name × (List ℕ × Unit {0}))))
 
--- labels 1 to 5 (RFC 8152, section 7.1), each of which may be missing
+-- The labels 1 to 5 (RFC 8152, section 7.1). Each of them may be missing.
 abbrev pub fields : Fields Name FieldTuple
 fields =
     field names labels.kty (optional key_type)
@@ -86,7 +86,7 @@ fields =
     (field names labels.base_iv (unless_empty nonempty_bstr)
     no_field))))
 
--- the fields by label, and all other pairs
+-- The fields by label, and all other pairs.
 abbrev pub Parts : Type 0
 Parts = FieldTuple × List (Name × Item)
 
@@ -96,7 +96,7 @@ key_of p = record { kty = unwrap_or p.0.0 reserved; key_id = p.0.1.0; alg = p.0.
 abbrev pub parts_of : KeyView → Parts
 parts_of k = ((Some k.kty, (k.key_id, (k.alg, (k.key_ops, (k.base_iv, tt))))), k.params)
 
--- the key type is there, and isn't the reserved one
+-- There is a key type, and it isn't the reserved one.
 abbrev pub HasKeyType : Parts → Type 0
 HasKeyType p = (p.0.0 ≢ None) × (p.0.0 ≢ Some reserved)
 

@@ -1,4 +1,4 @@
--- Keys of which some pairs were read, and sets of which all elements were.
+-- Partly read keys, and sets whose elements were all read.
 use Rattle.std.specs.Prelude.{◌≡◌, ◌⊎◌, List, [], None, false, map, option_map, Result, Ok, Err}
 use Rattle.std.specs.Global.{Global}
 use Rattle.std.specs.declared.cmp.Ordering.{Ordering}
@@ -21,14 +21,14 @@ use Rattle.coset_key.specs.declared.key.Field.{Field}
 use Rattle.coset_key.specs.declared.key.Field.TheVariants.{Kty, KeyId, Alg, KeyOps, BaseIv, Params}
 use Rattle.coset_key.specs.declared.key.PartialKey.{PartialKey}
 
--- what was read, by label
+-- The parts that were read so far.
 abbrev pub so_far_view : PartialKey → Parts
 so_far_view s = (
   (option_map kty_view s.kty, (s.key_id.items, (option_map algorithm_view s.alg, (map operation_view s.key_ops.keys, (s.base_iv.items, tt))))),
   map entry_view s.params.items,
 )
 
--- a pair with the label m goes to this field
+-- A pair with label `m` goes to this field.
 abbrev pub GoesTo : Name → Field → Type 0
 GoesTo m Kty = m ≡ labels.kty
 GoesTo m KeyId = m ≡ labels.kid
@@ -37,20 +37,21 @@ GoesTo m KeyOps = m ≡ labels.key_ops
 GoesTo m BaseIv = m ≡ labels.base_iv
 GoesTo m Params = is_core names fields.labels m ≡ false
 
--- nothing
+-- The parts before any pair was read.
 abbrev pub nothing : Parts
 nothing = ((None, ([], (None, ([], ([], tt))))), [])
 
--- the key of these parts, where they have a key type; else an error that says that there is none
+-- The result is the key of these parts, or an error if they have no key type or the reserved one.
 abbrev pub IsFinished : Parts → Result CoseKey CoseError → Type 0
 IsFinished p (Ok k) = HasKeyType p × (p ≡ parts_of (key_view k))
 IsFinished p (Err e) = IsUnexpected e × (HasKeyType p → ⊥)
 
--- all the items of an array were read as a set, and no two represent one value; or one is at fault, or occurs twice
+-- On success, all items of an array were read as a set, and no value occurs twice. Any error except `OutOfMemory` means
+-- that an item is at fault or a value occurs twice.
 abbrev pub ReadsSet : {T A : Type 0} → (A → A → Ordering) → Shape A → (T → List A) → Items → Result T CoseError → Type 0
 ReadsSet {T} {A} cmp s view vs (Ok x) = (read : List A) × Each s.describes vs read × IsDistinctBy cmp read × IsSetOf cmp read (view x)
 ReadsSet cmp s view vs (Err e) = UnlessMemory e (λ f. EachFaults s.faults vs f ⊎ (IsUnexpected f × Repeats s.describes vs))
 
--- key operations without their memory
+-- The view of a set of key operations.
 abbrev pub operations_view : BTreeSet (RegisteredLabel KeyOperation) Global → List Name
 operations_view s = map operation_view s.keys

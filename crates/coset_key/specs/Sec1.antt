@@ -18,69 +18,71 @@ use Rattle.coset_key.specs.declared.sec1.ToSec1OctetStringError.{ToSec1OctetStri
 use Rattle.coset_key.specs.declared.sec1.ToSec1OctetStringError.TheVariants.{NotEcKey, MissingCoordinate, InvalidCoordinateType, UnequalCoordinateLength}
 use Rattle.coset_key.specs.declared.sec1.ToSec1OctetStringError.TheVariants.{OutOfMemory}
 
--- a point by its x coordinate, and the sign of y or y itself
+-- A point: its x coordinate, and y or the sign of y.
 pub data Point : Type 0 where
   compressed : Bool → List ℕ → Point
   uncompressed : List ℕ → List ℕ → Point
 
--- 02 or 03 and x, as the sign says; 04, x and y
+-- The octets of a point: 02 or 03 for the sign, then x; or 04, then x and y.
 abbrev pub octets : Point → List ℕ
 octets (compressed false x) = 2 ∷ x
 octets (compressed true x) = 3 ∷ x
 octets (uncompressed x y) = 4 ∷ x ++ y
 
--- the coordinates have one length
+-- The coordinates have the same length.
 abbrev pub IsEven : Point → Type 0
 IsEven (compressed sign x) = ⊤
 IsEven (uncompressed x y) = length x ≡ length y
 
--- the octet string is that of this point
+-- The octet string encodes this point.
 abbrev pub Spells : List ℕ → Point → Type 0
 Spells s p = (octets p ≡ s) × IsEven p
 
--- no octet string of a point: it is empty, or begins with another octet than 02, 03 and 04, or after 04 comes an odd
--- number of octets
+-- The octet string encodes no point. It is empty, begins with an octet other than 02, 03 and 04, or has an odd number
+-- of octets after 04.
 abbrev pub IsMalformed : List ℕ → Type 0
 IsMalformed [] = ⊤
 IsMalformed (b ∷ rest) = ((b ≢ 2) × (b ≢ 3) × (b ≢ 4)) ⊎ ((b ≡ 4) × (length rest % 2 ≡ 1))
 
--- ---- out of a key
+-- ---- from a key
 
--- the point with this x, and y as the item says
+-- The point with this x. The item is y, or a bool for its sign.
 abbrev pub point : List ℕ → Item → Result Point ToSec1OctetStringError
 point x (boolean sign) = Ok (compressed sign x)
 point x (bytes y) = cond (length x == length y) (Ok (uncompressed x y)) (Err UnequalCoordinateLength)
 point x v = Err InvalidCoordinateType
 
--- the point with these coordinates, where they are there
+-- The point with these coordinates, if both are present.
 abbrev pub coordinates_point : Option Item → Option Item → Result Point ToSec1OctetStringError
 coordinates_point (Some (bytes x)) (Some y) = point x y
 coordinates_point (Some v) (Some y) = Err InvalidCoordinateType
 coordinates_point o q = Err MissingCoordinate
 
--- the value of the first param with the label
+-- The value of the first param with this label.
 abbrev pub param : Name → KeyView → Option Item
 param l k = lookup (same_name l) k.params
 
--- the point of an elliptic curve key with two coordinates, or why there is none
+-- The point of an elliptic curve key with two coordinates, or the reason why there is none.
 abbrev pub key_point : KeyView → Result Point ToSec1OctetStringError
 key_point k = cond (same_name k.kty (number (kinds.number EC2))) (coordinates_point (param x_label k) (param y_label k)) (Err NotEcKey)
 
--- the octet string of the point; or why there is none; or, only where there is one, that memory ran out
+-- The result is the point's octet string, or the reason why there is no point. For a point the only error is
+-- `OutOfMemory`.
 abbrev pub GivesOctets : Result Point ToSec1OctetStringError → Result (Vec ℕ Global) ToSec1OctetStringError → Type 0
 GivesOctets (Ok p) (Ok b) = b.items ≡ octets p
 GivesOctets (Ok p) (Err e) = e ≡ OutOfMemory
 GivesOctets (Err e) (Ok b) = ⊥
 GivesOctets (Err e) (Err f) = f ≡ e
 
--- ---- into a key
+-- ---- to a key
 
--- the key of the point
+-- The key of a point.
 abbrev pub point_key : EllipticCurve → Point → KeyView
 point_key curve (compressed sign x) = ec2_key curve x (boolean sign)
 point_key curve (uncompressed x y) = ec2_key curve x (bytes y)
 
--- the key of the point that the octet string spells; or that it spells none; or, only where it does, that memory ran out
+-- The result is the key of the point that the octet string encodes. The caller's error means that the string is
+-- malformed. The only other error is `OutOfMemory`, for a string that isn't malformed.
 abbrev pub ParsesSec1 : EllipticCurve → List ℕ → Result CoseKey (CallError ParseSec1OctetStringError) → Type 0
 ParsesSec1 curve s (Ok k) = (p : Point) × Spells s p × (key_view k ≡ point_key curve p)
 ParsesSec1 curve s (Err (Coset e)) = (e ≡ errors.OutOfMemory) × (IsMalformed s → ⊥)

@@ -44,10 +44,10 @@ use std::alloc::{AllocError, Global};
 use std::collections::BTreeSet;
 use std::marker::Model;
 
-/// About what a key takes beside its byte strings and params.
+/// The estimated length of an encoded key in bytes, without its byte strings and params.
 const HEADS: usize = 24;
 
-/// About what a param takes: a label, and a coordinate of 32 bytes.
+/// The estimated length of an encoded param in bytes: a label and a coordinate of 32 bytes.
 const PARAM: usize = 40;
 
 /// A key: `COSE_Key` (RFC 8152, section 7).
@@ -64,17 +64,18 @@ const PARAM: usize = 40;
 /// ```
 #[derive(Debug, Drop, PartialEq, Eq)]
 pub struct CoseKey {
-    /// The type of the key (label 1), which decides what its `params` mean.
+    /// The key type (label 1), which decides the meaning of `params`.
     pub kty: KeyType,
-    /// The identifier of the key (label 2); none where it is empty.
+    /// The key identifier (label 2); empty if there is none.
     pub key_id: Vec<u8>,
-    /// The only algorithm that the key may serve (label 3).
+    /// The only algorithm that the key may be used with (label 3).
     pub alg: Option<Algorithm>,
-    /// What the key may be used for (label 4), in the order of the encodings; whatever it is where it is empty.
+    /// The permitted uses of the key (label 4), in the order of their encodings. If empty, every
+    /// use is permitted.
     pub key_ops: BTreeSet<KeyOperation>,
-    /// The bytes that a Partial IV is added to (label 5); none where it is empty.
+    /// The Base IV, which is combined with a Partial IV (label 5); empty if there is none.
     pub base_iv: Vec<u8>,
-    /// The pairs of other labels, in order.
+    /// The pairs with other labels, in their order.
     pub params: Vec<(Label, Value)>,
 }
 
@@ -95,7 +96,7 @@ impl Clone for CoseKey {
 }
 
 impl CoseKey {
-    /// A key of the reserved type that says nothing more. It takes no memory.
+    /// Returns a key of the reserved type without any other field or param. Allocates nothing.
     pub fn new(alloc: Global) -> CoseKey
         ensures { key_view result ≡ empty_key }
     {
@@ -109,10 +110,10 @@ impl CoseKey {
         }
     }
 
-    /// A key that equals this one.
+    /// Returns a copy of the key.
     ///
     /// # Errors
-    /// `OutOfMemory` alone.
+    /// `OutOfMemory` if an allocation fails.
     pub fn clone(&self) -> Result<CoseKey>
         ensures copy { IfOk result (λ k. key_view k ≡ key_view self.now) }
         ensures memory { IfErr result (λ e. e ≡ OutOfMemory) }
@@ -120,8 +121,10 @@ impl CoseKey {
         Ok(Clone::clone(self)?)
     }
 
-    /// The value of the first of `params` with this label; `None` where none has it. A label that has a field (1 to 5)
-    /// isn't among the params of a key that was read (RFC 8152, section 7.1).
+    /// Returns the value of the first param with this label, or `None` if there is none.
+    ///
+    /// The `params` of a key that was read contain no label of a field, 1 to 5 (RFC 8152, section
+    /// 7.1).
     pub fn get(&self, label: &Label) -> Option<&Value>
         ensures { option_map (λ v. value_item v.now) result ≡ lookup (same_name
             (label_view label.now))
@@ -130,13 +133,17 @@ impl CoseKey {
         find_value(&self.params, label)
     }
 
-    /// Puts `params` into the order of their labels' encodings: by their bytes (RFC 8949, section 4.2.1), or by their
-    /// lengths first (RFC 7049, section 3.9). Params with one label stay in the order in which they are, and all else of
-    /// the key stays. So all labels of a key that was read are written in that order, but that label 0, which only a param
-    /// can have, is written behind 1 to 5. The work grows with n log n.
+    /// Sorts `params` by the encodings of their labels, in the given order.
+    ///
+    /// The order compares the bytes of the encodings (RFC 8949, section 4.2.1), or first their
+    /// lengths (RFC 7049, section 3.9). Params with equal labels keep their order, and the rest of
+    /// the key is unchanged. All labels of a key that was read are then written in that order,
+    /// except label 0. Only a param can have label 0, and it is written after the labels 1 to 5.
+    /// The work grows with n log n.
     ///
     /// # Errors
-    /// `OutOfMemory` alone, and only of more than 20 params; the key is then as it was.
+    /// `OutOfMemory` if an allocation fails, which can happen only with more than 20 params. The
+    /// key is then unchanged.
     pub fn canonicalize(&mut self, alloc: Global, ordering: CborOrdering) -> Result<()>
         ensures canonical { Canonicalizes ordering (key_view self.old) (key_view self.new) result }
         ensures stable { IsStableByKey (λ e. label_view e.0) (name_cmp_by ordering)
@@ -149,7 +156,7 @@ impl CoseKey {
     }
 }
 
-/// A field of a key, by the labels of its pairs (RFC 8152, section 7.1).
+/// A field of a key, chosen by the label of a pair (RFC 8152, section 7.1).
 #[derive(Clone, Copy)]
 enum Field {
     /// Label 1.
@@ -166,7 +173,7 @@ enum Field {
     Params,
 }
 
-/// The field that a pair with this label goes to.
+/// Returns the field for a pair with this label.
 fn field_of(label: &Label) -> Field
     ensures { GoesTo (label_view label.now) result }
 {
@@ -183,7 +190,7 @@ fn field_of(label: &Label) -> Field
     }
 }
 
-/// A key of which some pairs were read.
+/// A partly read key.
 #[derive(Drop)]
 struct PartialKey {
     kty: Option<KeyType>,
@@ -195,7 +202,7 @@ struct PartialKey {
 }
 
 impl PartialKey {
-    /// Nothing. It takes no memory.
+    /// Returns a partial key without any pair. Allocates nothing.
     fn new(alloc: Global) -> PartialKey
         ensures { so_far_view result ≡ nothing }
     {
@@ -209,11 +216,17 @@ impl PartialKey {
         }
     }
 
-    /// Takes one more value, by its label, and goes behind it. Whether labels of the params repeat isn't checked.
+    /// Reads the value under `label` into the key.
+    ///
+    /// Repeated labels of params are not checked here. The input is left just after the value, also
+    /// after an error.
     ///
     /// # Errors
-    /// `OutOfMemory`; `DuplicateMapKey` where a field has a value already; or a fault of its value. What was read is then
-    /// as before.
+    /// - `OutOfMemory` if an allocation fails.
+    /// - `DuplicateMapKey` if the field has a value already.
+    /// - A fault in the value.
+    ///
+    /// The partial key is then unchanged.
     fn set_parameter(&mut self, alloc: Global, label: Label, input: &mut Decoder<'_>) -> Result<()>
         ensures shrinks { length_left (state input.new) ≤ length_left (state input.old) }
         ensures takes { ReadsAt (state input.old) (state input.new) (λ v. OnOk result
@@ -238,10 +251,10 @@ impl PartialKey {
         }
     }
 
-    /// The key, where its type is there and isn't the reserved one.
+    /// Returns the finished key.
     ///
     /// # Errors
-    /// `UnexpectedItem`.
+    /// `UnexpectedItem` if the key type is missing or reserved.
     fn finish(self) -> Result<CoseKey>
         ensures { IsFinished (so_far_view self) result }
     {
@@ -333,7 +346,8 @@ impl Codec for CoseKey {
         so_far.finish()
     }
 
-    /// Enough where coordinates have at most 32 bytes and key operations are few.
+    /// Returns an estimate that is enough for coordinates of at most 32 bytes and few key
+    /// operations.
     fn size_hint(&self) -> usize {
         HEADS
             .saturating_add(self.key_id.len())
@@ -362,7 +376,7 @@ impl Codec for CoseKey {
     }
 }
 
-/// Appends the pair of the key operations, where there are any.
+/// Appends the pair of the key operations, if there are any.
 fn write_key_ops(
     alloc: Global,
     operations: &BTreeSet<KeyOperation>,
@@ -385,7 +399,8 @@ fn write_key_ops(
     )
 }
 
-/// Makes a [`CoseKey`], field by field. Contracts see it as the key that [`build`](CoseKeyBuilder::build) gives.
+/// Builds a [`CoseKey`], field by field. Contracts see it as the key that
+/// [`build`](CoseKeyBuilder::build) returns.
 #[derive(Debug, Drop)]
 pub struct CoseKeyBuilder(CoseKey);
 
@@ -404,24 +419,27 @@ impl Model for CoseKeyBuilder {
 }
 
 impl CoseKeyBuilder {
-    /// A key of the reserved type that says nothing more. It takes no memory.
+    /// Returns a builder of a key of the reserved type without any other field or param. Allocates
+    /// nothing.
     pub fn new(alloc: Global) -> CoseKeyBuilder
         ensures { key_view result ≡ empty_key }
     {
         CoseKeyBuilder(CoseKey::new(alloc))
     }
 
-    /// An octet key pair (RFC 8152, section 13.2), without params. It takes no memory.
+    /// Returns a builder of an octet key pair without params (RFC 8152, section 13.2). Allocates
+    /// nothing.
     pub fn new_okp_key(alloc: Global) -> CoseKeyBuilder
         ensures { key_view result ≡ okp_key }
     {
         CoseKeyBuilder::new(alloc).key_type(iana::KeyType::OKP)
     }
 
-    /// A public key of an elliptic curve with two coordinates (RFC 8152, section 13.1.1).
+    /// Returns a builder of a public elliptic curve key with two coordinates (RFC 8152, section
+    /// 13.1.1).
     ///
     /// # Errors
-    /// `OutOfMemory` alone.
+    /// `OutOfMemory` if an allocation fails.
     pub fn new_ec2_pub_key(
         alloc: Global,
         curve: EllipticCurve,
@@ -434,11 +452,11 @@ impl CoseKeyBuilder {
         new_ec2_key(alloc, curve, x, Value::Bytes(y))
     }
 
-    /// A public key of an elliptic curve with two coordinates, of which the second is given by its sign (RFC 8152,
-    /// section 13.1.1).
+    /// Returns a builder of a public elliptic curve key with the x coordinate and the sign of y
+    /// (RFC 8152, section 13.1.1).
     ///
     /// # Errors
-    /// `OutOfMemory` alone.
+    /// `OutOfMemory` if an allocation fails.
     pub fn new_ec2_pub_key_y_sign(
         alloc: Global,
         curve: EllipticCurve,
@@ -451,10 +469,11 @@ impl CoseKeyBuilder {
         new_ec2_key(alloc, curve, x, Value::Bool(y_sign))
     }
 
-    /// A private key of an elliptic curve with two coordinates, with its public key (RFC 8152, section 13.1.1).
+    /// Returns a builder of a private elliptic curve key, with its public key of two coordinates
+    /// (RFC 8152, section 13.1.1).
     ///
     /// # Errors
-    /// `OutOfMemory` alone.
+    /// `OutOfMemory` if an allocation fails.
     pub fn new_ec2_priv_key(
         alloc: Global,
         curve: EllipticCurve,
@@ -469,10 +488,10 @@ impl CoseKeyBuilder {
         key.and_param(Ec2KeyParameter::D.to_i64(), Value::Bytes(d))
     }
 
-    /// A public key of ML-DSA (FIPS 204).
+    /// Returns a builder of a public ML-DSA key (FIPS 204).
     ///
     /// # Errors
-    /// `OutOfMemory` alone.
+    /// `OutOfMemory` if an allocation fails.
     pub fn new_mldsa_pub_key(
         alloc: Global,
         variant: MlDsaVariant,
@@ -486,10 +505,10 @@ impl CoseKeyBuilder {
             .and_param(AkpKeyParameter::Pub.to_i64(), Value::Bytes(k))
     }
 
-    /// A symmetric key (RFC 8152, section 13.3).
+    /// Returns a builder of a symmetric key (RFC 8152, section 13.3).
     ///
     /// # Errors
-    /// `OutOfMemory` alone.
+    /// `OutOfMemory` if an allocation fails.
     pub fn new_symmetric_key(alloc: Global, k: Vec<u8>) -> Result<CoseKeyBuilder>
         ensures ok { IfOk result (λ b. key_view b ≡ symmetric_key k.items) }
         ensures memory { IfErr result (λ e. e ≡ OutOfMemory) }
@@ -498,7 +517,7 @@ impl CoseKeyBuilder {
         key.and_param(SymmetricKeyParameter::K.to_i64(), Value::Bytes(k))
     }
 
-    /// The key that was made.
+    /// Returns the finished key.
     pub fn build(self) -> CoseKey
         ensures { result ≡ self }
     {
@@ -512,7 +531,7 @@ impl CoseKeyBuilder {
         self.kty(RegisteredLabel::Assigned(key_type))
     }
 
-    /// Sets the type (label 1) to a label, which may be a text.
+    /// Sets the type (label 1), which may be a text.
     pub fn kty(mut self, kty: KeyType) -> CoseKeyBuilder
         ensures { key_view result ≡ with_kty (kty_view kty) (key_view self) }
     {
@@ -528,10 +547,10 @@ impl CoseKeyBuilder {
         self
     }
 
-    /// As [`key_id`](CoseKeyBuilder::key_id), of a copy of these bytes.
+    /// Like [`key_id`](CoseKeyBuilder::key_id), but copies the bytes.
     ///
     /// # Errors
-    /// `OutOfMemory` alone.
+    /// `OutOfMemory` if an allocation fails.
     pub fn key_id_from(self, alloc: Global, key_id: &[u8]) -> Result<CoseKeyBuilder>
         ensures ok { IfOk result (λ b. key_view b ≡ with_key_id key_id.now (key_view self)) }
         ensures memory { IfErr result (λ e. e ≡ OutOfMemory) }
@@ -548,10 +567,10 @@ impl CoseKeyBuilder {
         self
     }
 
-    /// Adds a key operation (label 4); one that is there changes nothing.
+    /// Adds a key operation (label 4), unless the key has it already.
     ///
     /// # Errors
-    /// `OutOfMemory` alone.
+    /// `OutOfMemory` if an allocation fails.
     pub fn add_key_op(mut self, op: iana::KeyOperation) -> Result<CoseKeyBuilder>
         ensures ok { IfOk result (λ b. key_view b
             ≡ and_operation (number (operations.number op)) (key_view self)) }
@@ -569,10 +588,10 @@ impl CoseKeyBuilder {
         self
     }
 
-    /// As [`base_iv`](CoseKeyBuilder::base_iv), of a copy of these bytes.
+    /// Like [`base_iv`](CoseKeyBuilder::base_iv), but copies the bytes.
     ///
     /// # Errors
-    /// `OutOfMemory` alone.
+    /// `OutOfMemory` if an allocation fails.
     pub fn base_iv_from(self, alloc: Global, base_iv: &[u8]) -> Result<CoseKeyBuilder>
         ensures ok { IfOk result (λ b. key_view b ≡ with_base_iv base_iv.now (key_view self)) }
         ensures memory { IfErr result (λ e. e ≡ OutOfMemory) }
@@ -580,11 +599,13 @@ impl CoseKeyBuilder {
         Ok(self.base_iv(Vec::from_slice(alloc, base_iv)?))
     }
 
-    /// Adds a pair with a number as its label, which is none of 0 to 5: those have calls of their own, or are reserved. A
-    /// key with a label twice isn't written (`DuplicateMapKey`).
+    /// Adds a pair whose label is a number outside 0 to 5.
+    ///
+    /// The labels 1 to 5 have calls of their own, and 0 is reserved. A key with a repeated label
+    /// can't be written (`DuplicateMapKey`).
     ///
     /// # Errors
-    /// `OutOfMemory` alone.
+    /// `OutOfMemory` if an allocation fails.
     pub fn param(self, label: i64, value: Value) -> Result<CoseKeyBuilder>
         requires { IsOtherLabel label }
         ensures ok { IfOk result (λ b. key_view b
@@ -595,7 +616,7 @@ impl CoseKeyBuilder {
         self.and_param(label, value)
     }
 
-    /// Adds a pair with a number as its label.
+    /// Adds a pair whose label is a number.
     fn and_param(mut self, label: i64, value: Value) -> Result<CoseKeyBuilder>
         ensures ok { IfOk result (λ b. key_view b
             ≡ and_param (number label) (value_item value) (key_view self)) }
@@ -606,7 +627,7 @@ impl CoseKeyBuilder {
     }
 }
 
-/// A key of an elliptic curve with two coordinates, of which the second is a byte string, or its sign.
+/// Returns a builder of an elliptic curve key; `y` is a byte string, or a bool for its sign.
 fn new_ec2_key(alloc: Global, curve: EllipticCurve, x: Vec<u8>, y: Value) -> Result<CoseKeyBuilder>
     ensures ok { IfOk result (λ b. key_view b ≡ ec2_key curve x.items (value_item y)) }
     ensures memory { IfErr result (λ e. e ≡ OutOfMemory) }

@@ -27,10 +27,12 @@ fn read_operation(alloc: Global, input: &mut Decoder<'_>) -> Result<KeyOperation
     KeyOperation::from_input(alloc, input)
 }
 
-/// Reads the key operations that are left, from the first on.
+/// Reads the remaining key operations of an array, in order.
 ///
 /// # Errors
-/// `OutOfMemory`; `UnexpectedItem` where an operation occurs twice; or the fault of an operation.
+/// - `OutOfMemory` if an allocation fails.
+/// - `UnexpectedItem` if an operation occurs twice.
+/// - A fault in an operation.
 fn read_operations(
     alloc: Global,
     elements: &mut ArrayElements,
@@ -50,11 +52,12 @@ fn read_operations(
     Ok(operations)
 }
 
-/// Reads key operations, from the first on.
+/// Reads an array of key operations, in order.
 ///
 /// # Errors
-/// `OutOfMemory`; or `UnexpectedItem` where the item is no array, an operation is in it twice, or it is empty; or the
-/// fault of an operation.
+/// - `OutOfMemory` if an allocation fails.
+/// - `UnexpectedItem` if the item isn't an array, an operation occurs twice, or the array is empty.
+/// - A fault in an operation.
 fn read_key_ops(alloc: Global, input: &mut Decoder<'_>) -> Result<BTreeSet<KeyOperation>>
     ensures shrinks { length_left (state input.new) ≤ length_left (state input.old) }
     ensures reads { ReadsAt (state input.old) (state input.new)
@@ -70,7 +73,8 @@ fn read_key_ops(alloc: Global, input: &mut Decoder<'_>) -> Result<BTreeSet<KeyOp
     Ok(operations)
 }
 
-/// Sets the key operations, where there are none yet.
+/// Reads the key operations into `field`. If `field` isn't empty, the label is refused as a
+/// repeated one.
 pub(crate) fn set_key_ops(
     alloc: Global,
     field: &mut BTreeSet<KeyOperation>,
@@ -92,7 +96,7 @@ pub(crate) fn set_key_ops(
     Ok(())
 }
 
-/// Puts a key operation at its place, unless it is there.
+/// Inserts a key operation, unless the set contains it.
 pub(crate) fn add_operation(
     operations: &mut BTreeSet<KeyOperation>,
     operation: KeyOperation,
@@ -105,7 +109,7 @@ pub(crate) fn add_operation(
     Ok(())
 }
 
-/// Key operations, written as an array, in their order.
+/// Key operations, which are encoded as an array in their order.
 #[derive(Clone, Copy)]
 pub(crate) struct KeyOps<'a>(pub(crate) &'a BTreeSet<KeyOperation>);
 

@@ -13,7 +13,7 @@ use coset_codec::write::Array;
 use coset_label::{Encode, Result};
 use std::alloc::{AllocError, Global};
 
-/// Keys, in order: `COSE_KeySet` (RFC 8152, section 7).
+/// A set of keys, in order: `COSE_KeySet` (RFC 8152, section 7).
 ///
 /// ```cddl
 /// COSE_KeySet = [ * COSE_Key ]
@@ -31,18 +31,21 @@ impl Clone for CoseKeySet {
 }
 
 impl CoseKeySet {
-    /// No keys. It takes no memory.
+    /// Returns a set without keys. Allocates nothing.
     pub fn new(alloc: Global) -> CoseKeySet
         ensures { key_set_view result ≡ [] }
     {
         CoseKeySet(Vec::new(alloc))
     }
 
-    /// Reads each key of the set that the bytes are by itself, in order: the key, or else why it isn't read. So a key of a
-    /// type that isn't known leaves the others (RFC 9052, section 7); `from_slice` refuses such a set.
+    /// Decodes each key of an encoded set by itself, in order.
+    ///
+    /// Each element of the result is a key, or the error in reading it. So a key of an unknown type
+    /// doesn't affect the others (RFC 9052, section 7), while `from_slice` refuses the whole set.
     ///
     /// # Errors
-    /// Why the bytes aren't an array, or `OutOfMemory`.
+    /// - `OutOfMemory` if an allocation fails.
+    /// - A fault in the bytes, if they are not an array.
     pub fn each_from_slice(alloc: Global, bytes: &[u8]) -> Result<Vec<Result<CoseKey>>>
         ensures each { IfOk result (λ keys. AreReadAlone key key_view bytes.now keys.items) }
         ensures refused { IfErr result (λ e. IsRefused elements bytes.now e) }
@@ -50,10 +53,10 @@ impl CoseKeySet {
         each_from_slice(alloc, bytes)
     }
 
-    /// Keys that equal these.
+    /// Returns a copy of the set.
     ///
     /// # Errors
-    /// `OutOfMemory` alone.
+    /// `OutOfMemory` if an allocation fails.
     pub fn clone(&self) -> Result<CoseKeySet>
         ensures copy { IfOk result (λ s. key_set_view s ≡ key_set_view self.now) }
         ensures memory { IfErr result (λ e. e ≡ OutOfMemory) }
@@ -79,7 +82,7 @@ impl Codec for CoseKeySet {
 
     ghost equal = { λ a b. lists_decides key_view _ key_decides a.0.items b.0.items };
 
-    /// Reads a set of keys, from the first on.
+    /// Reads a set of keys, in order.
     fn read(alloc: Global, input: &mut Decoder<'_>) -> Result<CoseKeySet> {
         Ok(CoseKeySet(read_list(alloc, input, "array")?))
     }

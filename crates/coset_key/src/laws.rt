@@ -1,5 +1,5 @@
-//! Laws of keys, which callers may cite. Each is the contract of a function that does nothing. What holds of each type that
-//! is read and written is in `coset_codec::laws`.
+//! Laws of keys, which callers may cite. Each law is the contract of an empty function. The laws of
+//! all types that are read and written are in `coset_codec::laws`.
 
 ghost use Rattle.std.specs.Prelude.{◌≡◌, ◌≤◌, ℕ, Contains, List, Ok};
 ghost use Rattle.coset_value.specs.Item.{Item, depth};
@@ -15,8 +15,8 @@ ghost use Rattle.coset_codec.specs.Answers.{Describes};
 use crate::key::CoseKey;
 use coset_codec::laws::written_apart;
 
-/// An octet string is that of at most one point, and of none where it is malformed. The key of a point has that point, so
-/// that the octet string that was read comes back.
+/// An octet string encodes at most one point, and none if it is malformed. The key of a point has
+/// that point, so an octet string that was decoded is encoded again as itself.
 pub fn points_come_back()
     ensures back { (curve : EllipticCurve) (s : List ℕ) (p : Point) → Spells s p
         → (key_point (point_key curve p) ≡ Ok p) × (octets p ≡ s) }
@@ -24,34 +24,37 @@ pub fn points_come_back()
     ensures none { (s : List ℕ) (p : Point) → Spells s p → IsMalformed s → ⊥ }
 {}
 
-/// Two variants of ML-DSA have two algorithms, so that a variant comes back from its algorithm.
+/// Different variants of ML-DSA have different algorithms, so a variant can be recovered from its
+/// algorithm.
 pub fn ml_dsa_variants_come_back()
     ensures { (v w : MlDsaVariant) → algorithm_of v ≡ algorithm_of w → v ≡ w }
 {}
 
-/// Each key of a set that was read is described by an item within 255 levels. So what holds of a key that such an item
-/// describes, as the laws below say, holds of the keys of a set.
+/// Each key of a set that was read is described by an item of at most 255 levels. The laws below
+/// are on keys that an item describes, so they apply to the keys of a set too.
 pub fn keys_of_a_set()
     ensures { (b : List ℕ) (s : List KeyView) (k : KeyView) → Describes key_set b s → Contains s k
         → (v : Item) × key.describes v k × (depth v ≤ 255) }
 {}
 
-/// A key that was read, on its own, in a set or from a tree within 256 levels, and whose params were put into an order
-/// (`CoseKey::canonicalize`), is written, and read again as itself.
+/// A key that was read and then canonicalized (`CoseKey::canonicalize`) can be written, and is read
+/// again as itself. It may have been read on its own, in a set, or from a tree within 256 levels.
 pub fn canonical_keys_read_again()
     ensures { (o : CborOrdering) → CanonicalReadsAgain o }
 {}
 
-/// Keys that were read, on their own, in a set or from a tree, and whose params were put into one order
-/// (`CoseKey::canonicalize`), are written as equal bytes exactly where they agree but for the order of their params.
+/// Two canonicalized keys are written as equal bytes exactly if they agree except for the order of
+/// their params. The keys must have been read, on their own, in a set or from a tree. Both must be
+/// canonicalized (`CoseKey::canonicalize`) in the same order.
 pub fn canonical_keys_apart()
     ensures { (o : CborOrdering) → CanonicalApart o }
 {
     written_apart::<CoseKey>();
 }
 
-/// Of a key that was read, and whose params were put into an order, all labels are written in that order; but a param with
-/// label 0 is written behind the fields, whose labels are greater.
+/// A key that was read and canonicalized in an order is written with all labels in that order,
+/// except label 0. A param with label 0 is written after the fields, although its label is less
+/// than theirs.
 pub fn labels_ascend()
     ensures ascend { (o : CborOrdering) → LabelsAscend o }
     ensures zero { (o : CborOrdering) → ZeroBehindFields o }

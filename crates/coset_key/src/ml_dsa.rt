@@ -28,7 +28,8 @@ impl From<MlDsaVariant> for iana::Algorithm {
     }
 }
 
-/// The variant whose algorithm it is; any other algorithm is `OutOfRangeIntegerValue`.
+/// Converts an algorithm into its variant; other algorithms are refused with
+/// `OutOfRangeIntegerValue`.
 impl TryFrom<iana::Algorithm> for MlDsaVariant {
     type Error = CoseError;
 

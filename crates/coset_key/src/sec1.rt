@@ -1,4 +1,5 @@
-//! Points of elliptic curves as octet strings (SEC 1, sections 2.3.3 and 2.3.4; RFC 8152, section 13.1.1).
+//! Points of elliptic curves as octet strings (SEC 1, sections 2.3.3 and 2.3.4; RFC 8152, section
+//! 13.1.1).
 
 ghost use Rattle.std.specs.Prelude.{◌≡◌, ◌∷◌, ◌++◌, option_map, IfOk, IfErr};
 ghost use Rattle.coset_value.specs.View.{value_item};
@@ -17,27 +18,28 @@ use std::alloc::{AllocError, AllocFailed, Global};
 use std::error::Error;
 use std::fmt;
 
-/// The octet before x where y is even.
+/// The first octet if y is even.
 const COMPRESSED_EVEN: u8 = 0x02;
 
-/// The octet before x where y is odd.
+/// The first octet if y is odd.
 const COMPRESSED_ODD: u8 = 0x03;
 
-/// The octet before x and y.
+/// The first octet if x and y follow.
 const UNCOMPRESSED: u8 = 0x04;
 
-/// Why a key gives no octet string of a point.
+/// An error in encoding the point of a key as an octet string.
 #[derive(Clone, Copy, Debug, PartialEq, Eq)]
 pub enum ToSec1OctetStringError {
-    /// The key isn't one of an elliptic curve with two coordinates.
+    /// The key isn't an elliptic curve key with two coordinates.
     NotEcKey,
-    /// There is no x or no y coordinate.
+    /// The x or the y coordinate is missing.
     MissingCoordinate,
-    /// The x coordinate is no byte string, or the y coordinate neither that nor a bool.
+    /// The x coordinate isn't a byte string, or the y coordinate is neither a byte string nor a
+    /// bool.
     InvalidCoordinateType,
-    /// The coordinates are byte strings of two lengths.
+    /// The coordinates are byte strings of different lengths.
     UnequalCoordinateLength,
-    /// A request for memory was refused.
+    /// An allocation failed.
     OutOfMemory,
 }
 
@@ -75,8 +77,10 @@ impl<T: Drop> From<AllocFailed<T>> for ToSec1OctetStringError {
     }
 }
 
-/// That an octet string is none of a point: it is empty, begins with another octet than 02, 03 and 04, or has an odd
-/// number of octets after 04.
+/// The error for an octet string that encodes no point.
+///
+/// The octet string is empty, begins with an octet other than 02, 03 and 04, or has an odd number
+/// of octets after 04.
 #[derive(Clone, Copy, Debug, PartialEq, Eq)]
 pub struct ParseSec1OctetStringError;
 
@@ -90,7 +94,7 @@ impl fmt::Display for ParseSec1OctetStringError {
 
 impl Error for ParseSec1OctetStringError {}
 
-/// This octet, and then these.
+/// Returns the octet `first`, followed by `x` and `y`.
 fn join(alloc: Global, first: u8, x: &[u8], y: &[u8]) -> Result<Vec<u8>, ToSec1OctetStringError>
     ensures ok { IfOk result (λ b. b.items ≡ first ∷ x.now ++ y.now) }
     ensures memory { IfErr result (λ e. e ≡ errors.OutOfMemory) }
@@ -102,7 +106,7 @@ fn join(alloc: Global, first: u8, x: &[u8], y: &[u8]) -> Result<Vec<u8>, ToSec1O
     Ok(octets)
 }
 
-/// The octet string of the point with this x, and y as the value says.
+/// Returns the octet string of the point with this `x`, and with `y` or its sign.
 fn octet_string(alloc: Global, x: &[u8], y: &Value) -> Result<Vec<u8>, ToSec1OctetStringError>
     ensures { GivesOctets (point x.now (value_item y.now)) result }
 {
@@ -116,7 +120,7 @@ fn octet_string(alloc: Global, x: &[u8], y: &Value) -> Result<Vec<u8>, ToSec1Oct
 }
 
 impl CoseKey {
-    /// The value of the first of the params with this label.
+    /// Returns the value of the first param with this label, or `None` if there is none.
     fn param(&self, parameter: Ec2KeyParameter) -> Option<&Value>
         ensures { option_map (λ v. value_item v.now) result
             ≡ param (number (ec2.number parameter)) (key_view self.now) }
@@ -129,13 +133,16 @@ impl CoseKey {
         None
     }
 
-    /// The octet string of the key's point (SEC 1, section 2.3.3), where the key is one of an elliptic curve with two
-    /// coordinates: 02 and x where the sign of y is false, 03 and x where it is true, 04 and x and y where y is given. Of
-    /// each coordinate the first param counts. Neither the curve nor how long the coordinates are is looked at.
+    /// Encodes the key's point as an octet string (SEC 1, section 2.3.3).
+    ///
+    /// The key must be an elliptic curve key with two coordinates. The octets are 02 and x if the
+    /// sign of y is false, and 03 and x if it is true. If y itself is given, they are 04, x and y.
+    /// For each coordinate the first param counts. The function checks neither the curve nor the
+    /// lengths of the coordinates, except that both must have the same length.
     ///
     /// # Errors
-    /// The first of these: `NotEcKey`, `MissingCoordinate`, `InvalidCoordinateType`, `UnequalCoordinateLength`,
-    /// `OutOfMemory`.
+    /// The first of these that applies: `NotEcKey`, `MissingCoordinate`, `InvalidCoordinateType`,
+    /// `UnequalCoordinateLength`, `OutOfMemory`.
     pub fn to_sec1_octet_string(&self, alloc: Global) -> Result<Vec<u8>, ToSec1OctetStringError>
         ensures { GivesOctets (key_point (key_view self.now)) result }
     {
@@ -155,7 +162,7 @@ impl CoseKey {
     }
 }
 
-/// The key of a point, of whose y the sign is given.
+/// Returns a builder of the key of the point with this `x` and this sign of y.
 fn compressed_key(
     alloc: Global,
     curve: EllipticCurve,
@@ -169,7 +176,7 @@ fn compressed_key(
     CoseKeyBuilder::new_ec2_pub_key_y_sign(alloc, curve, x, y_sign)
 }
 
-/// The key of a point with both coordinates.
+/// Returns a builder of the key of the point with these coordinates.
 fn uncompressed_key(
     alloc: Global,
     curve: EllipticCurve,
@@ -185,12 +192,15 @@ fn uncompressed_key(
 }
 
 impl CoseKeyBuilder {
-    /// The public key of the point that the octet string spells (SEC 1, section 2.3.4), on this curve. Neither that the
-    /// point lies on it nor how long the coordinates are is looked at.
+    /// Returns a builder of the public key of the point that `sec1` encodes (SEC 1, section 2.3.4),
+    /// on `curve`.
+    ///
+    /// The function does not check that the point lies on the curve, or that the coordinates have
+    /// its length.
     ///
     /// # Errors
-    /// `ParseSec1OctetStringError` as the caller's error, exactly where the octet string is that of no point; or
-    /// `OutOfMemory`.
+    /// - `ParseSec1OctetStringError` as the caller's error, exactly if `sec1` encodes no point.
+    /// - `OutOfMemory` if an allocation fails.
     pub fn new_ec2_pub_key_sec1_octet_string(
         alloc: Global,
         curve: EllipticCurve,

@@ -1,4 +1,4 @@
--- Labels of different numbers.
+-- Labels with different numbers differ.
 use Rattle.std.proofs.Common.{◌≡◌, ℤ, pos, false, sym, ◌∙◌, ap}
 use Rattle.std.proofs.lemmas.Bool.{true≢false}
 use Rattle.std.specs.Cmp.{signed_Decides}

@@ -1,15 +1,15 @@
--- A copy of an option, or of a list, is seen as what it is a copy of, where that holds of what they hold.
+-- A copied option or list has the same view as the original, if the copies of its elements have.
 use Rattle.std.proofs.Common.{◌≡◌, List, [], ◌∷◌, Option, Some, None, option_map, map, refl, ap}
 use Rattle.std.specs.List.{AllZip}
 
--- a copy of what an option holds, as the derived clone of an option says it
+-- A copy of an option, as the contract of its derived clone states it.
 abbrev pub Copied : {A : Type 0} → (A → A → Type 0) → Option A → Option A → Type 0
 Copied R None None = Unit {0}
 Copied R None (Some y) = ⊥
 Copied R (Some x) None = ⊥
 Copied R (Some x) (Some y) = R x y
 
--- a label of a registry T, whose values' clones are these values
+-- A copied option of a registry label has the same view, if clones of T's values equal these values.
 pub registered_copied :
     {A B : Type 0} (T : Type 0) (f : A → B) (o p : Option A) → Copied (λ x y. ((a b : T) → b ≡ a → b ≡ a) → f y ≡ f x) o p → option_map f p ≡ option_map f o
 registered_copied T f None None c = refl

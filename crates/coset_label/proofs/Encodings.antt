@@ -1,4 +1,4 @@
--- Labels by their shortest encodings.
+-- The orders of labels, by their shortest encodings.
 use Rattle.std.proofs.Common.{◌≡◌, ◌<◌, ◌^◌, ℕ, List, Ordering, sym, ◌∙◌, ap, arith}
 use Rattle.std.specs.Prelude.{pos, negsuc, length}
 use Rattle.coset_value.specs.Item.{Item}
@@ -8,7 +8,7 @@ use Rattle.coset_cbor.specs.Least.{least_encoding}
 use Rattle.coset_cbor.specs.Shortest.{IsShortest}
 use Rattle.coset_label.specs.Names.{Name, number, text_label, name_item, IsNamed, ComparesEncodings}
 
--- what a head holds is below 2 ^ 64
+-- The argument of a head is below 2 ^ 64.
 holds-below : (p : HeadWidth) (n : ℕ) → Holds p n → n < 2 ^ 64
 holds-below within n h = omega (arith, h)
 holds-below one n h = omega (arith, h)
@@ -16,7 +16,7 @@ holds-below two n h = omega (arith, h)
 holds-below four n h = omega (arith, h)
 holds-below eight n h = h
 
--- what has an encoding is within CBOR's ranges
+-- A label with an encoding is within CBOR's range.
 in-range : (a : Name) (s : List ℕ) → IsShortest s (name_item a) → IsInRange (name_item a)
 in-range (number (pos n)) s h = holds-below h.definite.width n h.definite.holds
 in-range (number (negsuc n)) s h = holds-below h.definite.width n h.definite.holds
@@ -30,7 +30,7 @@ named (text_label b) h = h.0
 abbrev pub OneShortest : Type 0
 OneShortest = (v : Item) (b : List ℕ) → IsInRange v → IsShortest b v → b ≡ least_encoding v
 
--- an order R of encodings orders labels by their shortest ones where it agrees with C on those that `least_encoding` makes
+-- If an order R agrees on `least_encoding`s with an order C of labels, then it agrees with C on all shortest encodings.
 pub by-encodings : OneShortest → (R : List ℕ → List ℕ → Ordering) (C : Name → Name → Ordering)
     → ((a b : Name) → IsNamed a → IsNamed b → R (least_encoding (name_item a)) (least_encoding (name_item b)) ≡ C a b) → (a b : Name)
     → ComparesEncodings R a b (C a b)

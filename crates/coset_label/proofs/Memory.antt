@@ -1,4 +1,4 @@
--- What can't be refused but for memory.
+-- Calls that can fail only with `OutOfMemory`.
 use Rattle.std.proofs.Common.{◌≡◌, Option, Some, None, Result, Ok, Err, refl, ◌∙◌}
 use Rattle.std.specs.Prelude.{IfErr, IsErrAnd}
 use Rattle.coset_codec.specs.Encoding.{HasNoImage}
@@ -18,7 +18,7 @@ only_memory (UnexpectedItem got want) h = absurd (h (λ q. absurd (cc)))
 only_memory UnregisteredIanaValue h = absurd (h (λ q. absurd (cc)))
 only_memory UnregisteredIanaNonPrivateValue h = absurd (h (λ q. absurd (cc)))
 
--- of what has an item, only memory is refused
+-- Writing a value that has an image can fail only with `OutOfMemory`.
 pub never_none : {T A : Type 0} (r : Result T CoseError) (o : Option A) → (o ≡ None → ⊥) → IfErr r (HasNoImage o) → IfErr r (λ e. e ≡ OutOfMemory)
 never_none (Ok t) o has h = tt
 never_none (Err e) o has h = only_memory e (λ n. has (h n).1)
@@ -26,7 +26,7 @@ never_none (Err e) o has h = only_memory e (λ n. has (h n).1)
 pub refused_memory : {T A : Type 0} (r : Result T CoseError) (o : Option A) (x : A) → o ≡ Some x → IfErr r (HasNoImage o) → IfErr r (λ e. e ≡ OutOfMemory)
 refused_memory r o x is h = never_none r o (some-none is) h
 
--- and passed on
+-- The same holds for an error that is passed on.
 pub passed_memory : {T A : Type 0} (r : Result T CoseError) (f : CoseError) (o : Option A) → IsErrAnd r (λ e. e ≡ f) → (o ≡ None → ⊥) → HasNoImage o f
     → IfErr r (λ e. e ≡ OutOfMemory)
 passed_memory (Ok t) f o same has h = tt

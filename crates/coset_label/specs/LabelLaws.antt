@@ -19,7 +19,7 @@ registered_name-back (assigned i) = refl
 registered_name-back (private_use i) = refl
 registered_name-back (text_name s) = refl
 
--- an integer's image is one, and a text's isn't
+-- The image of a number is an integer, and the image of a text is not.
 int-told : (i : ℤ) (w : Item) → int64.image i ≡ Some w → is_integer w ≡ true
 int-told i w e = let h : integer i ≡ w = some-one refl e in ap is_integer (sym h)
 
@@ -37,7 +37,7 @@ registered_laws known =
     (either_laws is_integer _ tstr (such_that_laws IsUnregistered (λ i. known i ≡ true) int64 int64_laws) tstr_laws (λ v i w f d e. int-told i w e)
     (λ v s w f d e. text-told s w e))
 
--- the item of a number that an item spells is that item, as far as the registry goes
+-- If an item's number has an image, the registry knows the image exactly when it knows the item.
 same-known : (known : ℤ → Bool) (b : Bool) (v : Item) (i : ℤ) (w : Item) → is_known known v ≡ b → int64.describes v i → int64.image i ≡ Some w
     → is_known known w ≡ b
 same-known known b v i w f d e = let h : integer i ≡ w = some-one refl e in ap (is_known known) (sym h) ∙ (ap (holds known) (sym d.0) ∙ f)
@@ -67,7 +67,7 @@ names_laws = record {
   same_self = λ l. (name_cmp-apart l l).1 refl;
 }
 
--- of two labels it is the same which is asked whether it is the other
+-- `same_name` is symmetric.
 sym-either : (l m : Name) (b : Bool) → same_name l m ≡ b → same_name m l ≡ b
 sym-either l m true h = ap (λ n. same_name n l) (sym (names_laws.same_is l m h)) ∙ names_laws.same_self l
 sym-either l m false h = go (same_name m l) refl

@@ -1,4 +1,4 @@
--- Lent labels without their memory.
+-- The view of borrowed labels.
 use Rattle.coset_label.specs.Names.{Name, number, text_label}
 use Rattle.coset_label.specs.declared.label_ref.LabelRef.{LabelRef}
 use Rattle.coset_label.specs.declared.label_ref.LabelRef.TheVariants.{Int, Text}

@@ -1,4 +1,4 @@
--- Which items are labels (RFC 8152, sections 1.4 and 16).
+-- The shapes of labels (RFC 8152, sections 1.4 and 16).
 use Rattle.std.specs.Prelude.{◌≡◌, ◌⊎◌, ℕ, ℤ, List, Option, Some, None, Bool, true, false, is_some}
 use Rattle.std.proofs.Common.{inl, inr}
 use Rattle.coset_value.specs.Item.{Item}
@@ -24,11 +24,11 @@ abbrev pub of_name : Name → ℤ ⊎ List ℕ
 of_name (number i) = inl i
 of_name (text_label s) = inr s
 
--- int / tstr
+-- A label: int / tstr
 abbrev pub label : Shape Name
 label = mapped name_of of_name (either is_integer int64 tstr)
 
--- the labels of a map: they are compared as numbers and texts
+-- The labels of a map, compared as numbers and texts.
 abbrev pub names : Names Name
 names = record { shape = label; same = same_name }
 
@@ -38,7 +38,7 @@ IsUnregistered e = e ≡ errors.UnregisteredIanaValue
 abbrev pub IsNotPrivate : CoseError → Type 0
 IsNotPrivate e = e ≡ errors.UnregisteredIanaNonPrivateValue
 
--- the number of one of a registry's values, or a text. `known i` says whether i is such a number
+-- A number that the registry assigns, or a text. `known i` is true if i is such a number.
 abbrev pub registered : (ℤ → Bool) → Shape Name
 registered known = mapped name_of of_name (either is_integer (such_that IsUnregistered (λ i. known i ≡ true) int64) tstr)
 
@@ -59,19 +59,19 @@ of_registered_name (assigned i) = inl (inl i)
 of_registered_name (private_use i) = inl (inr i)
 of_registered_name (text_name s) = inr s
 
--- the number of one of the registry's values, else a number of its private range, or a text
+-- A number that the registry assigns, else a number in its private-use range, or a text.
 abbrev pub registered_or_private : (ℤ → Bool) → (ℤ → Bool) → Shape RegisteredName
 registered_or_private known private =
     mapped registered_name_of of_registered_name (either is_integer (either (is_known known) int64 (such_that IsNotPrivate (λ i. private i ≡ true) int64)) tstr)
 
--- the labels of the registry whose values `value_of` gives
+-- The labels of a registry whose values `value_of` returns, by number.
 abbrev pub registered_in : {T : Type 0} → (ℤ → Option T) → Shape Name
 registered_in value_of = registered (λ i. is_some (value_of i))
 
--- a registered label, one for private use, or a text, of the registry whose values `value_of` gives
+-- The labels of a registry with a private-use range, whose assigned values `value_of` returns, by number.
 abbrev pub registered_or_private_in : {T : Type 0} → (ℤ → Option T) → (ℤ → Bool) → Shape RegisteredName
 registered_or_private_in value_of private = registered_or_private (λ i. is_some (value_of i)) private
 
--- an algorithm: the number of one that IANA assigned, else a number for private use, or a text
+-- An algorithm: a number that IANA assigned, else a private-use number, or a text.
 unfoldable pub algorithm : Shape RegisteredName
 algorithm = registered_or_private (λ i. is_some (first_numbered algorithms.number ALGORITHMS i)) is_private_use

@@ -20,31 +20,31 @@ use Rattle.coset_label.specs.Names.{name_cmp, registered_cmp, canonical_cmp, len
 
 -- ---- orderings
 
--- a chain of three orderings may be bracketed either way
+-- Chaining orderings is associative.
 then-then : (p q r : Ordering) → ordering_then (ordering_then p q) r ≡ ordering_then p (ordering_then q r)
 then-then Less q r = refl
 then-then Equal q r = refl
 then-then Greater q r = refl
 
--- a chain that is level is level in its first part
+-- If a chain of two orderings is `Equal`, the first one is.
 then-first : (p q : Ordering) → ordering_then p q ≡ Equal → p ≡ Equal
 then-first p q h = grind arith
 
--- and in its second
+-- If a chain of two orderings is `Equal`, the second one is.
 then-second : (p q : Ordering) → ordering_then p q ≡ Equal → q ≡ Equal
 then-second p q h = grind arith
 
--- a smaller number compares as less
+-- A smaller number compares as less.
 less : (x y : ℕ) → x < y → nat_cmp x y ≡ Less
 less x y h = grind arith
 
--- and a larger one as greater
+-- A larger number compares as greater.
 greater : (x y : ℕ) → y < x → nat_cmp x y ≡ Greater
 greater x y h = grind arith
 
 -- ---- the bytes of a number
 
--- quotients by p compare first, and then the remainders
+-- Numbers compare by their quotients by p first, then by their remainders.
 digits-compare : (p a b x y : ℕ) → x < p → y < p → nat_cmp (a * p + x) (b * p + y) ≡ ordering_then (nat_cmp a b) (nat_cmp x y)
 digits-compare p a b x y hx hy = elim (cases_order a b) [
   | inl e ↦ grind arith
@@ -52,12 +52,12 @@ digits-compare p a b x y hx hy = elim (cases_order a b) [
   | inr (inr lt) ↦ let le : suc b * p ≤ a * p = mul-le-mul_right p lt in grind arith
 ]
 
--- byte k as a quotient's remainder, also for the lowest byte
+-- Byte k is the remainder of a quotient, also for the lowest byte.
 byte_at-is : (k n : ℕ) → byte_at k n ≡ n / 256 ^ k % 256
 byte_at-is zero n = omega arith
 byte_at-is (suc k) n = refl
 
--- the lowest k bytes of two numbers, highest first, compare as the numbers that these bytes make
+-- The lowest k bytes of two numbers, highest first, compare as the numbers that these bytes make.
 bytes-compare : (k n l : ℕ) (s t : List ℕ)
     → slice_cmp nat_cmp (bytes_high_first k n ++ s) (bytes_high_first k l ++ t) ≡ ordering_then (nat_cmp (n % 256 ^ k) (l % 256 ^ k)) (slice_cmp nat_cmp s t)
 bytes-compare zero n l s t = rw (mod-one n, mod-one l)
@@ -67,14 +67,14 @@ bytes-compare (suc k) n l s t =
     let digits = digits-compare (256 ^ k) (n / 256 ^ k % 256) (l / 256 ^ k % 256) (n % 256 ^ k) (l % 256 ^ k) (mod-lt n p) (mod-lt l p) in
     rw (byte_at-is k n, byte_at-is k l, pow-succ' 256 k, mod-mul n b p, mod-mul l b p, digits, then-then, bytes-compare k n l s t)
 
--- two numbers of k bytes compare as all their bytes do
+-- Two numbers of at most k bytes compare as these bytes do.
 whole-compare : (k n l : ℕ) (s t : List ℕ) → n < 256 ^ k → l < 256 ^ k
     → slice_cmp nat_cmp (bytes_high_first k n ++ s) (bytes_high_first k l ++ t) ≡ ordering_then (nat_cmp n l) (slice_cmp nat_cmp s t)
 whole-compare k n l s t hn hl = rw (mod-eq_of_lt hn, mod-eq_of_lt hl) at (bytes-compare k n l s t)
 
 -- ---- the five forms of a head
 
--- n is in the range for which this place is the shortest
+-- The argument n is in the range for which this width is the shortest.
 abbrev Spans : HeadWidth → ℕ → Type 0
 Spans within n = n < 24
 Spans one n = (24 ≤ n) × (n < 2 ^ 8)
@@ -82,11 +82,11 @@ Spans two n = (2 ^ 8 ≤ n) × (n < 2 ^ 16)
 Spans four n = (2 ^ 16 ≤ n) × (n < 2 ^ 32)
 Spans eight n = (2 ^ 32 ≤ n) × (n < 2 ^ 64)
 
--- the width that `least_width` picks is that one
+-- `least_width` picks the shortest width.
 spans : (n : ℕ) → n < 2 ^ 64 → Spans (least_width n) n
 spans n h = grind arith
 
--- the low five bits of a head's first byte
+-- The low five bits of a head's first byte.
 abbrev low : HeadWidth → ℕ → ℕ
 low within n = n
 low one n = 24
@@ -94,7 +94,7 @@ low two n = 25
 low four n = 26
 low eight n = 27
 
--- how many bytes are behind the first
+-- The number of bytes after the first.
 abbrev behind : HeadWidth → ℕ
 behind within = 0
 behind one = 1
@@ -102,7 +102,7 @@ behind two = 2
 behind four = 4
 behind eight = 8
 
--- a head is its first byte and the bytes behind
+-- A head is its first byte and the bytes after it.
 head-parts : (p : HeadWidth) (m n : ℕ) → head_in p m n ≡ (32 * m + low p n) ∷ bytes_high_first (behind p) n
 head-parts within m n = refl
 head-parts one m n = refl
@@ -110,25 +110,26 @@ head-parts two m n = refl
 head-parts four m n = refl
 head-parts eight m n = refl
 
--- these bits are below 32
+-- The low bits of a first byte are below 32.
 low-small : (p : HeadWidth) (n : ℕ) → Spans p n → low p n < 32
 low-small p n h = grind arith
 
--- smaller low bits belong to a smaller argument
+-- Smaller low bits belong to a smaller argument.
 low-less : (p q : HeadWidth) (n l : ℕ) → Spans p n → Spans q l → low p n < low q l → n < l
 low-less p q n l hn hl h = grind arith
 
--- equal low bits belong to one place
+-- Equal low bits belong to the same width.
 low-same : (p q : HeadWidth) (n l : ℕ) → Spans p n → Spans q l → low p n ≡ low q l → p ≡ q
 low-same p q n l hn hl h = grind arith
 
--- the low bits, the bytes behind and what follows the head compare as the arguments and what follows
+-- Two ways of comparing two heads with bytes after them agree. One way is by low bits, then by all later bytes. The
+-- other way is by argument, then by the bytes after the head.
 abbrev Agree : HeadWidth → HeadWidth → ℕ → ℕ → List ℕ → List ℕ → Type 0
 Agree p q n l s t =
     ordering_then (nat_cmp (low p n) (low q l)) (slice_cmp nat_cmp (bytes_high_first (behind p) n ++ s) (bytes_high_first (behind q) l ++ t))
     ≡ ordering_then (nat_cmp n l) (slice_cmp nat_cmp s t)
 
--- so they do where both arguments have one place
+-- The two ways agree for heads of the same width.
 same-width : (p : HeadWidth) (n l : ℕ) (s t : List ℕ) → Spans p n → Spans p l → Agree p p n l s t
 same-width within n l s t hn hl = refl
 same-width one n l s t hn hl = whole-compare 1 n l s t hn.1 hl.1
@@ -136,7 +137,7 @@ same-width two n l s t hn hl = whole-compare 2 n l s t hn.1 hl.1
 same-width four n l s t hn hl = whole-compare 4 n l s t hn.1 hl.1
 same-width eight n l s t hn hl = whole-compare 8 n l s t hn.1 hl.1
 
--- and where they may have two
+-- The two ways agree for heads of any widths.
 widths-compare : (p q : HeadWidth) (n l : ℕ) (s t : List ℕ) → Spans p n → Spans q l → Agree p q n l s t
 widths-compare p q n l s t hn hl = elim (cases_order (low p n) (low q l)) [
   | inl e ↦ subst (λ (r : HeadWidth). Spans r l → Agree p r n l s t) (low-same p q n l hn hl e) (same-width p n l s t hn) hl
@@ -144,7 +145,7 @@ widths-compare p q n l s t hn hl = elim (cases_order (low p n) (low q l)) [
   | inr (inr lt) ↦ rw (greater (low p n) (low q l) lt, greater n l (low-less q p l n hl hn lt))
 ]
 
--- two shortest heads and what follows them compare by major type, then by argument, and then by what follows
+-- Two shortest heads with bytes after them compare by major type, then by argument, then by those bytes.
 pub heads-compare : (m n k l : ℕ) (s t : List ℕ) → m < 8 → k < 8 → n < 2 ^ 64 → l < 2 ^ 64
     → slice_cmp nat_cmp (least_head m n ++ s) (least_head k l ++ t) ≡ ordering_then (nat_cmp m k) (ordering_then (nat_cmp n l) (slice_cmp nat_cmp s t))
 unfolding least_head
@@ -158,39 +159,39 @@ heads-compare m n k l s t _ _ hn hl =
 
 -- ---- labels
 
--- a label's encoding is its head and its content
+-- A label's encoding is its head and its content.
 least_encoding-parts : (a : Name) → least_encoding (name_item a) ≡ least_head (major_type a) (argument a) ++ content a
 least_encoding-parts (number (pos n)) = sym (append-nil (least_head 0 n))
 least_encoding-parts (number (negsuc n)) = sym (append-nil (least_head 1 n))
 least_encoding-parts (text_label s) = refl
 
--- a label's major type is one of the eight
+-- A label's major type is below 8.
 major_type-small : (a : Name) → major_type a < 8
 major_type-small a = grind arith
 
--- the encodings of two labels compare as the labels do
+-- The encodings of two labels compare as the labels do.
 pub names-compare : (a b : Name) → IsNamed a → IsNamed b → slice_cmp nat_cmp (least_encoding (name_item a)) (least_encoding (name_item b)) ≡ name_cmp a b
 names-compare a b ha hb =
     rw (least_encoding-parts a, least_encoding-parts b)
     (heads-compare (major_type a) (argument a) (major_type b) (argument b) (content a) (content b) (major_type-small a) (major_type-small b) ha hb)
 
--- the shortest head is as long as `head_length` says
+-- The length of the shortest head is `head_length`.
 length-least_head : (m n : ℕ) → length (least_head m n) ≡ head_length n
 unfolding least_head
 length-least_head m n = grind arith
 
--- a label's encoding is as long as `encoded_length` says
+-- The length of a label's encoding is `encoded_length`.
 pub least_encoding-length : (a : Name) → length (least_encoding (name_item a)) ≡ encoded_length a
 least_encoding-length a = rw (least_encoding-parts a, length-append, length-least_head)
 
--- the encodings in the order of RFC 7049, section 3.9: the shorter first, and those of one length by their bytes
+-- The encodings compare by length first, then by their bytes (RFC 7049, section 3.9), as the labels do.
 pub names-compare-canonical : (a b : Name) → IsNamed a → IsNamed b
     → length_first_cmp (least_encoding (name_item a)) (least_encoding (name_item b)) ≡ canonical_cmp a b
 names-compare-canonical a b ha hb = rw (names-compare a b ha hb, least_encoding-length a, least_encoding-length b)
 
 -- ---- the laws of labels' orders
 
--- the three are total orders
+-- The three orders of labels are total.
 pub name_cmp_total : IsTotalOrder name_cmp
 name_cmp_total = search comparing
 
@@ -200,7 +201,7 @@ canonical_cmp_total = search comparing
 pub registered_cmp_total : IsTotalOrder registered_cmp
 registered_cmp_total = search comparing depth 9
 
--- a total order distinguishes what it doesn't call level unless equal
+-- A total order that returns `Equal` only for equal values tells values apart.
 tells-apart : {A : Type 0} (R : A → A → Ordering) → IsTotalOrder R → ((a b : A) → R a b ≡ Equal → a ≡ b) → TellsApart R
 tells-apart R total only a b = (λ e. only a b ((Equal-is (R a b)).0 e), λ same. subst (λ x. is_eq (R a x) ≡ true) same (ap is_eq (tied_itself total a)))
 
@@ -217,7 +218,7 @@ pub canonical_cmp-apart : TellsApart canonical_cmp
 canonical_cmp-apart = tells-apart canonical_cmp canonical_cmp_total
     (λ a b h. name_cmp-equal a b (then-second (nat_cmp (encoded_length a) (encoded_length b)) (name_cmp a b) h))
 
--- a label of a registry is the label as such, and whether it is for private use
+-- Makes a label of a registry from its number or text and its private-use rank.
 registered_of : Name → ℕ → RegisteredName
 registered_of (number i) zero = assigned i
 registered_of (number i) (suc k) = private_use i

@@ -1,4 +1,4 @@
--- The orders that a `CborOrdering` names, of labels and of their encodings.
+-- The orders of labels and of encodings that a `CborOrdering` names.
 use Rattle.std.specs.Prelude.{ℕ, List}
 use Rattle.std.specs.declared.cmp.Ordering.{Ordering}
 use Rattle.std.specs.Ordering.{nat_cmp}
@@ -7,12 +7,12 @@ use Rattle.coset_label.specs.Names.{Name, name_cmp, canonical_cmp, length_first_
 use Rattle.coset_label.specs.declared.ordering.CborOrdering.{CborOrdering}
 use Rattle.coset_label.specs.declared.ordering.CborOrdering.TheVariants.{Lexicographic, LengthFirstLexicographic}
 
--- the order of labels that a `CborOrdering` names
+-- The order of labels that a `CborOrdering` names.
 abbrev pub name_cmp_by : CborOrdering → Name → Name → Ordering
 name_cmp_by Lexicographic = name_cmp
 name_cmp_by LengthFirstLexicographic = canonical_cmp
 
--- the order of encodings that a `CborOrdering` names
+-- The order of encodings that a `CborOrdering` names.
 abbrev pub encoding_cmp_by : CborOrdering → List ℕ → List ℕ → Ordering
 encoding_cmp_by Lexicographic = slice_cmp nat_cmp
 encoding_cmp_by LengthFirstLexicographic = length_first_cmp

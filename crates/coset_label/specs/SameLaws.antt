@@ -1,4 +1,4 @@
--- The tests of `Same` answer `true` exactly where what they compare is equal, and `==` is equality of what contracts see.
+-- The tests of `Same` return `true` exactly when their arguments are equal, and `==` is equality of views.
 use Rattle.std.specs.Ordering.{on}
 use Rattle.std.proofs.Common.{ap}
 use Rattle.std.proofs.lemmas.Bool.Decides.{Decides-like, Decides-and}
@@ -24,6 +24,6 @@ entry_eq-decides e f =
 pub algorithm_decides : EqDecides algorithm_view (on algorithm_view algorithm_eq)
 algorithm_decides x y = algorithm_eq-decides (algorithm_view x) (algorithm_view y)
 
--- a label and its value
+-- The test of map entries (a label and its value) is equality of their views.
 pub entry_told : EqDecides entry_view (on entry_view entry_eq)
 entry_told x y = entry_eq-decides (entry_view x) (entry_view y)

@@ -1,4 +1,4 @@
--- Why a list with distinct labels has one order.
+-- A list of pairs with distinct labels has one sorted order.
 use Rattle.std.proofs.Common.{◌≡◌, ◌⊎◌, ◌+◌, ℕ, suc, List, [], ◌∷◌, get_or, Contains, false, refl, sym, ◌∙◌, ap, subst, true≢false, inl, inr, arith, Ordering}
 use Rattle.std.proofs.Common.{Less, Equal, Greater}
 use Rattle.std.specs.Cmp.{IsTotalOrder}
@@ -15,7 +15,7 @@ use Rattle.std.proofs.lemmas.Map.Views.{All-after_first}
 use Rattle.coset_value.specs.Item.{Item}
 use Rattle.coset_label.specs.Sorted.{AreInOrder, HasOneOrder}
 
--- what isn't greater and differs is less
+-- An ordering that is neither `Greater` nor `Equal` is `Less`.
 less-of : (p q : Ordering) → q ≡ ordering_reverse p → is_lt q ≡ false → is_eq p ≡ false → p ≡ Less
 less-of Less q r h d = refl
 less-of Equal q r h d = absurd (true≢false d)
@@ -28,7 +28,7 @@ module _ {N : Type 0} {cmp : N → N → Ordering} (o : IsTotalOrder cmp) where
       let one-more : suc k + 1 ≡ suc (k + 1) = omega arith in
       subst (λ n. is_lt (cmp (get_or (e ∷ es) n x).0 (get_or es k x).0) ≡ false) one-more h
 
-  -- labels in order, all of which differ, are each below those after it
+  -- In a sorted list with distinct labels, each label is less than all later labels.
   pub strictly : (es : List (N × Item)) → IsDistinct (eq_by_cmp cmp) (keys_of es) → AreInOrder cmp es → IsStrictlySortedBy cmp (keys_of es)
   unfolding IsStrictlySortedBy
   strictly [] d s = tt
@@ -47,7 +47,7 @@ module _ {N : Type 0} {cmp : N → N → Ordering} (o : IsTotalOrder cmp) where
         rest,
       )
 
-  -- what is in a list is its first, or in the others
+  -- An element of a list is its first element or is in the rest.
   pub in-cases : (y : N × Item) (ys : List (N × Item)) (x : N × Item) → Contains (y ∷ ys) x → (y ≡ x) ⊎ Contains ys x
   in-cases y ys x c =
       elim (Contains-append_cases (y ∷ []) ys x c) [
@@ -55,12 +55,12 @@ module _ {N : Type 0} {cmp : N → N → Ordering} (o : IsTotalOrder cmp) where
         | inr d ↦ inr d
       ]
 
-  -- what holds of each label, of each pair's
+  -- If P holds for all labels of a list, it holds for the label of each pair.
   of-labels : (P : N → Type 0) (es : List (N × Item)) → AllByRecursion P (keys_of es) → AllByRecursion (λ e. P e.0) es
   of-labels P [] a = tt
   of-labels P (e ∷ es) a = (a.0, of-labels P es a.1)
 
-  -- a label behind the first is above it
+  -- A label after the first is greater than the first.
   pub above : (y : N × Item) (ys : List (N × Item)) (x : N × Item) → IsStrictlySortedBy cmp (keys_of (y ∷ ys)) → Contains ys x → cmp y.0 x.0 ≡ Less
   above y ys x s c =
       let P : N → Type 0 = λ k. cmp y.0 k ≡ Less in
@@ -82,7 +82,7 @@ module _ {N : Type 0} {cmp : N → N → Ordering} (o : IsTotalOrder cmp) where
         | inr m ↦ elim (in-cases x xs y d) [ inl h ↦ h | inr n ↦ absurd (not-both x.0 y.0 (above x xs y s n) (above y ys x t m)) ]
       ]
 
-  -- an element behind the first is behind that of the other list, which is the same
+  -- If two lists have the same first element, a later element of one is a later element of the other.
   behind : (x y : N × Item) (xs ys : List (N × Item)) (e : N × Item) → IsStrictlySortedBy cmp (keys_of (x ∷ xs)) → x ≡ y → Contains (y ∷ ys) e → Contains xs e
       → Contains ys e
   behind x y xs ys e s one d c =
@@ -93,7 +93,7 @@ module _ {N : Type 0} {cmp : N → N → Ordering} (o : IsTotalOrder cmp) where
         | inr m ↦ m
       ]
 
-  -- lists each of which is strictly in order, with the same elements, are one
+  -- Two strictly sorted lists with the same elements are equal.
   alike : (xs ys : List (N × Item)) → IsStrictlySortedBy cmp (keys_of xs) → IsStrictlySortedBy cmp (keys_of ys)
       → ((e : N × Item) → Contains xs e → Contains ys e) → ((e : N × Item) → Contains ys e → Contains xs e) → xs ≡ ys
   alike [] [] s t f g = refl

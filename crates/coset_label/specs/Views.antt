@@ -1,4 +1,4 @@
--- Labels without their memory, and what is printed of them.
+-- The views of labels, and the text that `Display` writes for them.
 use Rattle.std.specs.Prelude.{ℕ, ℤ, List, Option, Some, string_bytes}
 use Rattle.std.specs.Fmt.{debug_str, signed_decimal}
 use Rattle.coset_value.specs.Item.{Item}
@@ -18,7 +18,7 @@ abbrev pub label_view : Label → Name
 label_view (Int i) = number i
 label_view (Text s) = text_label (string_bytes s)
 
--- a value of a registry is seen as its number
+-- The view of a registry's value is its number.
 abbrev pub registered_view : {T : Type 0} → (T → ℤ) → RegisteredLabel T → Name
 registered_view number_of (registered.Assigned x) = number (number_of x)
 registered_view number_of (registered.Text s) = text_label (string_bytes s)
@@ -31,16 +31,17 @@ registered_or_private_view number_of (with_private.Text s) = text_name (string_b
 abbrev pub algorithm_view : RegisteredLabelWithPrivate Algorithm → RegisteredName
 algorithm_view = registered_or_private_view algorithms.number
 
--- a label and its value
+-- The view of a map entry: a label and its value.
 abbrev pub entry_view : Label × Value → Name × Item
 entry_view e = (label_view e.0, value_item e.1)
 
--- what `{}` writes of a label: a number in decimal, or a text as `{:?}` writes it, in double quotes. Of a text past ASCII no definition of std says that
+-- The bytes that `{}` writes for a label: a number in decimal, or a text as `{:?}` writes it, in double quotes. `None`
+-- if the text has characters beyond ASCII: std doesn't define the output for these.
 abbrev pub label_output : Label → Option (List ℕ)
 label_output (Int i) = Some (signed_decimal i)
 label_output (Text s) = debug_str (string_bytes s)
 
--- a value of a registry is written as `value_output` has it
+-- `value_output` gives the output of a registry's value.
 abbrev pub registered_output : {T : Type 0} → (T → Option (List ℕ)) → RegisteredLabel T → Option (List ℕ)
 registered_output value_output (registered.Assigned x) = value_output x
 registered_output value_output (registered.Text s) = debug_str (string_bytes s)

@@ -12,7 +12,7 @@ use coset_iana::EnumI64;
 use std::alloc::{AllocError, Global};
 use std::fmt;
 
-/// A label: an integer within 64 bits with a sign, or a text (RFC 8152, section 1.4).
+/// A label: a signed 64-bit integer or a text (RFC 8152, section 1.4).
 ///
 /// ```cddl
 /// label = int / tstr
@@ -44,7 +44,7 @@ impl Codec for Label {
 
     ghost equal = { λ a b. same_name-decides (label_view a) (label_view b) };
 
-    /// Takes memory only for the text of lent bytes.
+    /// Allocates only to copy a text from borrowed bytes.
     fn read(alloc: Global, input: &mut Decoder<'_>) -> Result<Label> {
         match input.integer() {
             Some(number) => Ok(Label::Int(i64::try_from(number)?)),
@@ -79,7 +79,7 @@ impl Clone for Label {
     }
 }
 
-/// The number in decimal, or the text as its `Debug` writes it: in double quotes, with escapes.
+/// Writes the number in decimal, or the text as `Debug` writes it: in double quotes, with escapes.
 impl fmt::Display for Label {
     ghost use Rattle.coset_label.specs.Views.{label_output};
 
@@ -94,10 +94,10 @@ impl fmt::Display for Label {
 }
 
 impl Label {
-    /// A label that equals this one.
+    /// Returns an equal label.
     ///
     /// # Errors
-    /// `OutOfMemory` alone.
+    /// `OutOfMemory` if an allocation fails.
     pub fn clone(&self) -> Result<Label>
         ensures copy { IfOk result (λ x. label_view x ≡ label_view self.now) }
         ensures memory { IfErr result (λ e. e ≡ OutOfMemory) }
@@ -106,7 +106,7 @@ impl Label {
     }
 }
 
-/// Whether the label is that of this parameter, of whatever registry.
+/// Returns true if the label is the number of this parameter, from any registry.
 pub fn is_parameter<P: EnumI64 + Copy>(label: &Label, parameter: P) -> bool
     ensures { result ≡ same_name (number (P.number parameter)) (label_view label.now) }
 {

@@ -1,5 +1,7 @@
-//! A label of any kind, lent: what the orders of labels compare. They follow the encodings, which compare by the head
-//! and then by what follows it (RFC 8949, sections 3 and 4.2.1). Nothing is encoded, and no memory taken.
+//! Borrowed labels of any kind, and their orders.
+//!
+//! Labels are ordered as their encodings, which compare by head and then by content (RFC 8949,
+//! sections 3 and 4.2.1). Comparing them encodes nothing and allocates nothing.
 
 ghost use Rattle.std.specs.Prelude.{◌≡◌};
 ghost use Rattle.coset_label.specs.Names.{number, name_cmp, canonical_cmp, major_type, argument, content, head_length, encoded_length};
@@ -7,14 +9,14 @@ ghost use Rattle.coset_label.specs.LabelRefs.{lent_view};
 
 use std::cmp::Ordering;
 
-/// A label of any kind: its number, or its text.
+/// A borrowed label of any kind: its number or its text.
 #[derive(Clone, Copy)]
 pub(crate) enum LabelRef<'a> {
     Int(i64),
     Text(&'a str),
 }
 
-/// How many bytes the head takes that holds this argument.
+/// Returns the length in bytes of the shortest head with this argument.
 fn head_length(argument: u64) -> u64
     ensures { result ≡ head_length argument }
 {
@@ -27,7 +29,8 @@ fn head_length(argument: u64) -> u64
     }
 }
 
-/// The byte order of the encodings of two integers: those from 0 up come first, and then those from -1 down.
+/// Compares the encodings of two integers byte by byte. The integers from 0 up come first, followed
+/// by those from -1 down.
 fn number_order(a: i64, b: i64) -> Ordering
     ensures { result ≡ name_cmp (number a) (number b) }
 {
@@ -40,7 +43,7 @@ fn number_order(a: i64, b: i64) -> Ordering
 }
 
 impl<'a> LabelRef<'a> {
-    /// The major type of the label's head.
+    /// Returns the major type of the label's head.
     fn major_type(&self) -> u8
         ensures { result ≡ major_type (lent_view self.now) }
     {
@@ -51,7 +54,7 @@ impl<'a> LabelRef<'a> {
         }
     }
 
-    /// The argument of the label's head.
+    /// Returns the argument of the label's head.
     fn argument(&self) -> u64
         ensures { result ≡ argument (lent_view self.now) }
     {
@@ -62,7 +65,7 @@ impl<'a> LabelRef<'a> {
         }
     }
 
-    /// What follows the head.
+    /// Returns the bytes after the head.
     fn content(&self) -> &[u8]
         ensures { result.now ≡ content (lent_view self.now) }
     {
@@ -72,14 +75,14 @@ impl<'a> LabelRef<'a> {
         }
     }
 
-    /// How many bytes the label's encoding has.
+    /// Returns the length in bytes of the label's encoding.
     fn encoded_length(&self) -> u128
         ensures { result ≡ encoded_length (lent_view self.now) }
     {
         head_length(self.argument()) as u128 + self.content().len() as u128
     }
 
-    /// The byte order of the labels' encodings.
+    /// Compares the labels' encodings byte by byte.
     #[inline(always)]
     pub(crate) fn order(&self, other: &LabelRef<'_>) -> Ordering
         ensures { result ≡ name_cmp (lent_view self.now) (lent_view other.now) }
@@ -94,7 +97,7 @@ impl<'a> LabelRef<'a> {
         }
     }
 
-    /// The order of the labels' encodings by their lengths first, and then by their bytes.
+    /// Compares the labels' encodings by length first, then byte by byte.
     pub(crate) fn canonical_order(&self, other: &LabelRef<'_>) -> Ordering
         ensures { result ≡ canonical_cmp (lent_view self.now) (lent_view other.now) }
     {

@@ -1,4 +1,4 @@
-//! What holds of labels' orders as such. Each law is the contract of a function that does nothing.
+//! Laws of the orders of labels. Each law is the contract of a function that does nothing.
 
 ghost use Rattle.std.specs.Cmp.{IsTotalOrder};
 ghost use Rattle.std.specs.Cmp.Lexicographic.{slice_cmp};
@@ -8,8 +8,8 @@ ghost use Rattle.coset_label.specs.Sorted.{HasOneOrder};
 
 use coset_cbor::laws;
 
-/// Labels compare as their shortest encodings do: byte by byte (RFC 8949, section 4.2.1), or by their lengths first
-/// (RFC 7049, section 3.9).
+/// Labels compare as their shortest encodings do: byte by byte (RFC 8949, section 4.2.1), or by
+/// length first (RFC 7049, section 3.9).
 pub fn orders_are_of_encodings()
     ensures bytes { (a b : Name) → ComparesEncodings (slice_cmp nat_cmp) a b (name_cmp a b) }
     ensures lengths { (a b : Name) → ComparesEncodings length_first_cmp a b (canonical_cmp a b) }
@@ -24,14 +24,14 @@ pub fn orders_are_total()
     ensures registered { IsTotalOrder registered_cmp }
 {}
 
-/// Of the orders each answers that two labels are level exactly where they are equal.
+/// Each order returns `Equal` exactly when the two labels are equal.
 pub fn orders_tell_apart()
     ensures bytes { TellsApart name_cmp }
     ensures lengths { TellsApart canonical_cmp }
     ensures registered { TellsApart registered_cmp }
 {}
 
-/// Of lists with the same pairs, whose labels all differ, only one is in the order of its labels.
+/// Two lists with the same pairs are equal if their labels all differ and both are sorted by label.
 pub fn one_order()
     ensures bytes { HasOneOrder name_cmp }
     ensures lengths { HasOneOrder canonical_cmp }

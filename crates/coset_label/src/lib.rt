@@ -1,4 +1,4 @@
-//! Labels of COSE (RFC 8152, section 1.4), and those that registries assign.
+//! COSE labels (RFC 8152, section 1.4), and the labels that IANA registries assign.
 #![tactic(auto)]
 
 mod label;

@@ -1,4 +1,4 @@
-//! The registries' labels that COSE names.
+//! The labels of IANA registries that COSE uses.
 
 ghost use Rattle.std.specs.Prelude.{◌≡◌};
 
@@ -7,7 +7,7 @@ use coset_iana::{
     CoapContentFormat, CwtClaimName, EnumI64, KeyOperation as Operation, KeyType as Kind,
 };
 
-/// A content type: a format of CoAP, or a text (RFC 8152, section 3.1).
+/// A content type: a CoAP content format or a text (RFC 8152, section 3.1).
 pub type ContentType = RegisteredLabel<CoapContentFormat>;
 
 /// A key type (RFC 8152, section 7.1).
@@ -19,7 +19,7 @@ pub type KeyOperation = RegisteredLabel<Operation>;
 /// An algorithm (RFC 8152, section 16.4).
 pub type Algorithm = RegisteredLabelWithPrivate<coset_iana::Algorithm>;
 
-/// A claim's name in a CBOR web token (RFC 8392, section 4), with its range for private use.
+/// A claim name in a CBOR Web Token (RFC 8392, section 4), assigned or for private use, or a text.
 pub type ClaimName = RegisteredLabelWithPrivate<CwtClaimName>;
 
 impl Default for Algorithm {
@@ -28,7 +28,7 @@ impl Default for Algorithm {
 
     ghost is_default = { λ label. label ≡ Assigned Reserved };
 
-    /// The reserved algorithm.
+    /// Returns the reserved algorithm.
     fn default() -> Algorithm {
         RegisteredLabelWithPrivate::Assigned(coset_iana::Algorithm::Reserved)
     }
@@ -40,7 +40,7 @@ impl Default for KeyType {
 
     ghost is_default = { λ label. label ≡ Assigned Reserved };
 
-    /// The reserved key type.
+    /// Returns the reserved key type.
     fn default() -> KeyType {
         RegisteredLabel::Assigned(Kind::Reserved)
     }

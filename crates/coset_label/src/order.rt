@@ -1,4 +1,5 @@
-//! The orders of labels: those of their encodings (RFC 8949, section 4.2.1; RFC 7049, section 3.9).
+//! The orders of labels, which are those of their encodings (RFC 8949, section 4.2.1; RFC 7049,
+//! section 3.9).
 
 ghost use Rattle.std.specs.Prelude.{◌≡◌, ◌↔◌, IsTrue};
 ghost use Rattle.std.specs.Ordering.{nat_cmp, on, as_partial_cmp, is_eq};
@@ -19,7 +20,7 @@ use coset_iana::EnumI64;
 use std::cmp::Ordering;
 
 impl Label {
-    /// The label, lent.
+    /// Borrows the label.
     fn label_ref(&self) -> LabelRef<'_>
         ensures { lent_view result ≡ label_view self.now }
     {
@@ -29,7 +30,7 @@ impl Label {
         }
     }
 
-    /// The order of the labels' encodings by their lengths first, and then by their bytes (RFC 7049, section 3.9).
+    /// Compares the labels' encodings by length first, then byte by byte (RFC 7049, section 3.9).
     pub fn cmp_canonical(&self, other: &Label) -> Ordering
         ensures order { result ≡ canonical_cmp (label_view self.now) (label_view other.now) }
         ensures encodings { ComparesEncodings length_first_cmp (label_view self.now)
@@ -49,7 +50,7 @@ impl Ord for Label {
 
     ghost matches_eq = { Prim.search (comparing, rules) };
 
-    /// The byte order of the labels' encodings (RFC 8949, section 4.2.1).
+    /// Compares the labels' encodings byte by byte (RFC 8949, section 4.2.1).
     fn cmp(&self, other: &Label) -> Ordering
         ensures order { result ≡ name_cmp (label_view self.now) (label_view other.now) }
         ensures encodings { ComparesEncodings (slice_cmp nat_cmp) (label_view self.now)
@@ -76,7 +77,7 @@ impl PartialEq for Label {
 
     ghost laws = { Prim.search (comparing, rules) };
 
-    /// Whether the two are one number, or one text.
+    /// Returns true if the labels are the same number or the same text.
     fn eq(&self, other: &Label) -> bool
         ensures level { result ≡ is_eq (name_cmp (label_view self.now) (label_view other.now)) }
         ensures equal { IsTrue result ↔ (label_view self.now ≡ label_view other.now) }
@@ -91,7 +92,7 @@ impl Eq for Label {
 }
 
 impl<T: EnumI64> RegisteredLabel<T> {
-    /// The label, lent.
+    /// Borrows the label.
     fn label_ref(&self) -> LabelRef<'_>
         ensures { lent_view result ≡ registered_view T.number self.now }
     {
@@ -111,7 +112,7 @@ impl<T: EnumI64> Ord for RegisteredLabel<T> {
 
     ghost matches_eq = { Prim.search (comparing, rules) };
 
-    /// The byte order of the labels' encodings (RFC 8949, section 4.2.1).
+    /// Compares the labels' encodings byte by byte (RFC 8949, section 4.2.1).
     fn cmp(&self, other: &RegisteredLabel<T>) -> Ordering
         ensures order { result ≡ name_cmp (registered_view T.number self.now)
             (registered_view T.number other.now) }
@@ -140,7 +141,7 @@ impl<T: EnumI64> PartialEq for RegisteredLabel<T> {
 
     ghost laws = { Prim.search (comparing, rules) };
 
-    /// Whether the two are one number, or one text.
+    /// Returns true if the labels are the same number or the same text.
     fn eq(&self, other: &RegisteredLabel<T>) -> bool
         ensures level { result ≡ is_eq
             (name_cmp (registered_view T.number self.now) (registered_view T.number other.now)) }
@@ -157,7 +158,7 @@ impl<T: EnumI64> Eq for RegisteredLabel<T> {
 }
 
 impl<T: EnumI64> RegisteredLabelWithPrivate<T> {
-    /// The label as such, lent.
+    /// Borrows the label as a number or a text.
     fn label_ref(&self) -> LabelRef<'_>
         ensures { lent_view result ≡ as_name (registered_or_private_view T.number self.now) }
     {
@@ -168,7 +169,7 @@ impl<T: EnumI64> RegisteredLabelWithPrivate<T> {
         }
     }
 
-    /// Whether the label is a number for private use.
+    /// Returns 1 for a private-use number, else 0.
     fn private_rank(&self) -> u8
         ensures { result ≡ private_rank (registered_or_private_view T.number self.now) }
     {
@@ -188,8 +189,8 @@ impl<T: EnumI64> Ord for RegisteredLabelWithPrivate<T> {
 
     ghost matches_eq = { Prim.search (comparing, rules) depth 9 };
 
-    /// The byte order of the labels' encodings (RFC 8949, section 4.2.1); of one number a value of the registry is
-    /// before private use.
+    /// Compares the labels' encodings byte by byte (RFC 8949, section 4.2.1). If the numbers are
+    /// equal, an assigned value comes before a private-use number.
     fn cmp(&self, other: &RegisteredLabelWithPrivate<T>) -> Ordering
         ensures order { result ≡ registered_cmp (registered_or_private_view T.number self.now)
             (registered_or_private_view T.number other.now) }
@@ -222,7 +223,8 @@ impl<T: EnumI64> PartialEq for RegisteredLabelWithPrivate<T> {
     ghost laws = { partial_equiv_from_equiv
         (eq_by_cmp_equiv (on_total (registered_or_private_view T.number) registered_cmp_total)) };
 
-    /// Whether the two are one number, both of the registry or both for private use, or one text.
+    /// Returns true if the labels are the same number or the same text. An assigned value never
+    /// equals a private-use number.
     fn eq(&self, other: &RegisteredLabelWithPrivate<T>) -> bool
         ensures level { result
             ≡ is_eq (registered_cmp (registered_or_private_view T.number self.now)

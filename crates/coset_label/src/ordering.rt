@@ -1,4 +1,4 @@
-//! The two orders of labels by name.
+//! The two orders of labels, as an enum.
 
 ghost use Rattle.std.specs.Prelude.{◌≡◌};
 ghost use Rattle.coset_label.specs.Names.{ComparesEncodings};
@@ -11,14 +11,14 @@ use std::cmp::Ordering;
 /// An order of labels, by their encodings.
 #[derive(Drop)]
 pub enum CborOrdering {
-    /// By their bytes (RFC 8949, section 4.2.1).
+    /// By the bytes of the encodings (RFC 8949, section 4.2.1).
     Lexicographic,
-    /// By their lengths first, and then by their bytes (RFC 7049, section 3.9).
+    /// By the length of the encodings first, then by their bytes (RFC 7049, section 3.9).
     LengthFirstLexicographic,
 }
 
 impl CborOrdering {
-    /// Compares two labels in this order. It takes no memory.
+    /// Compares two labels in this order. Allocates nothing.
     pub fn compare(&self, a: &Label, b: &Label) -> Ordering
         ensures order { result ≡ name_cmp_by self.now (label_view a.now) (label_view b.now) }
         ensures encodings { ComparesEncodings (encoding_cmp_by self.now) (label_view a.now)

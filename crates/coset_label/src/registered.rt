@@ -11,21 +11,22 @@ use coset_iana::{EnumI64, WithPrivateRange};
 use std::alloc::{AllocError, Global};
 use std::fmt;
 
-/// A label of a registry without a private range: one of its values, or a text (RFC 8152, section 16).
+/// A label from a registry without a private-use range: an assigned value or a text (RFC 8152,
+/// section 16).
 ///
 /// ```cddl
 /// registered_label = int / tstr
 /// ```
 #[derive(Debug, Drop)]
 pub enum RegisteredLabel<T> {
-    /// A value of the registry.
+    /// A value that the registry assigns.
     Assigned(T),
     /// A text.
     Text(String),
 }
 
-/// A label of a registry with a private range: one of its values, a number of the range, or a text (RFC 8152, section
-/// 16).
+/// A label from a registry with a private-use range: an assigned value, a private-use number, or a
+/// text (RFC 8152, section 16).
 ///
 /// ```cddl
 /// registered_label_with_private = int / tstr
@@ -34,7 +35,7 @@ pub enum RegisteredLabel<T> {
 pub enum RegisteredLabelWithPrivate<T> {
     /// A number for private use.
     PrivateUse(i64),
-    /// A value of the registry.
+    /// A value that the registry assigns.
     Assigned(T),
     /// A text.
     Text(String),
@@ -60,7 +61,7 @@ impl<T: EnumI64 + Drop> Codec for RegisteredLabel<T> {
     ghost equal = { λ a b. same_name-decides (registered_view T.number a)
         (registered_view T.number b) };
 
-    /// Takes memory only for the text of lent bytes.
+    /// Allocates only to copy a text from borrowed bytes.
     fn read(alloc: Global, input: &mut Decoder<'_>) -> Result<RegisteredLabel<T>> {
         match input.integer() {
             Some(number) => match T::from_i64(i64::try_from(number)?) {
@@ -107,7 +108,7 @@ impl<T: EnumI64 + WithPrivateRange + Drop> Codec for RegisteredLabelWithPrivate<
     ghost equal = { λ a b. registered_cmp-apart (registered_or_private_view T.number a)
         (registered_or_private_view T.number b) };
 
-    /// Takes memory only for the text of lent bytes.
+    /// Allocates only to copy a text from borrowed bytes.
     fn read(alloc: Global, input: &mut Decoder<'_>) -> Result<RegisteredLabelWithPrivate<T>> {
         let Some(number) = input.integer() else {
             return Ok(RegisteredLabelWithPrivate::Text(input.text(alloc, "int/tstr")?));
@@ -141,8 +142,8 @@ impl<T: EnumI64 + WithPrivateRange + Drop> Codec for RegisteredLabelWithPrivate<
     }
 }
 
-/// The value as its own `Display` writes it, which is its name, or the text as its `Debug` writes it: in double quotes, with
-/// escapes.
+/// Writes an assigned value as its own `Display` does, which is its name. Writes a text as its
+/// `Debug` does: in double quotes, with escapes.
 impl<T: fmt::Display> fmt::Display for RegisteredLabel<T> {
     ghost use Rattle.coset_label.specs.Views.{registered_output};
 
@@ -156,8 +157,8 @@ impl<T: fmt::Display> fmt::Display for RegisteredLabel<T> {
     }
 }
 
-/// The number for private use in decimal, the value as its own `Display` writes it, which is its name, or the text as its
-/// `Debug` writes it: in double quotes, with escapes.
+/// Writes a private-use number in decimal, and an assigned value as its own `Display` does, which
+/// is its name. Writes a text as its `Debug` does: in double quotes, with escapes.
 impl<T: fmt::Display> fmt::Display for RegisteredLabelWithPrivate<T> {
     ghost use Rattle.coset_label.specs.Views.{registered_or_private_output};
 
@@ -185,10 +186,10 @@ impl<T: EnumI64 + Clone> Clone for RegisteredLabel<T> {
 }
 
 impl<T: EnumI64 + Clone> RegisteredLabel<T> {
-    /// A label that equals this one. A clone of the registry's value has to equal it.
+    /// Returns an equal label. A clone of a registry value must equal that value.
     ///
     /// # Errors
-    /// `OutOfMemory` alone.
+    /// `OutOfMemory` if an allocation fails.
     pub fn clone(&self) -> Result<RegisteredLabel<T>>
         requires { (x y : T) → T.is_clone x y → y ≡ x }
         ensures copy { IfOk result (λ x. registered_view T.number x
@@ -219,10 +220,10 @@ impl<T: EnumI64 + Clone> Clone for RegisteredLabelWithPrivate<T> {
 }
 
 impl<T: EnumI64 + Clone> RegisteredLabelWithPrivate<T> {
-    /// A label that equals this one. A clone of the registry's value has to equal it.
+    /// Returns an equal label. A clone of a registry value must equal that value.
     ///
     /// # Errors
-    /// `OutOfMemory` alone.
+    /// `OutOfMemory` if an allocation fails.
     pub fn clone(&self) -> Result<RegisteredLabelWithPrivate<T>>
         requires { (x y : T) → T.is_clone x y → y ≡ x }
         ensures copy { IfOk result (λ x. registered_or_private_view T.number x

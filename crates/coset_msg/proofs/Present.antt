@@ -1,4 +1,4 @@
--- What is there, and an error that is passed on.
+-- Properties of values that are present, and errors returned unchanged.
 use Rattle.std.proofs.Common.{◌≡◌, ℕ, List, Option, Some, Result, Ok, Err, sym, subst}
 use Rattle.std.specs.Option.{IfSome}
 use Rattle.std.specs.Prelude.{IsErrAnd}
@@ -10,7 +10,7 @@ use Rattle.coset_codec.specs.declared.error.CallError.TheVariants.{Coset, Caller
 use Rattle.coset_core.specs.Calls.{AsksAbout}
 use Rattle.coset_msg.specs.Presence.{TriesToCreateOf}
 
--- what holds of the one that is there
+-- A property of the value that is present.
 pub if_there : {A : Type 0} {o : Option A} {x : A} (P : A → Type 0) → o ≡ Some x → P x → IfSome o P
 if_there P e h = subst (λ q. IfSome q P) (sym e) h
 
@@ -20,7 +20,7 @@ module _ {F V B E : Type 0} (g : Once F (Bor (List ℕ) × (Bor (List ℕ) × Un
   refused (Caller e) h = h
   refused (Coset e) h = h
 
-  -- an error that is passed on, whatever would have been stored
+  -- An error that is returned unchanged, whatever would have been stored.
   pub passed_on : (e : CallError E) (r : Result B (CallError E)) → IsErrAnd r (λ x. x ≡ e) → AsksAbout g f s o (Err e) → TriesToCreateOf g f s o stores r
   passed_on e (Ok x) is h = absurd is
   passed_on e (Err x) is h = subst (λ y. TriesToCreateOf g f s o stores (Err y)) (sym is) (refused e h)

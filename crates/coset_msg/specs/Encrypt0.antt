@@ -10,7 +10,7 @@ use Rattle.coset_msg.specs.EncStructure.{enc_item}
 use Rattle.coset_msg.specs.declared.encrypt0.CoseEncrypt0 as declared
 use Rattle.coset_msg.specs.declared.enc_structure.EncryptionContext.TheVariants.{CoseEncrypt0}
 
--- a message without its memory
+-- The view of a message.
 pub record Encrypt0View : Type 0 where
   pub protected : ProtectedView
   pub unprotected : HeaderView
@@ -23,7 +23,7 @@ encrypt0_view m = record {
   ciphertext = option_map (λ b. b.items) m.ciphertext;
 }
 
--- one that holds nothing
+-- The empty message.
 abbrev pub empty_encrypt0 : Encrypt0View
 empty_encrypt0 = record { protected = empty_protected; unprotected = empty_header; ciphertext = None }
 
@@ -47,14 +47,14 @@ encrypt0 = mapped encrypt0_of encrypt0_fields (with_headers encrypt0_elements)
 pub encrypt0_laws : Lawful Encrypt0View encrypt0
 encrypt0_laws = mapped_laws encrypt0_of encrypt0_fields (λ x. refl) _ (with_headers_laws encrypt0_elements encrypt0_elements_laws)
 
--- ---- what goes with the ciphertext
+-- ---- the additional authenticated data
 
--- the structure of the message over `external_aad`, where its protected header has bytes
+-- The structure of the message over `external_aad`. `None` if its protected header has no protected bytes.
 abbrev pub encrypt0_structure : Encrypt0View → List ℕ → Option Item
 encrypt0_structure m external_aad = enc_item CoseEncrypt0 m.protected external_aad
 
--- ---- with one field set
+-- ---- one field set
 
--- the message with this ciphertext, and all else as it was
+-- The message with this ciphertext, and its other fields unchanged.
 abbrev pub with_ciphertext : List ℕ → Encrypt0View → Encrypt0View
 with_ciphertext c m = record m { ciphertext = Some c }

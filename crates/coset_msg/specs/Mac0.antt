@@ -10,7 +10,7 @@ use Rattle.coset_msg.specs.MacStructure.{mac_item}
 use Rattle.coset_msg.specs.declared.mac0.CoseMac0 as declared
 use Rattle.coset_msg.specs.declared.mac_structure.MacContext.TheVariants.{CoseMac0}
 
--- a message without its memory
+-- The view of a message.
 pub record Mac0View : Type 0 where
   pub protected : ProtectedView
   pub unprotected : HeaderView
@@ -25,7 +25,7 @@ mac0_view m = record {
   tag = m.tag.items;
 }
 
--- one that holds nothing
+-- The empty message.
 abbrev pub empty_mac0 : Mac0View
 empty_mac0 = record { protected = empty_protected; unprotected = empty_header; payload = None; tag = [] }
 
@@ -49,14 +49,15 @@ mac0 = mapped mac0_of mac0_fields (with_headers mac0_elements)
 pub mac0_laws : Lawful Mac0View mac0
 mac0_laws = mapped_laws mac0_of mac0_fields (λ x. refl) _ (with_headers_laws mac0_elements mac0_elements_laws)
 
--- ---- what is authenticated
+-- ---- the structure to be authenticated
 
--- the structure of the message over `external_aad` and a payload, where its protected header has bytes
+-- The structure of the message over `external_aad` and a payload. `None` if its protected header has no protected
+-- bytes.
 abbrev pub mac0_structure : Mac0View → List ℕ → List ℕ → Option Item
 mac0_structure m external_aad payload = mac_item CoseMac0 m.protected external_aad payload
 
--- ---- with one field set
+-- ---- one field set
 
--- the message with this tag, and all else as it was
+-- The message with this tag, and its other fields unchanged.
 abbrev pub with_tag : List ℕ → Mac0View → Mac0View
 with_tag t m = record m { tag = t }

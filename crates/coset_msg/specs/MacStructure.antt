@@ -11,19 +11,19 @@ abbrev pub mac_text : MacContext → List ℕ
 mac_text CoseMac = codes "MAC"
 mac_text CoseMac0 = codes "MAC0"
 
--- MAC_structure: the context, and then protected : bstr, external_aad : bstr, payload : bstr
+-- MAC_structure: the context, protected : bstr, external_aad : bstr, payload : bstr
 abbrev pub mac_structure : MacContext → List ℕ → List ℕ → List ℕ → Item
 mac_structure context protected external_aad payload = structure (mac_text context) (protected ∷ external_aad ∷ payload ∷ [])
 
--- that structure over the protected bytes of a header; none where it has no such bytes
+-- The structure over the protected bytes of a header. `None` if the header has no protected bytes.
 abbrev pub mac_item : MacContext → ProtectedView → List ℕ → List ℕ → Option Item
 mac_item context p external_aad payload = option_map (λ b. mac_structure context b external_aad payload) (protected_bytes p)
 
--- of the two headers the same is authenticated, in each context, whatever `external_aad` and the payload are
+-- The two headers give the same structure, in each context and for any `external_aad` and payload.
 abbrev pub AuthenticatesSame : ProtectedView → ProtectedView → Type 0
 AuthenticatesSame p q = (context : MacContext) (external_aad payload : List ℕ)
     → mac_item context p external_aad payload ≡ mac_item context q external_aad payload
 
--- something is authenticated
+-- The header gives a structure, in each context and for any `external_aad` and payload.
 abbrev pub Authenticates : ProtectedView → Type 0
 Authenticates p = (context : MacContext) (external_aad payload : List ℕ) → mac_item context p external_aad payload ≡ None → ⊥

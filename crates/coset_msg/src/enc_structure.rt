@@ -1,4 +1,4 @@
-//! The structure that goes with a ciphertext (RFC 8152, section 5.3).
+//! The structure of a ciphertext's additional authenticated data (RFC 8152, section 5.3).
 
 ghost use Rattle.std.specs.Prelude.{◌≡◌, IfOk, IfErr};
 ghost use Rattle.coset_cbor.specs.Shortest.{IsShortest};
@@ -12,8 +12,8 @@ use coset_core::ProtectedHeader;
 use coset_core::structure::structure_bytes;
 use std::alloc::Global;
 
-/// What a ciphertext is part of (RFC 8152, section 5.3). It is in the bytes that go with it, so that those of one
-/// are never those of another.
+/// The context of a ciphertext (RFC 8152, section 5.3). The additional authenticated data contain
+/// it, so the data of one context are never those of another.
 #[derive(Clone, Copy, Debug, PartialEq, Eq)]
 pub enum EncryptionContext {
     /// The content of a `COSE_Encrypt` message.
@@ -31,7 +31,7 @@ pub enum EncryptionContext {
 impl EncryptionContext {
     ghost use Rattle.coset_msg.specs.EncStructure.{enc_text};
 
-    /// Its text in the structure.
+    /// Returns the text of the context in the structure.
     fn text(self) -> &'static str
         ensures { result.now ≡ enc_text self }
     {
@@ -45,10 +45,10 @@ impl EncryptionContext {
     }
 }
 
-/// The bytes that go with a ciphertext, where these are the protected bytes.
+/// Encodes the `Enc_structure` of these protected bytes.
 ///
 /// # Errors
-/// `OutOfMemory` alone.
+/// `OutOfMemory` if an allocation fails.
 fn enc_structure_bytes(
     alloc: Global,
     context: EncryptionContext,
@@ -62,7 +62,8 @@ fn enc_structure_bytes(
     structure_bytes(alloc, context.text(), &[protected, external_aad])
 }
 
-/// The structure over the protected bytes of a header, which isn't cloned; but one that wasn't read is written.
+/// Encodes the `Enc_structure` of this header. Borrows kept bytes, and encodes a header without
+/// kept bytes.
 ///
 /// # Errors
 /// The same as [`enc_structure_data`].
@@ -79,8 +80,8 @@ pub fn enc_structure_of(
     enc_structure_bytes(alloc, context, &protected, external_aad)
 }
 
-/// The bytes that go with a ciphertext as its additional authenticated data (RFC 8152, section 5.3), in
-/// their shortest encoding.
+/// Returns the additional authenticated data: the shortest encoding of an `Enc_structure`
+/// (RFC 8152, section 5.3).
 ///
 /// ```cddl
 /// Enc_structure = [
@@ -90,8 +91,12 @@ pub fn enc_structure_of(
 /// ]
 /// ```
 ///
+/// A header that was read is represented by its kept bytes.
+///
 /// # Errors
-/// `OutOfMemory`, or `DuplicateMapKey` where the header wasn't read and it, or one in it, repeats a label of its rest.
+/// - `OutOfMemory` if an allocation fails.
+/// - `DuplicateMapKey` if the header has no kept bytes and has a label twice in its `rest`. Nested
+///   headers count too, except those inside kept bytes.
 pub fn enc_structure_data(
     alloc: Global,
     context: EncryptionContext,

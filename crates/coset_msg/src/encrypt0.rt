@@ -28,17 +28,17 @@ use std::marker::Model;
 pub struct CoseEncrypt0 {
     /// The header that is authenticated with the ciphertext.
     pub protected: ProtectedHeader,
-    /// The header that isn't.
+    /// The header that isn't authenticated.
     pub unprotected: Header,
-    /// The ciphertext, unless it is detached.
+    /// The ciphertext, or `None` if it is detached.
     pub ciphertext: Option<Vec<u8>>,
 }
 
-/// What the error of another number of elements asks for.
+/// The expected item, as the error for a wrong number of elements names it.
 const PLACES: &str = "array with 3 items";
 
 impl CoseEncrypt0 {
-    /// An empty message: empty headers, no ciphertext. It takes no memory.
+    /// Returns an empty message: empty headers, no ciphertext. Allocates nothing.
     pub fn new(alloc: Global) -> CoseEncrypt0
         ensures { encrypt0_view result ≡ empty_encrypt0 }
     {
@@ -49,12 +49,16 @@ impl CoseEncrypt0 {
         }
     }
 
-    /// The bytes that go with the ciphertext as its additional authenticated data: those of `Enc_structure` (RFC 8152,
-    /// section 5.3), with the protected header as it was read. Whether the message carries its ciphertext doesn't matter.
+    /// Returns the additional authenticated data: the encoded `Enc_structure` (RFC 8152,
+    /// section 5.3).
+    ///
+    /// A protected header that was read is represented by its kept bytes. The message may carry its
+    /// ciphertext or not.
     ///
     /// # Errors
-    /// `OutOfMemory`, or `DuplicateMapKey` where the protected header wasn't read and it, or one in it, repeats a label of
-    /// its rest.
+    /// - `OutOfMemory` if an allocation fails.
+    /// - `DuplicateMapKey` if the protected header has no kept bytes and has a label twice in its
+    ///   `rest`. Nested headers count too, except those inside kept bytes.
     pub fn aad(&self, alloc: Global, external_aad: &[u8]) -> Result<Vec<u8>>
         ensures { Writes (encrypt0_structure (encrypt0_view self.now) external_aad.now) (λ b.
             b.items) result }
@@ -67,7 +71,7 @@ impl CoseEncrypt0 {
         )
     }
 
-    /// The ciphertext, which the message carries.
+    /// Returns the ciphertext, which the message must carry.
     fn carried(&self) -> &[u8]
         requires { self.now.ciphertext ≢ None }
         ensures { (encrypt0_view self.now).ciphertext ≡ Some result.now }
@@ -78,14 +82,15 @@ impl CoseEncrypt0 {
         }
     }
 
-    /// What `cipher` makes of the ciphertext, its first argument, and of the additional authenticated data that go with
-    /// it, its second one (RFC 8152, section 5.3), where the message carries its ciphertext: the plaintext. It is
-    /// called once, unless there is an error of ours, and not at all then.
+    /// Calls `cipher` with the ciphertext and the additional authenticated data (RFC 8152, section
+    /// 5.3), and returns the plaintext.
+    ///
+    /// The message must carry its ciphertext. `cipher` gets its arguments in this order. It is
+    /// called once, or not at all if the additional authenticated data can't be made.
     ///
     /// # Errors
-    /// `OutOfMemory`, or `DuplicateMapKey` where the protected header wasn't read and it, or one in it,
-    /// repeats a label of its rest; or
-    /// `Caller` with the error of `cipher`.
+    /// - `Coset` with an error of [`CoseEncrypt0::aad`].
+    /// - `Caller` with the error of `cipher`.
     pub fn decrypt<F, E>(
         &self,
         alloc: Global,
@@ -104,11 +109,12 @@ impl CoseEncrypt0 {
         verify_with(self.carried(), structure, cipher)
     }
 
-    /// The same as [`CoseEncrypt0::decrypt`], whether the message carries its ciphertext or not: where it carries none,
-    /// `missing` is called for the error, and `cipher` isn't.
+    /// Does the same as [`CoseEncrypt0::decrypt`], also for a message without a ciphertext. If the
+    /// ciphertext is missing, `missing` is called for the error, and `cipher` isn't called.
     ///
     /// # Errors
-    /// The same as [`CoseEncrypt0::decrypt`]; or `Caller` with what `missing` returns.
+    /// - The errors of [`CoseEncrypt0::decrypt`].
+    /// - `Caller` with the result of `missing`, if the message carries no ciphertext.
     pub fn decrypt_ciphertext<F, E, M>(
         &self,
         alloc: Global,
@@ -133,8 +139,8 @@ impl CoseEncrypt0 {
         verify_with(ciphertext, structure, cipher)
     }
 
-    /// The same as [`CoseEncrypt0::decrypt`] where this ciphertext is detached (RFC 9052, section 5.1): it takes the place of one
-    /// that the message carries.
+    /// Does the same as [`CoseEncrypt0::decrypt`] for a detached ciphertext (RFC 9052,
+    /// section 5.1). `ciphertext` takes the place of a ciphertext that the message carries.
     ///
     /// # Errors
     /// The same as [`CoseEncrypt0::decrypt`].
@@ -156,10 +162,10 @@ impl CoseEncrypt0 {
         verify_with(ciphertext, structure, cipher)
     }
 
-    /// A message that equals this one, with the same bytes kept.
+    /// Returns a message equal to this one, kept bytes included.
     ///
     /// # Errors
-    /// `OutOfMemory` alone.
+    /// `OutOfMemory` if an allocation fails.
     pub fn clone(&self) -> Result<CoseEncrypt0>
         ensures copy { IfOk result (λ m. encrypt0_view m ≡ encrypt0_view self.now) }
         ensures memory { IfErr result (λ e. e ≡ OutOfMemory) }
@@ -238,7 +244,8 @@ impl TaggedCodec for CoseEncrypt0 {
     const TAG_NUMBER: u64 = 16;
 }
 
-/// Makes a [`CoseEncrypt0`], field by field. Contracts see it as the message that [`build`](CoseEncrypt0Builder::build) gives.
+/// Builds a [`CoseEncrypt0`] field by field. Contracts see the builder as the message that
+/// [`build`](CoseEncrypt0Builder::build) returns.
 #[derive(Debug, Drop)]
 pub struct CoseEncrypt0Builder(CoseEncrypt0);
 
@@ -257,21 +264,21 @@ impl Model for CoseEncrypt0Builder {
 }
 
 impl CoseEncrypt0Builder {
-    /// An empty message. It takes no memory.
+    /// Returns a builder of an empty message. Allocates nothing.
     pub fn new(alloc: Global) -> CoseEncrypt0Builder
         ensures { encrypt0_view result ≡ empty_encrypt0 }
     {
         CoseEncrypt0Builder(CoseEncrypt0::new(alloc))
     }
 
-    /// The message that was made.
+    /// Returns the finished message.
     pub fn build(self) -> CoseEncrypt0
         ensures { result ≡ self }
     {
         self.0
     }
 
-    /// Sets the protected header: one that was made, and not read, so that it has no bytes of its own yet.
+    /// Sets the protected header. It counts as not read, so it has no kept bytes.
     pub fn protected(mut self, header: Header) -> CoseEncrypt0Builder
         ensures { encrypt0_view result ≡ record
             (encrypt0_view self) { protected = unread (header_view header) } }
@@ -300,10 +307,10 @@ impl CoseEncrypt0Builder {
         self
     }
 
-    /// As [`ciphertext`](CoseEncrypt0Builder::ciphertext), of a copy of these bytes.
+    /// Calls [`ciphertext`](CoseEncrypt0Builder::ciphertext) with a copy of these bytes.
     ///
     /// # Errors
-    /// `OutOfMemory` alone.
+    /// `OutOfMemory` if an allocation fails.
     pub fn ciphertext_from(self, alloc: Global, ciphertext: &[u8]) -> Result<CoseEncrypt0Builder>
         ensures ok { IfOk result (λ b. encrypt0_view b
             ≡ with_ciphertext ciphertext.now (encrypt0_view self)) }
@@ -312,12 +319,16 @@ impl CoseEncrypt0Builder {
         Ok(self.ciphertext(Vec::from_slice(alloc, ciphertext)?))
     }
 
-    /// Sets the ciphertext to what `cipher` makes of the plaintext, its first argument, and of the additional
-    /// authenticated data that go with it, its second one (RFC 8152, section 5.3), so all other fields are set before.
-    /// It is called once, unless there is an error of ours, and not at all then.
+    /// Calls `cipher` with `plaintext` and the additional authenticated data (RFC 8152, section
+    /// 5.3), and sets the ciphertext to its result.
+    ///
+    /// Set all other fields before this call. `cipher` gets its arguments in this order. It is
+    /// called once, or not at all if the additional authenticated data can't be made.
     ///
     /// # Errors
-    /// `OutOfMemory`, or `DuplicateMapKey` where the protected header, or one in it, repeats a label of its rest.
+    /// - `OutOfMemory` if an allocation fails.
+    /// - `DuplicateMapKey` if the protected header has a label twice in its `rest`. Nested headers
+    ///   count too, except those inside kept bytes.
     pub fn create_ciphertext<F>(
         self,
         alloc: Global,
@@ -336,10 +347,11 @@ impl CoseEncrypt0Builder {
         Ok(self.ciphertext(cipher(plaintext, &structure)))
     }
 
-    /// The same as [`CoseEncrypt0Builder::create_ciphertext`] with a `cipher` that may refuse.
+    /// Does the same as [`CoseEncrypt0Builder::create_ciphertext`] with a `cipher` that may fail.
     ///
     /// # Errors
-    /// The same as [`CoseEncrypt0Builder::create_ciphertext`]; or `Caller` with the error of `cipher`.
+    /// - `Coset` with an error of [`CoseEncrypt0Builder::create_ciphertext`].
+    /// - `Caller` with the error of `cipher`.
     pub fn try_create_ciphertext<F, E>(
         self,
         alloc: Global,
@@ -360,8 +372,11 @@ impl CoseEncrypt0Builder {
         Ok(self.ciphertext(ciphertext))
     }
 
-    /// What `cipher` makes of the plaintext as in [`CoseEncrypt0Builder::create_ciphertext`]: the ciphertext, which is detached. The
-    /// message stays as it is, and carries none unless one was set: its place is null (RFC 9052, section 5.1).
+    /// Calls `cipher` as [`CoseEncrypt0Builder::create_ciphertext`] does, and returns its result: a
+    /// detached ciphertext.
+    ///
+    /// The message is unchanged. Unless a ciphertext was set, null is written in its place
+    /// (RFC 9052, section 5.1).
     ///
     /// # Errors
     /// The same as [`CoseEncrypt0Builder::create_ciphertext`].
@@ -382,10 +397,12 @@ impl CoseEncrypt0Builder {
         Ok(cipher(plaintext, &structure))
     }
 
-    /// The same as [`CoseEncrypt0Builder::create_detached_ciphertext`] with a `cipher` that may refuse.
+    /// Does the same as [`CoseEncrypt0Builder::create_detached_ciphertext`] with a `cipher` that
+    /// may fail.
     ///
     /// # Errors
-    /// The same as [`CoseEncrypt0Builder::create_detached_ciphertext`]; or `Caller` with the error of `cipher`.
+    /// - `Coset` with an error of [`CoseEncrypt0Builder::create_detached_ciphertext`].
+    /// - `Caller` with the error of `cipher`.
     pub fn try_create_detached_ciphertext<F, E>(
         &self,
         alloc: Global,

@@ -1,4 +1,7 @@
-//! Laws of the structures, which callers may cite. Each is the contract of a function that does nothing.
+//! Laws of the structures, for callers to cite.
+//!
+//! Each law is the contract of a function that does nothing. A value is "read back" if it was read
+//! from the item that another value is written as. How the item was encoded doesn't matter.
 
 ghost use Rattle.std.specs.Prelude.{◌≡◌};
 ghost use Rattle.coset_codec.specs.AsWritten.{AsWritten, WhenRead};
@@ -11,8 +14,7 @@ ghost use Rattle.coset_msg.specs.MacStructure.{Authenticates, AuthenticatesSame}
 
 use coset_core::laws::kept_as_written;
 
-/// Of a message that was read from what another is written as, plain or under its tag, the same bytes represent the
-/// protected header, however the item was spelled.
+/// A message that is read back, plain or tagged, has the same protected bytes.
 pub fn kept_in_messages()
     ensures mac0 { AsWritten mac0 (λ m n. protected_bytes n.protected
         ≡ protected_bytes m.protected) }
@@ -26,8 +28,9 @@ pub fn kept_in_messages()
     kept_as_written();
 }
 
-/// What is authenticated of a message with a MAC, or goes with the ciphertext of an encrypted one, that was read from
-/// what another is written as, plain or under its tag, is that one's, however the item was spelled.
+/// A message that is read back, plain or tagged, has the same structures.
+///
+/// For a message with a MAC they are `MAC_structure`s, for an encrypted message `Enc_structure`s.
 pub fn structure_as_written()
     ensures mac0 { AsWritten mac0 (λ m n. AuthenticatesSame m.protected n.protected) }
     ensures tagged_mac0 { AsWritten (tagged 17 mac0)
@@ -39,8 +42,10 @@ pub fn structure_as_written()
     kept_as_written();
 }
 
-/// Of a message with a MAC that was read, plain or under its tag, there always is something that is authenticated, and of
-/// an encrypted one something that goes with the ciphertext: its protected header kept the bytes that it was read from.
+/// Every message that was read, plain or tagged, has its structure, because its protected header
+/// kept its bytes.
+///
+/// For a message with a MAC it is a `MAC_structure`, for an encrypted message an `Enc_structure`.
 pub fn structure_when_read()
     ensures mac0 { WhenRead mac0 (λ m. Authenticates m.protected) }
     ensures tagged_mac0 { WhenRead (tagged 17 mac0) (λ m. Authenticates m.protected) }

@@ -1,5 +1,4 @@
-//! Messages that are authenticated by a MAC (RFC 8152, section 6) or encrypted (section 5), and the structures that go
-//! with them.
+//! Messages with a MAC (RFC 8152, section 6), encrypted messages (section 5), and their structures.
 #![tactic(auto)]
 
 pub mod enc_structure;

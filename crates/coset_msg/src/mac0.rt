@@ -28,19 +28,19 @@ use std::marker::Model;
 pub struct CoseMac0 {
     /// The header that the MAC covers.
     pub protected: ProtectedHeader,
-    /// The header that it doesn't cover.
+    /// The header that the MAC doesn't cover.
     pub unprotected: Header,
-    /// What is authenticated, unless it is detached.
+    /// The authenticated content, or `None` if it is detached.
     pub payload: Option<Vec<u8>>,
     /// The MAC.
     pub tag: Vec<u8>,
 }
 
-/// What the error of another number of elements asks for.
+/// The expected item, as the error for a wrong number of elements names it.
 const PLACES: &str = "array with 4 items";
 
 impl CoseMac0 {
-    /// An empty message: empty headers, no payload, an empty tag. It takes no memory.
+    /// Returns an empty message: empty headers, no payload, an empty tag. Allocates nothing.
     pub fn new(alloc: Global) -> CoseMac0
         ensures { mac0_view result ≡ empty_mac0 }
     {
@@ -52,12 +52,16 @@ impl CoseMac0 {
         }
     }
 
-    /// The bytes that are authenticated: those of `MAC_structure` (RFC 8152, section 6.3) over the payload that the message
-    /// carries, with the protected header as it was read; `None` where it carries none ([`CoseMac0::tbm_detached`]).
+    /// Returns the bytes to be authenticated, or `None` if the message carries no payload.
+    ///
+    /// The bytes are the encoded `MAC_structure` (RFC 8152, section 6.3). A protected header that
+    /// was read is represented by its kept bytes. For a detached payload, call
+    /// [`CoseMac0::tbm_detached`].
     ///
     /// # Errors
-    /// `OutOfMemory`, or `DuplicateMapKey` where the protected header wasn't read and it, or one in it, repeats a label of
-    /// its rest.
+    /// - `OutOfMemory` if an allocation fails.
+    /// - `DuplicateMapKey` if the protected header has no kept bytes and has a label twice in its
+    ///   `rest`. Nested headers count too, except those inside kept bytes.
     pub fn tbm(&self, alloc: Global, external_aad: &[u8]) -> Result<Option<Vec<u8>>>
         ensures { WritesWherePresent (λ b. b.items) (mac0_view self.now).payload
             (mac0_structure (mac0_view self.now) external_aad.now) result }
@@ -68,8 +72,8 @@ impl CoseMac0 {
         }
     }
 
-    /// The bytes that are authenticated where this payload is detached (RFC 9052, section 6): it takes the place of one
-    /// that the message carries.
+    /// Returns the bytes to be authenticated for a detached payload (RFC 9052, section 6).
+    /// `payload` takes the place of a payload that the message carries.
     ///
     /// # Errors
     /// The same as [`CoseMac0::tbm`].
@@ -91,7 +95,7 @@ impl CoseMac0 {
         )
     }
 
-    /// The payload, which the message carries.
+    /// Returns the payload, which the message must carry.
     fn carried(&self) -> &[u8]
         requires { self.now.payload ≢ None }
         ensures { (mac0_view self.now).payload ≡ Some result.now }
@@ -102,14 +106,15 @@ impl CoseMac0 {
         }
     }
 
-    /// Asks `verifier` whether the tag, its first argument, is the MAC of the bytes that are authenticated, its second
-    /// one (RFC 8152, section 6.3), where the message carries its payload. It is asked once, unless there is an error
-    /// of ours, and not at all then.
+    /// Calls `verifier` with the tag and the bytes to be authenticated (RFC 8152, section 6.3), in
+    /// this order.
+    ///
+    /// The message must carry its payload. `verifier` decides whether the tag is valid. It is
+    /// called once, or not at all if the bytes can't be made.
     ///
     /// # Errors
-    /// `OutOfMemory`, or `DuplicateMapKey` where the protected header wasn't read and it, or one in it,
-    /// repeats a label of its rest; or
-    /// `Caller` with the error of `verifier`.
+    /// - `Coset` with an error of [`CoseMac0::tbm`].
+    /// - `Caller` with the error of `verifier`.
     pub fn verify_tag<F, E>(
         &self,
         alloc: Global,
@@ -129,11 +134,12 @@ impl CoseMac0 {
         verify_with(&self.tag, structure, verifier)
     }
 
-    /// The same as [`CoseMac0::verify_tag`], whether the message carries its payload or not: where it carries none,
-    /// `missing` is called for the error, and `verifier` isn't.
+    /// Does the same as [`CoseMac0::verify_tag`], also for a message without a payload. If the
+    /// payload is missing, `missing` is called for the error, and `verifier` isn't called.
     ///
     /// # Errors
-    /// The same as [`CoseMac0::verify_tag`]; or `Caller` with what `missing` returns.
+    /// - The errors of [`CoseMac0::verify_tag`].
+    /// - `Caller` with the result of `missing`, if the message carries no payload.
     pub fn verify_payload_tag<F, E, M>(
         &self,
         alloc: Global,
@@ -158,8 +164,8 @@ impl CoseMac0 {
         verify_with(&self.tag, structure, verifier)
     }
 
-    /// The same as [`CoseMac0::verify_tag`] where this payload is detached (RFC 9052, section 6): it takes the place of one
-    /// that the message carries.
+    /// Does the same as [`CoseMac0::verify_tag`] for a detached payload (RFC 9052, section 6).
+    /// `payload` takes the place of a payload that the message carries.
     ///
     /// # Errors
     /// The same as [`CoseMac0::verify_tag`].
@@ -181,10 +187,10 @@ impl CoseMac0 {
         verify_with(&self.tag, structure, verifier)
     }
 
-    /// A message that equals this one, with the same bytes kept.
+    /// Returns a message equal to this one, kept bytes included.
     ///
     /// # Errors
-    /// `OutOfMemory` alone.
+    /// `OutOfMemory` if an allocation fails.
     pub fn clone(&self) -> Result<CoseMac0>
         ensures copy { IfOk result (λ m. mac0_view m ≡ mac0_view self.now) }
         ensures memory { IfErr result (λ e. e ≡ OutOfMemory) }
@@ -274,7 +280,8 @@ impl TaggedCodec for CoseMac0 {
     const TAG_NUMBER: u64 = 17;
 }
 
-/// Makes a [`CoseMac0`], field by field. Contracts see it as the message that [`build`](CoseMac0Builder::build) gives.
+/// Builds a [`CoseMac0`] field by field. Contracts see the builder as the message that
+/// [`build`](CoseMac0Builder::build) returns.
 #[derive(Debug, Drop)]
 pub struct CoseMac0Builder(CoseMac0);
 
@@ -293,21 +300,21 @@ impl Model for CoseMac0Builder {
 }
 
 impl CoseMac0Builder {
-    /// An empty message. It takes no memory.
+    /// Returns a builder of an empty message. Allocates nothing.
     pub fn new(alloc: Global) -> CoseMac0Builder
         ensures { mac0_view result ≡ empty_mac0 }
     {
         CoseMac0Builder(CoseMac0::new(alloc))
     }
 
-    /// The message that was made.
+    /// Returns the finished message.
     pub fn build(self) -> CoseMac0
         ensures { result ≡ self }
     {
         self.0
     }
 
-    /// Sets the protected header: one that was made, and not read, so that it has no bytes of its own yet.
+    /// Sets the protected header. It counts as not read, so it has no kept bytes.
     pub fn protected(mut self, header: Header) -> CoseMac0Builder
         ensures { mac0_view result ≡ record
             (mac0_view self) { protected = unread (header_view header) } }
@@ -336,10 +343,10 @@ impl CoseMac0Builder {
         self
     }
 
-    /// As [`payload`](CoseMac0Builder::payload), of a copy of these bytes.
+    /// Calls [`payload`](CoseMac0Builder::payload) with a copy of these bytes.
     ///
     /// # Errors
-    /// `OutOfMemory` alone.
+    /// `OutOfMemory` if an allocation fails.
     pub fn payload_from(self, alloc: Global, payload: &[u8]) -> Result<CoseMac0Builder>
         ensures ok { IfOk result (λ b. mac0_view b
             ≡ record (mac0_view self) { payload = Some payload.now }) }
@@ -356,10 +363,10 @@ impl CoseMac0Builder {
         self
     }
 
-    /// As [`tag`](CoseMac0Builder::tag), of a copy of these bytes.
+    /// Calls [`tag`](CoseMac0Builder::tag) with a copy of these bytes.
     ///
     /// # Errors
-    /// `OutOfMemory` alone.
+    /// `OutOfMemory` if an allocation fails.
     pub fn tag_from(self, alloc: Global, tag: &[u8]) -> Result<CoseMac0Builder>
         ensures ok { IfOk result (λ b. mac0_view b ≡ with_tag tag.now (mac0_view self)) }
         ensures memory { IfErr result (λ e. e ≡ OutOfMemory) }
@@ -367,12 +374,16 @@ impl CoseMac0Builder {
         Ok(self.tag(Vec::from_slice(alloc, tag)?))
     }
 
-    /// Sets the tag to what `creator` makes of the bytes that are authenticated (RFC 8152, section 6.3), so all other
-    /// fields are set before, the payload too. It is called once, unless there is an error of ours, and not at all
-    /// then.
+    /// Calls `creator` with the bytes to be authenticated (RFC 8152, section 6.3), and sets the tag
+    /// to its result.
+    ///
+    /// Set all other fields before this call, including the payload. `creator` is called once, or
+    /// not at all if the bytes can't be made.
     ///
     /// # Errors
-    /// `OutOfMemory`, or `DuplicateMapKey` where the protected header, or one in it, repeats a label of its rest.
+    /// - `OutOfMemory` if an allocation fails.
+    /// - `DuplicateMapKey` if the protected header has a label twice in its `rest`. Nested headers
+    ///   count too, except those inside kept bytes.
     pub fn create_tag<F>(
         self,
         alloc: Global,
@@ -391,8 +402,11 @@ impl CoseMac0Builder {
         Ok(self.tag(creator(&tbm)))
     }
 
-    /// The same as [`CoseMac0Builder::create_tag`] where this payload is detached (RFC 9052, section 6): it takes the place of
-    /// one that the message carries, and isn't put into it.
+    /// Does the same as [`CoseMac0Builder::create_tag`] for a detached payload (RFC 9052,
+    /// section 6).
+    ///
+    /// `payload` takes the place of a payload that the message carries. It isn't stored in the
+    /// message.
     ///
     /// # Errors
     /// The same as [`CoseMac0Builder::create_tag`].
@@ -414,10 +428,11 @@ impl CoseMac0Builder {
         Ok(self.tag(creator(&structure)))
     }
 
-    /// The same as [`CoseMac0Builder::create_tag`] with a `creator` that may refuse.
+    /// Does the same as [`CoseMac0Builder::create_tag`] with a `creator` that may fail.
     ///
     /// # Errors
-    /// The same as [`CoseMac0Builder::create_tag`]; or `Caller` with the error of `creator`.
+    /// - `Coset` with an error of [`CoseMac0Builder::create_tag`].
+    /// - `Caller` with the error of `creator`.
     pub fn try_create_tag<F, E>(
         self,
         alloc: Global,
@@ -438,10 +453,11 @@ impl CoseMac0Builder {
         Ok(self.tag(tag))
     }
 
-    /// The same as [`CoseMac0Builder::create_detached_tag`] with a `creator` that may refuse.
+    /// Does the same as [`CoseMac0Builder::create_detached_tag`] with a `creator` that may fail.
     ///
     /// # Errors
-    /// The same as [`CoseMac0Builder::create_detached_tag`]; or `Caller` with the error of `creator`.
+    /// - `Coset` with an error of [`CoseMac0Builder::create_detached_tag`].
+    /// - `Caller` with the error of `creator`.
     pub fn try_create_detached_tag<F, E>(
         self,
         alloc: Global,

@@ -12,8 +12,8 @@ use coset_core::ProtectedHeader;
 use coset_core::structure::structure_bytes;
 use std::alloc::Global;
 
-/// What a MAC is part of (RFC 8152, section 6.3). It is in the bytes that are authenticated, so that those of one
-/// are never those of another.
+/// The context of a MAC (RFC 8152, section 6.3). The authenticated bytes contain it, so the bytes
+/// of one context are never those of another.
 #[derive(Clone, Copy, Debug, PartialEq, Eq)]
 pub enum MacContext {
     /// The MAC of a `COSE_Mac` message.
@@ -25,7 +25,7 @@ pub enum MacContext {
 impl MacContext {
     ghost use Rattle.coset_msg.specs.MacStructure.{mac_text};
 
-    /// Its text in the structure.
+    /// Returns the text of the context in the structure.
     fn text(self) -> &'static str
         ensures { result.now ≡ mac_text self }
     {
@@ -36,10 +36,10 @@ impl MacContext {
     }
 }
 
-/// The bytes that are authenticated, where these are the protected bytes.
+/// Encodes the `MAC_structure` of these protected bytes.
 ///
 /// # Errors
-/// `OutOfMemory` alone.
+/// `OutOfMemory` if an allocation fails.
 fn mac_structure_bytes(
     alloc: Global,
     context: MacContext,
@@ -54,7 +54,8 @@ fn mac_structure_bytes(
     structure_bytes(alloc, context.text(), &[protected, external_aad, payload])
 }
 
-/// The structure over the protected bytes of a header, which isn't cloned; but one that wasn't read is written.
+/// Encodes the `MAC_structure` of this header. Borrows kept bytes, and encodes a header without
+/// kept bytes.
 ///
 /// # Errors
 /// The same as [`mac_structure_data`].
@@ -72,7 +73,8 @@ pub fn mac_structure_of(
     mac_structure_bytes(alloc, context, &protected, external_aad, payload)
 }
 
-/// The bytes that are authenticated (RFC 8152, section 6.3), in their shortest encoding.
+/// Returns the bytes to be authenticated: the shortest encoding of a `MAC_structure` (RFC 8152,
+/// section 6.3).
 ///
 /// ```cddl
 /// MAC_structure = [
@@ -83,8 +85,12 @@ pub fn mac_structure_of(
 /// ]
 /// ```
 ///
+/// A header that was read is represented by its kept bytes.
+///
 /// # Errors
-/// `OutOfMemory`, or `DuplicateMapKey` where the header wasn't read and it, or one in it, repeats a label of its rest.
+/// - `OutOfMemory` if an allocation fails.
+/// - `DuplicateMapKey` if the header has no kept bytes and has a label twice in its `rest`. Nested
+///   headers count too, except those inside kept bytes.
 pub fn mac_structure_data(
     alloc: Global,
     context: MacContext,

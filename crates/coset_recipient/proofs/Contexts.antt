@@ -1,4 +1,4 @@
--- Structures determine their contexts and their parts: what a structure is of can be read back from it.
+-- A structure determines its context and its parts, because they can be read back from it.
 use Rattle.std.proofs.Common.{◌≡◌, ℕ, List, [], ◌∷◌, Some, None, Bool, true, false, cond, eqb, refl, sym, ap, ◌∙◌}
 use Rattle.std.specs.Prelude.{sum}
 use Rattle.coset_value.specs.Item.{Item, Items, no_items, item, array, bytes, text}
@@ -15,7 +15,7 @@ use Rattle.coset_msg.specs.declared.enc_structure.EncryptionContext.TheVariants 
 use Rattle.coset_msg.specs.declared.mac_structure.MacContext.{MacContext}
 use Rattle.coset_msg.specs.declared.mac_structure.MacContext.TheVariants as macs
 
--- all twelve contexts, and their texts
+-- All twelve contexts, and their texts.
 data Context : Type 0 where
   of_signature : SignatureContext → Context
   of_mac : MacContext → Context
@@ -28,7 +28,7 @@ text_of (of_mac c) = mac_text c
 text_of (of_encryption c) = enc_text c
 text_of (of_countersignature b) = countersign_text b
 
--- distinguished by the sums of their texts
+-- The sums of their texts tell the contexts apart.
 abbrev is_sum : List ℕ → Context → Context → Context
 is_sum t c d = cond (eqb (sum t) (sum (text_of c))) c d
 
@@ -60,7 +60,7 @@ context_again (of_encryption encryptions.RecRecipient) = refl
 context_again (of_countersignature true) = refl
 context_again (of_countersignature false) = refl
 
--- the byte strings in front, and those of the list behind them
+-- The byte strings of a structure, and the byte strings in the list at its end.
 abbrev strings_in : Items → List (List ℕ)
 strings_in (item (bytes s) vs) = s ∷ strings_in vs
 strings_in vs = []
@@ -74,7 +74,7 @@ strings-again : (ss : List (List ℕ)) → strings_in (byte_strings_and ss no_it
 strings-again [] = refl
 strings-again (s ∷ ss) = ap (λ (x : List (List ℕ)). s ∷ x) (strings-again ss)
 
--- what a structure of that context and of these parts is of
+-- The context with these parts.
 abbrev made : Context → List (List ℕ) → List (List ℕ) → Structured
 made (of_signature c) (p ∷ a ∷ l ∷ []) os = signed c p None a l
 made (of_signature c) (p ∷ s ∷ a ∷ l ∷ ps) os = signed c p (Some s) a l
@@ -88,7 +88,7 @@ abbrev read_back : Item → Structured
 read_back (array (item (text t) vs)) = made (context_of t) (strings_in vs) (others_in vs)
 read_back v = encrypted encryptions.CoseEncrypt [] []
 
--- it is that again
+-- Reading a structure back returns its context and parts.
 again : (x : Structured) → read_back (structure_of x) ≡ x
 again (signed c p None a l) = ap (λ (d : Context). made d (p ∷ a ∷ l ∷ []) []) (context_again (of_signature c))
 again (signed c p (Some s) a l) = ap (λ (d : Context). made d (p ∷ s ∷ a ∷ l ∷ []) []) (context_again (of_signature c))
@@ -99,6 +99,6 @@ again (countersigned p None a l os) = ap (λ (d : Context). made d (p ∷ a ∷ 
 again (countersigned p (Some s) a l os) = ap (λ (d : Context). made d (p ∷ s ∷ a ∷ l ∷ []) (strings_in (byte_strings_and os no_items)))
     (context_again (of_countersignature true)) ∙ ap (λ xs. countersigned p (Some s) a l xs) (strings-again os)
 
--- so equal structures are of the same
+-- Therefore equal structures have the same context and parts.
 pub same_structured : (x y : Structured) → structure_of x ≡ structure_of y → x ≡ y
 same_structured x y e = sym (again x) ∙ (ap read_back e ∙ again y)

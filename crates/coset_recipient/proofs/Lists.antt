@@ -1,4 +1,4 @@
--- Recipients in a row.
+-- Lists of recipients.
 use Rattle.std.proofs.Common.{◌≡◌, ◌≢◌, ◌++◌, ◌∙◌, ◌==◌, ℕ, suc, List, [], ◌∷◌, false, Option, map, option_map, length, refl, sym, ap, arith}
 use Rattle.std.specs.Prelude.{OnOk, Result, Ok, Err}
 use Rattle.std.specs.declared.alloc.AllocError.{AllocError}
@@ -12,7 +12,7 @@ use Rattle.coset_recipient.specs.RecipientSame.{recipients_eq}
 use Rattle.coset_recipient.specs.RecipientViews.{recipient_view, recipient-rolled, recipient-unrolled}
 use Rattle.coset_recipient.specs.declared.recipient.CoseRecipient.{CoseRecipient, CoseRecipient-F, out-CoseRecipient, roll-CoseRecipient}
 
--- those of lists of unequal lengths aren't the same
+-- Lists of unequal lengths aren't equal.
 pub unequal : {T : Type 0} (view : T → RecipientView) (rs ss : List T) → length rs ≢ length ss
     → false ≡ recipients_eq (recipients_of (map view rs)) (recipients_of (map view ss))
 unequal view [] [] h = absurd (h refl)
@@ -20,17 +20,17 @@ unequal view (r ∷ rs) (s ∷ ss) h = sym (and_right _ _ (sym (unequal view rs 
 unequal view [] (s ∷ ss) h = refl
 unequal view (r ∷ rs) [] h = refl
 
--- there are none where the list is empty
+-- There are no recipients exactly if the list is empty.
 pub none_where_empty : {T : Type 0} (view : T → RecipientView) (rs : List T) → (length rs == 0) ≡ are_none (recipients_of (map view rs))
 none_where_empty view [] = refl
 none_where_empty view (r ∷ rs) = grind (arith, common_steps)
 
--- one more behind the others
+-- Pushing one more recipient.
 pub recipients-pushed : (rs : List RecipientView) (r : RecipientView) → recipients_of (rs ++ r ∷ []) ≡ then_recipient (recipients_of rs) r
 recipients-pushed [] r = refl
 recipients-pushed (x ∷ rs) r = ap (and_recipients x) (recipients-pushed rs r)
 
--- ---- a recipient that is copied, and one with one more inside it
+-- ---- a copy of a recipient, and one more nested recipient
 
 abbrev fields_of : CoseRecipient-F CoseRecipient → ProtectedView × (HeaderView × Option (List ℕ))
 fields_of x = (protected_view x.protected, (header_view x.unprotected, option_map (λ b. b.items) x.ciphertext))

@@ -1,4 +1,4 @@
--- Recipients read forward, from what their parts answer.
+-- Reading recipients, from the results of reading their parts.
 use Rattle.std.proofs.Common.{◌≡◌, ◌⊎◌, ℕ, List, [], map, Option, Result, Ok, Err, refl, sym, ap, subst, ◌∙◌, inl, inr}
 use Rattle.std.specs.Prelude.{IsErrAnd}
 use Rattle.coset_value.specs.Item.{Item, array, Items, no_items, item}
@@ -18,7 +18,7 @@ use Rattle.coset_recipient.specs.RecipientReading.{BeginsThree, FillsFirst, Fill
 use Rattle.coset_recipient.specs.RecipientViews.{recipient_view, recipient-unrolled}
 use Rattle.coset_recipient.specs.declared.recipient.CoseRecipient.{CoseRecipient, out-CoseRecipient}
 
--- a fault of one level
+-- A fault of one level is a fault of the recipient.
 fault_made : (v : Item) (e : CoseError) → (recipient_step recipient).faults v e → recipient.faults v e
 fault_made v e f = (recipient-made.faults v e f).1
 
@@ -34,7 +34,7 @@ not_entered want v t z x given kept e y r is same was entered =
     let here : EntersArray want v t z (Err e) = subst (EntersArray want v t z) (sym same ∙ ap (stored e) was) entered in
     (here.0, not_filled recipient x v r e y is (λ n. fault_made v e (inl (here.1, here.2))))
 
--- ---- its elements
+-- ---- the elements of a recipient
 
 too_few : (m : Items → Type 0) (vs : Items) → wrong_length_after 3 Never vs → FirstWrongLength (FirstWrongLength (FirstWrongLength m)) vs
 too_few m no_items h = tt
@@ -101,7 +101,7 @@ elements_filled vs s t z m n x rs r b last inside =
     let h = last b.3 b.5 in
     (h.0, subst (λ ws. Fills recipient (array ws) x r) (sym b.4) (elements_read b.0 b.1 b.2 b.3 x rs r h.1 inside b.6))
 
--- ---- a recipient that holds nothing
+-- ---- the empty recipient
 
 pub none_inside : (r : CoseRecipient) → recipient_view r ≡ empty_recipient → map recipient_view (out-CoseRecipient r).recipients.items ≡ []
 none_inside r e = sym (each-again (map recipient_view (out-CoseRecipient r).recipients.items)) ∙ ap (λ x. each_of x.recipients) (sym (recipient-unrolled r) ∙ e)

@@ -1,4 +1,4 @@
--- Recipients written, from what their parts answer.
+-- Writing recipients, from the results of writing their parts.
 use Rattle.std.proofs.Common.{◌≡◌, ◌≢◌, ◌<◌, ◌+◌, ◌^◌, ◌++◌, ◌∙◌, ℕ, suc, List, [], ◌∷◌, true, false, true≢false, Option, Some, None, option_map, Result, Ok}
 use Rattle.std.proofs.Common.{Err, refl, sym, ap, subst, arith}
 use Rattle.coset_value.specs.Item.{Item, array, Items, no_items, item}
@@ -53,7 +53,7 @@ no_array : (o : Option Items) → option_map array o ≡ None → o ≡ None
 no_array (Some vs) e = absurd (cc)
 no_array None e = refl
 
--- of an array with a place that has no item there is none
+-- An array has no image if one of its elements has none.
 unplaced : (a b c : Option Item) (o : Option Items) → o ≡ None → option_map array (both item a (both item b (both item c o))) ≡ None
 unplaced a b c o e =
     ap (λ p. option_map array (both item a (both item b (both item c p)))) e
@@ -103,7 +103,7 @@ first_written r n old head one two new (Ok t) count small first p u c =
 first_written r n old head one two new (Err e) count small first p u c =
     λ m. let none = c m in (none.0, no_third _ _ ((or_nil bstr).image r.ciphertext) _ none.1)
 
--- ---- how many elements
+-- ---- the number of elements
 
 pub none_of : (rs : Recipients) → are_none rs ≡ true → rs ≡ no_recipients
 none_of no_recipients e = refl

@@ -1,4 +1,4 @@
--- Recipients, and messages that have them, that were read, and that were read from what others are written as.
+-- Recipients, and messages with recipients, after reading, and after writing and reading.
 use Rattle.std.proofs.Common.{◌≡◌, List, [], ◌∷◌, false, sym, ◌∙◌, true≢false}
 use Rattle.std.specs.Prelude.{⊤}
 use Rattle.coset_codec.specs.AsWritten.{AsWritten, WhenRead, ElementsAsWritten, ElementsWhenRead}
@@ -99,7 +99,7 @@ encrypt_when_read v m d =
     let all = message_when_read encrypt_elements Encrypts _ encrypts_when_read elements v (encrypt_fields m) d in
     (all.0, all.1.1.1.0)
 
--- ---- what is kept
+-- ---- protected bytes
 
 pub recipient_kept : KeptAsWritten → AsWritten recipient (λ r s. KeepsBytes r.protected s.protected)
 recipient_kept kept v r s e d =
@@ -112,7 +112,7 @@ mac_kept kept v m n e d = header_as_written mac_elements KeepsBytes kept v (mac_
 pub encrypt_kept : KeptAsWritten → AsWritten encrypt (λ m n. KeepsBytes m.protected n.protected)
 encrypt_kept kept v m n e d = header_as_written encrypt_elements KeepsBytes kept v (encrypt_fields m) (encrypt_fields n) e d
 
--- ---- what their countersignatures are over
+-- ---- countersignatures
 
 pub recipient_countersigned :
     KeptAsWritten → SignaturesKeptAsWritten → AsWritten recipient (λ r s. EachCountersignsSame r.protected r.unprotected s.protected s.unprotected)

@@ -13,7 +13,7 @@ use Rattle.coset_recipient.specs.Recipient.{RecipientView, recipient}
 use Rattle.coset_recipient.specs.RecipientLaws.{recipient_laws}
 use Rattle.coset_recipient.specs.RecipientViews.{recipient_view}
 
--- a message without its memory
+-- The view of a message.
 pub record EncryptView : Type 0 where
   pub protected : ProtectedView
   pub unprotected : HeaderView
@@ -28,7 +28,7 @@ encrypt_view m = record {
   recipients = map recipient_view m.recipients.items;
 }
 
--- one that holds nothing
+-- The empty message.
 abbrev pub empty_encrypt : EncryptView
 empty_encrypt = record { protected = empty_protected; unprotected = empty_header; ciphertext = None; recipients = [] }
 
@@ -52,18 +52,18 @@ encrypt = mapped encrypt_of encrypt_fields (with_headers encrypt_elements)
 pub encrypt_laws : Lawful EncryptView encrypt
 encrypt_laws = mapped_laws encrypt_of encrypt_fields (λ x. refl) _ (with_headers_laws encrypt_elements encrypt_elements_laws)
 
--- ---- what goes with the ciphertext
+-- ---- the additional authenticated data
 
--- the structure of the message over `external_aad`, where its protected header has bytes
+-- The structure of the message over `external_aad`. `None` if its protected header has no protected bytes.
 abbrev pub encrypt_structure_of : EncryptView → List ℕ → Option Item
 encrypt_structure_of m external_aad = enc_item CoseEncrypt m.protected external_aad
 
--- ---- with one field set, and with one recipient more
+-- ---- one field set, and one more recipient
 
--- the message with this ciphertext, and all else as it was
+-- The message with this ciphertext, and its other fields unchanged.
 abbrev pub with_ciphertext : List ℕ → EncryptView → EncryptView
 with_ciphertext c m = record m { ciphertext = Some c }
 
--- behind the others
+-- The message with this recipient after the others.
 abbrev pub and_encrypt_recipient : RecipientView → EncryptView → EncryptView
 and_encrypt_recipient r m = record m { recipients = m.recipients ++ r ∷ [] }

@@ -13,7 +13,7 @@ use Rattle.coset_recipient.specs.Recipient.{RecipientView, recipient}
 use Rattle.coset_recipient.specs.RecipientLaws.{recipient_laws}
 use Rattle.coset_recipient.specs.RecipientViews.{recipient_view}
 
--- a message without its memory
+-- The view of a message.
 pub record MacView : Type 0 where
   pub protected : ProtectedView
   pub unprotected : HeaderView
@@ -30,7 +30,7 @@ mac_view m = record {
   recipients = map recipient_view m.recipients.items;
 }
 
--- one that holds nothing
+-- The empty message.
 abbrev pub empty_mac : MacView
 empty_mac = record { protected = empty_protected; unprotected = empty_header; payload = None; tag = []; recipients = [] }
 
@@ -55,18 +55,19 @@ mac = mapped mac_of mac_fields (with_headers mac_elements)
 pub mac_laws : Lawful MacView mac
 mac_laws = mapped_laws mac_of mac_fields (λ x. refl) _ (with_headers_laws mac_elements mac_elements_laws)
 
--- ---- what is authenticated
+-- ---- the structure to be authenticated
 
--- the structure of the message over `external_aad` and a payload, where its protected header has bytes
+-- The structure of the message over `external_aad` and a payload. `None` if its protected header has no protected
+-- bytes.
 abbrev pub mac_structure_of : MacView → List ℕ → List ℕ → Option Item
 mac_structure_of m external_aad payload = mac_item CoseMac m.protected external_aad payload
 
--- ---- with one field set, and with one recipient more
+-- ---- one field set, and one more recipient
 
--- the message with this tag, and all else as it was
+-- The message with this tag, and its other fields unchanged.
 abbrev pub with_tag : List ℕ → MacView → MacView
 with_tag t m = record m { tag = t }
 
--- behind the others
+-- The message with this recipient after the others.
 abbrev pub and_mac_recipient : RecipientView → MacView → MacView
 and_mac_recipient r m = record m { recipients = m.recipients ++ r ∷ [] }

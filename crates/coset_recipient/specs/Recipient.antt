@@ -9,15 +9,14 @@ use Rattle.coset_msg.specs.EncStructure.{enc_item}
 use Rattle.coset_msg.specs.declared.enc_structure.EncryptionContext.{EncryptionContext}
 use Rattle.coset_msg.specs.declared.enc_structure.EncryptionContext.TheVariants.{CoseEncrypt, CoseEncrypt0, EncRecipient, MacRecipient, RecRecipient}
 
--- ---- recipients without their memory
+-- ---- views of recipients
 
--- Recipients, one after the other: of each its protected header, its unprotected one, its ciphertext, and the recipients
--- inside it
+-- A list of recipients. Each has a protected header, an unprotected header, a ciphertext, and nested recipients.
 pub data Recipients : Type 0 where
   no_recipients : Recipients
   recipient_and : ProtectedView → HeaderView → Option (List ℕ) → Recipients → Recipients → Recipients
 
--- a recipient without its memory
+-- The view of a recipient.
 pub record RecipientView : Type 0 where
   pub protected : ProtectedView
   pub unprotected : HeaderView
@@ -31,7 +30,7 @@ abbrev pub recipients_of : List RecipientView → Recipients
 recipients_of [] = no_recipients
 recipients_of (r ∷ rs) = and_recipients r (recipients_of rs)
 
--- the same as a list
+-- The recipients as a list.
 abbrev pub each_of : Recipients → List RecipientView
 each_of no_recipients = []
 each_of (recipient_and p u c inside more) = record { protected = p; unprotected = u; ciphertext = c; recipients = inside } ∷ each_of more
@@ -40,11 +39,11 @@ abbrev pub are_none : Recipients → Bool
 are_none no_recipients = true
 are_none (recipient_and p u c inside more) = false
 
--- one that holds nothing
+-- The empty recipient.
 abbrev pub empty_recipient : RecipientView
 empty_recipient = record { protected = empty_protected; unprotected = empty_header; ciphertext = None; recipients = no_recipients }
 
--- ---- which items represent them
+-- ---- which items represent recipients
 
 abbrev pub are_some : {A : Type 0} → List A → Bool
 are_some [] = false
@@ -56,20 +55,20 @@ recipient_of p = record { protected = p.0; unprotected = p.1.0; ciphertext = p.1
 abbrev pub recipient_fields : RecipientView → WithHeaders (Option (List ℕ) × List RecipientView)
 recipient_fields r = (r.protected, (r.unprotected, (r.ciphertext, each_of r.recipients)))
 
--- ciphertext : bstr / nil, ? recipients, of which s is the shape: they are left out where there are none
+-- ciphertext : bstr / nil, ? recipients, with s as their shape. An empty list is left out.
 abbrev pub recipient_elements : Shape (List RecipientView) → Elements (Option (List ℕ) × List RecipientView)
 recipient_elements s = or_nil bstr then optional_last [] are_some s
 
 abbrev pub recipient_with : Shape (List RecipientView) → Shape RecipientView
 recipient_with s = mapped recipient_of recipient_fields (with_headers (recipient_elements s))
 
--- [Headers, ciphertext : bstr / nil, ? recipients : [* COSE_recipient]], where s is the shape of those inside it
+-- [Headers, ciphertext : bstr / nil, ? recipients : [* COSE_recipient]], with s as the shape of the nested recipients
 abbrev pub recipient_step : Shape RecipientView → Shape RecipientView
 recipient_step s = recipient_with (list_of s)
 
--- ---- the items that they are written as
+-- ---- images of recipients
 
--- a place for those inside, where there are some, which are written as these items
+-- The optional last element, if there are nested recipients: an array of these items.
 abbrev pub inside_place : Recipients → Option Items → Option Items
 inside_place no_recipients o = Some no_items
 inside_place (recipient_and p u c inside more) o = last_image true (option_map array o)
@@ -87,13 +86,13 @@ recipient_image r = recipient_array r.protected r.unprotected r.ciphertext (insi
 
 -- ---- the shape
 
--- COSE_recipient, with however many others one inside another
+-- COSE_recipient, with recipients nested to any depth.
 unfoldable pub recipient : Shape RecipientView
 recipient = recursive recipient_step recipient_image
 
--- ---- what goes with the ciphertext
+-- ---- the additional authenticated data
 
--- a recipient's contexts, of which there are three
+-- The three contexts of a recipient.
 abbrev pub IsOfRecipient : EncryptionContext → Type 0
 IsOfRecipient CoseEncrypt = ⊥
 IsOfRecipient CoseEncrypt0 = ⊥
@@ -101,21 +100,21 @@ IsOfRecipient EncRecipient = Unit {0}
 IsOfRecipient MacRecipient = Unit {0}
 IsOfRecipient RecRecipient = Unit {0}
 
--- the structure of the recipient over `external_aad`, where its protected header has bytes
+-- The structure of the recipient over `external_aad`. `None` if its protected header has no protected bytes.
 abbrev pub recipient_structure : EncryptionContext → RecipientView → List ℕ → Option Item
 recipient_structure context r external_aad = enc_item context r.protected external_aad
 
--- ---- with one field set, and with one recipient more
+-- ---- one field set, and one more recipient
 
--- the recipient with this ciphertext, and all else as it was
+-- The recipient with this ciphertext, and its other fields unchanged.
 abbrev pub with_ciphertext : List ℕ → RecipientView → RecipientView
 with_ciphertext c r = record r { ciphertext = Some c }
 
--- behind the others
+-- The recipients with this one after the others.
 abbrev pub then_recipient : Recipients → RecipientView → Recipients
 then_recipient no_recipients r = and_recipients r no_recipients
 then_recipient (recipient_and p u c inside more) r = recipient_and p u c inside (then_recipient more r)
 
--- the recipient with one more inside it, behind the others
+-- The recipient with one more nested recipient after the others.
 abbrev pub and_recipient : RecipientView → RecipientView → RecipientView
 and_recipient r all = record all { recipients = then_recipient all.recipients r }

@@ -47,7 +47,7 @@ step_passes some s t p =
     (array_passes some _ _ (then_passes some protected _ _
     (then_passes some header _ _ (then_passes some (or_nil bstr) _ _ (optional_last_passes some [] are_some s t p)))))
 
--- ---- what recipients are written as
+-- ---- images of recipients
 
 images_are : (s : Shape RecipientView) → ((r : RecipientView) → s.image r ≡ recipient_image r) → (rs : Recipients)
     → images s.image (each_of rs) ≡ recipients_image rs
@@ -81,7 +81,7 @@ pub recipient_laws : Lawful RecipientView recipient
 unfolding recipient
 recipient_laws = recursive_laws recipient_step recipient_image step
 
--- it is the shape of a recipient whose own have that shape
+-- A recipient with nested recipients of this shape has this shape.
 pub recipient-made : Below RecipientView (recipient_step recipient) recipient
 unfolding recipient
 recipient-made = recursive_step recipient_step recipient_image step

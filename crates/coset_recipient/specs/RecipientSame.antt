@@ -1,4 +1,4 @@
--- Whether two recipients are the same, as tests that compute. They answer `true` exactly where the recipients are equal.
+-- Tests that compute whether two recipients are equal. They return `true` exactly when the views are equal.
 use Rattle.std.specs.Prelude.{◌≡◌, Bool, true, false, ◌==◌, ◌&&◌, refl}
 use Rattle.std.specs.Option.{option_eq}
 use Rattle.std.specs.Cmp.{IsEquivalence, decided}
@@ -14,14 +14,14 @@ use Rattle.coset_codec.specs.EqDecides.{EqDecides}
 use Rattle.coset_recipient.specs.RecipientViews.{recipient_view}
 use Rattle.coset_recipient.specs.Recipient.{Recipients, no_recipients, recipient_and, RecipientView}
 
--- as many, each with the same headers, the same ciphertext or none of either, and the same recipients as its counterpart
+-- There are as many recipients in both, and each has the same fields as its counterpart.
 abbrev pub recipients_eq : Recipients → Recipients → Bool
 recipients_eq no_recipients no_recipients = true
 recipients_eq (recipient_and p u c inside more) (recipient_and q v d others rest) =
     (protected_eq p q && (header_eq u v && (option_eq (pointwise ◌==◌) c d && recipients_eq inside others))) && recipients_eq more rest
 recipients_eq rs ss = false
 
--- whether two are the same, as a test that computes
+-- The test whether two recipients are equal.
 abbrev pub recipient_eq : RecipientView → RecipientView → Bool
 recipient_eq r s =
     protected_eq r.protected s.protected
@@ -65,10 +65,10 @@ recipient_eq-decides r s =
     (Decides-and (option_eq (pointwise ◌==◌) r.ciphertext s.ciphertext) (recipients_eq r.recipients s.recipients)
     (option_eq-decides (pointwise ◌==◌) bytes_decides r.ciphertext s.ciphertext) (recipients_eq-decides r.recipients s.recipients))))
 
--- so it is reflexive, symmetric and transitive
+-- Therefore the test is reflexive, symmetric and transitive.
 pub recipient_eq_equiv : IsEquivalence recipient_eq
 recipient_eq_equiv = decided recipient_eq recipient_eq-decides
 
--- `==` is equality of what contracts see
+-- `==` is equality of views.
 pub recipient_decides : EqDecides recipient_view (on recipient_view recipient_eq)
 recipient_decides r s = recipient_eq-decides (recipient_view r) (recipient_view s)

@@ -1,11 +1,11 @@
--- Recipients without their memory: one that was made, and one that is opened.
+-- Views of recipients, one level of nesting at a time.
 use Rattle.std.specs.Prelude.{◌≡◌, map, option_map}
 use Rattle.coset_core.specs.Views.{header_view, protected_view}
 use Rattle.coset_recipient.specs.Recipient.{RecipientView, recipients_of}
 use Rattle.coset_recipient.specs.declared.recipient.CoseRecipient.{CoseRecipient, CoseRecipient-F, fold-CoseRecipient, out-CoseRecipient, roll-CoseRecipient}
 use Rattle.coset_recipient.specs.declared.recipient.CoseRecipient.{fold-roll-CoseRecipient, fold_out-CoseRecipient}
 
--- one level, where those inside are seen already
+-- The view of one level whose nested recipients are views already.
 abbrev pub recipient_level : CoseRecipient-F RecipientView → RecipientView
 recipient_level r = record {
   protected = protected_view r.protected;
@@ -17,7 +17,7 @@ recipient_level r = record {
 abbrev pub recipient_view : CoseRecipient → RecipientView
 recipient_view = fold-CoseRecipient RecipientView recipient_level
 
--- what one level is seen as
+-- The view of one level whose nested recipients are recipients.
 abbrev pub opened : CoseRecipient-F CoseRecipient → RecipientView
 opened r = record {
   protected = protected_view r.protected;

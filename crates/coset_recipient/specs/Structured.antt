@@ -1,5 +1,4 @@
--- The structures of all twelve contexts together (RFC 8152, sections 4.4, 5.3 and 6.3; and those of version 2
--- countersignatures).
+-- The structures of all twelve contexts (RFC 8152, sections 4.4, 5.3 and 6.3, and countersignatures of version 2).
 use Rattle.std.specs.Prelude.{ℕ, List, Option}
 use Rattle.coset_value.specs.Item.{Item}
 use Rattle.coset_sign.specs.Countersigned.{countersign_structure}
@@ -10,17 +9,18 @@ use Rattle.coset_msg.specs.MacStructure.{mac_structure}
 use Rattle.coset_msg.specs.declared.enc_structure.EncryptionContext.{EncryptionContext}
 use Rattle.coset_msg.specs.declared.mac_structure.MacContext.{MacContext}
 
--- a context and its parts: what is signed, with the body, the signer where there is one, `external_aad` and the payload;
--- what is authenticated, with the protected bytes, `external_aad` and the payload; what goes with a ciphertext, with the
--- protected bytes and `external_aad`; what a countersignature of version 2 is over, with the body, the signer where there is
--- one, `external_aad`, the payload and the other fields
+-- A context and its parts.
+-- - `signed`: the body, the signer if there is one, `external_aad`, the payload.
+-- - `authenticated`: the protected bytes, `external_aad`, the payload.
+-- - `encrypted`: the protected bytes, `external_aad`.
+-- - `countersigned`, of version 2: the body, the signer if there is one, `external_aad`, the payload, the other fields.
 pub data Structured : Type 0 where
   signed : SignatureContext → List ℕ → Option (List ℕ) → List ℕ → List ℕ → Structured
   authenticated : MacContext → List ℕ → List ℕ → List ℕ → Structured
   encrypted : EncryptionContext → List ℕ → List ℕ → Structured
   countersigned : List ℕ → Option (List ℕ) → List ℕ → List ℕ → List (List ℕ) → Structured
 
--- its structure
+-- The structure of this context and these parts.
 abbrev pub structure_of : Structured → Item
 structure_of (signed context body signer external_aad payload) = signature_structure context body signer external_aad payload
 structure_of (authenticated context protected external_aad payload) = mac_structure context protected external_aad payload

@@ -22,30 +22,31 @@ use coset_msg::enc_structure::enc_structure_of;
 use std::alloc::{AllocError, Global};
 use std::marker::Model;
 
-/// An encrypted message, and recipients that come to the key: `COSE_Encrypt` (RFC 8152, section 5.1).
+/// An encrypted message, and recipients that obtain its key: `COSE_Encrypt` (RFC 8152,
+/// section 5.1).
 ///
 /// ```cddl
 /// COSE_Encrypt = [ Headers, ciphertext : bstr / nil, recipients : [+ COSE_recipient] ]
 /// ```
 ///
-/// A message without recipients is read and written too.
+/// A message without recipients can be read and written too.
 #[derive(Debug, Drop, PartialEq, Eq)]
 pub struct CoseEncrypt {
     /// The header that is authenticated with the ciphertext.
     pub protected: ProtectedHeader,
-    /// The header that isn't.
+    /// The header that isn't authenticated.
     pub unprotected: Header,
-    /// The ciphertext, unless it is detached.
+    /// The ciphertext, or `None` if it is detached.
     pub ciphertext: Option<Vec<u8>>,
-    /// Who can decrypt the message, and how they come to the key.
+    /// The recipients that can decrypt the message, and how they obtain the key.
     pub recipients: Vec<CoseRecipient>,
 }
 
-/// What the error of another number of elements asks for.
+/// The expected item, as the error for a wrong number of elements names it.
 const PLACES: &str = "array with 4 items";
 
 impl CoseEncrypt {
-    /// An empty message: empty headers, no ciphertext, no recipients. It takes no memory.
+    /// Returns an empty message: empty headers, no ciphertext, no recipients. Allocates nothing.
     pub fn new(alloc: Global) -> CoseEncrypt
         ensures { encrypt_view result ≡ empty_encrypt }
     {
@@ -57,12 +58,16 @@ impl CoseEncrypt {
         }
     }
 
-    /// The bytes that go with the ciphertext as its additional authenticated data: those of `Enc_structure` (RFC 8152,
-    /// section 5.3), with the protected header as it was read. Whether the message carries its ciphertext doesn't matter.
+    /// Returns the additional authenticated data: the encoded `Enc_structure` (RFC 8152,
+    /// section 5.3).
+    ///
+    /// A protected header that was read is represented by its kept bytes. The message may carry its
+    /// ciphertext or not.
     ///
     /// # Errors
-    /// `OutOfMemory`, or `DuplicateMapKey` where the protected header wasn't read and it, or one in it, repeats a label of
-    /// its rest.
+    /// - `OutOfMemory` if an allocation fails.
+    /// - `DuplicateMapKey` if the protected header has no kept bytes and has a label twice in its
+    ///   `rest`. Nested headers count too, except those inside kept bytes.
     pub fn aad(&self, alloc: Global, external_aad: &[u8]) -> Result<Vec<u8>>
         ensures { Writes (encrypt_structure_of (encrypt_view self.now) external_aad.now) (λ b.
             b.items) result }
@@ -75,7 +80,7 @@ impl CoseEncrypt {
         )
     }
 
-    /// The ciphertext, which the message carries.
+    /// Returns the ciphertext, which the message must carry.
     fn carried(&self) -> &[u8]
         requires { self.now.ciphertext ≢ None }
         ensures { (encrypt_view self.now).ciphertext ≡ Some result.now }
@@ -86,14 +91,15 @@ impl CoseEncrypt {
         }
     }
 
-    /// What `cipher` makes of the ciphertext, its first argument, and of the additional authenticated data that go with
-    /// it, its second one (RFC 8152, section 5.3), where the message carries its ciphertext: the plaintext. It is
-    /// called once, unless there is an error of ours, and not at all then.
+    /// Calls `cipher` with the ciphertext and the additional authenticated data (RFC 8152, section
+    /// 5.3), and returns the plaintext.
+    ///
+    /// The message must carry its ciphertext. `cipher` gets its arguments in this order. It is
+    /// called once, or not at all if the additional authenticated data can't be made.
     ///
     /// # Errors
-    /// `OutOfMemory`, or `DuplicateMapKey` where the protected header wasn't read and it, or one in it,
-    /// repeats a label of its rest; or
-    /// `Caller` with the error of `cipher`.
+    /// - `Coset` with an error of [`CoseEncrypt::aad`].
+    /// - `Caller` with the error of `cipher`.
     pub fn decrypt<F, E>(
         &self,
         alloc: Global,
@@ -112,11 +118,12 @@ impl CoseEncrypt {
         verify_with(self.carried(), structure, cipher)
     }
 
-    /// The same as [`CoseEncrypt::decrypt`], whether the message carries its ciphertext or not: where it carries none,
-    /// `missing` is called for the error, and `cipher` isn't.
+    /// Does the same as [`CoseEncrypt::decrypt`], also for a message without a ciphertext. If the
+    /// ciphertext is missing, `missing` is called for the error, and `cipher` isn't called.
     ///
     /// # Errors
-    /// The same as [`CoseEncrypt::decrypt`]; or `Caller` with what `missing` returns.
+    /// - The errors of [`CoseEncrypt::decrypt`].
+    /// - `Caller` with the result of `missing`, if the message carries no ciphertext.
     pub fn decrypt_ciphertext<F, E, M>(
         &self,
         alloc: Global,
@@ -141,8 +148,8 @@ impl CoseEncrypt {
         verify_with(ciphertext, structure, cipher)
     }
 
-    /// The same as [`CoseEncrypt::decrypt`] where this ciphertext is detached (RFC 9052, section 5.1): it takes the place of one
-    /// that the message carries.
+    /// Does the same as [`CoseEncrypt::decrypt`] for a detached ciphertext (RFC 9052, section 5.1).
+    /// `ciphertext` takes the place of a ciphertext that the message carries.
     ///
     /// # Errors
     /// The same as [`CoseEncrypt::decrypt`].
@@ -164,10 +171,10 @@ impl CoseEncrypt {
         verify_with(ciphertext, structure, cipher)
     }
 
-    /// A message that equals this one, with the same bytes kept.
+    /// Returns a message equal to this one, kept bytes included.
     ///
     /// # Errors
-    /// `OutOfMemory` alone.
+    /// `OutOfMemory` if an allocation fails.
     pub fn clone(&self) -> Result<CoseEncrypt>
         ensures copy { IfOk result (λ m. encrypt_view m ≡ encrypt_view self.now) }
         ensures memory { IfErr result (λ e. e ≡ OutOfMemory) }
@@ -258,7 +265,8 @@ impl TaggedCodec for CoseEncrypt {
     const TAG_NUMBER: u64 = 96;
 }
 
-/// Makes a [`CoseEncrypt`], field by field. Contracts see it as the message that [`build`](CoseEncryptBuilder::build) gives.
+/// Builds a [`CoseEncrypt`] field by field. Contracts see the builder as the message that
+/// [`build`](CoseEncryptBuilder::build) returns.
 #[derive(Debug, Drop)]
 pub struct CoseEncryptBuilder(CoseEncrypt);
 
@@ -277,21 +285,21 @@ impl Model for CoseEncryptBuilder {
 }
 
 impl CoseEncryptBuilder {
-    /// An empty message. It takes no memory.
+    /// Returns a builder of an empty message. Allocates nothing.
     pub fn new(alloc: Global) -> CoseEncryptBuilder
         ensures { encrypt_view result ≡ empty_encrypt }
     {
         CoseEncryptBuilder(CoseEncrypt::new(alloc))
     }
 
-    /// The message that was made.
+    /// Returns the finished message.
     pub fn build(self) -> CoseEncrypt
         ensures { result ≡ self }
     {
         self.0
     }
 
-    /// Sets the protected header: one that was made, and not read, so that it has no bytes of its own yet.
+    /// Sets the protected header. It counts as not read, so it has no kept bytes.
     pub fn protected(mut self, header: Header) -> CoseEncryptBuilder
         ensures { encrypt_view result ≡ record
             (encrypt_view self) { protected = unread (header_view header) } }
@@ -320,10 +328,10 @@ impl CoseEncryptBuilder {
         self
     }
 
-    /// As [`ciphertext`](CoseEncryptBuilder::ciphertext), of a copy of these bytes.
+    /// Calls [`ciphertext`](CoseEncryptBuilder::ciphertext) with a copy of these bytes.
     ///
     /// # Errors
-    /// `OutOfMemory` alone.
+    /// `OutOfMemory` if an allocation fails.
     pub fn ciphertext_from(self, alloc: Global, ciphertext: &[u8]) -> Result<CoseEncryptBuilder>
         ensures ok { IfOk result (λ b. encrypt_view b
             ≡ with_ciphertext ciphertext.now (encrypt_view self)) }
@@ -332,10 +340,10 @@ impl CoseEncryptBuilder {
         Ok(self.ciphertext(Vec::from_slice(alloc, ciphertext)?))
     }
 
-    /// Adds a recipient, behind the others.
+    /// Appends a recipient.
     ///
     /// # Errors
-    /// `OutOfMemory` alone.
+    /// `OutOfMemory` if an allocation fails.
     pub fn add_recipient(mut self, recipient: CoseRecipient) -> Result<CoseEncryptBuilder>
         ensures ok { IfOk result (λ b. encrypt_view b
             ≡ and_encrypt_recipient (recipient_view recipient) (encrypt_view self)) }
@@ -345,12 +353,16 @@ impl CoseEncryptBuilder {
         Ok(self)
     }
 
-    /// Sets the ciphertext to what `cipher` makes of the plaintext, its first argument, and of the additional
-    /// authenticated data that go with it, its second one (RFC 8152, section 5.3), so all other fields are set before.
-    /// It is called once, unless there is an error of ours, and not at all then.
+    /// Calls `cipher` with `plaintext` and the additional authenticated data (RFC 8152, section
+    /// 5.3), and sets the ciphertext to its result.
+    ///
+    /// Set all other fields before this call. `cipher` gets its arguments in this order. It is
+    /// called once, or not at all if the additional authenticated data can't be made.
     ///
     /// # Errors
-    /// `OutOfMemory`, or `DuplicateMapKey` where the protected header, or one in it, repeats a label of its rest.
+    /// - `OutOfMemory` if an allocation fails.
+    /// - `DuplicateMapKey` if the protected header has a label twice in its `rest`. Nested headers
+    ///   count too, except those inside kept bytes.
     pub fn create_ciphertext<F>(
         self,
         alloc: Global,
@@ -369,10 +381,11 @@ impl CoseEncryptBuilder {
         Ok(self.ciphertext(cipher(plaintext, &structure)))
     }
 
-    /// The same as [`CoseEncryptBuilder::create_ciphertext`] with a `cipher` that may refuse.
+    /// Does the same as [`CoseEncryptBuilder::create_ciphertext`] with a `cipher` that may fail.
     ///
     /// # Errors
-    /// The same as [`CoseEncryptBuilder::create_ciphertext`]; or `Caller` with the error of `cipher`.
+    /// - `Coset` with an error of [`CoseEncryptBuilder::create_ciphertext`].
+    /// - `Caller` with the error of `cipher`.
     pub fn try_create_ciphertext<F, E>(
         self,
         alloc: Global,
@@ -393,8 +406,11 @@ impl CoseEncryptBuilder {
         Ok(self.ciphertext(ciphertext))
     }
 
-    /// What `cipher` makes of the plaintext as in [`CoseEncryptBuilder::create_ciphertext`]: the ciphertext, which is detached. The
-    /// message stays as it is, and carries none unless one was set: its place is null (RFC 9052, section 5.1).
+    /// Calls `cipher` as [`CoseEncryptBuilder::create_ciphertext`] does, and returns its result: a
+    /// detached ciphertext.
+    ///
+    /// The message is unchanged. Unless a ciphertext was set, null is written in its place
+    /// (RFC 9052, section 5.1).
     ///
     /// # Errors
     /// The same as [`CoseEncryptBuilder::create_ciphertext`].
@@ -415,10 +431,12 @@ impl CoseEncryptBuilder {
         Ok(cipher(plaintext, &structure))
     }
 
-    /// The same as [`CoseEncryptBuilder::create_detached_ciphertext`] with a `cipher` that may refuse.
+    /// Does the same as [`CoseEncryptBuilder::create_detached_ciphertext`] with a `cipher` that may
+    /// fail.
     ///
     /// # Errors
-    /// The same as [`CoseEncryptBuilder::create_detached_ciphertext`]; or `Caller` with the error of `cipher`.
+    /// - `Coset` with an error of [`CoseEncryptBuilder::create_detached_ciphertext`].
+    /// - `Caller` with the error of `cipher`.
     pub fn try_create_detached_ciphertext<F, E>(
         &self,
         alloc: Global,

@@ -1,5 +1,7 @@
-//! Laws of recipients and of the messages that have them, which callers may cite. Each is the contract of a function that
-//! does nothing.
+//! Laws of recipients and of messages with recipients, for callers to cite.
+//!
+//! Each law is the contract of a function that does nothing. A value is "read back" if it was read
+//! from the item that another value is written as. How the item was encoded doesn't matter.
 
 ghost use Rattle.std.specs.Prelude.{◌≡◌, ◌↔◌, ℕ, List};
 ghost use Rattle.coset_value.specs.Item.{Item};
@@ -23,8 +25,10 @@ ghost use Rattle.coset_recipient.specs.Structures.{EncryptsAll, EncryptsAllSame,
 use coset_cbor::laws::{one_item, shortest_is_encoding};
 use coset_core::laws::{kept_as_written, signatures_kept_as_written};
 
-/// A recipient is an array of its headers, its ciphertext and, where there are any, an array of recipients: the shape of
-/// recipients, which says how many may be inside one another, is the one that those inside it have too.
+/// A recipient is an array of its headers, its ciphertext and, if there are any, an array of
+/// recipients.
+///
+/// The nested recipients have the same shape as the outer one, at any depth.
 pub fn recipients_hold_recipients()
     ensures describes { (v : Item) (r : RecipientView) → recipient.describes v r
         ↔ (recipient_step recipient).describes v r }
@@ -34,8 +38,7 @@ pub fn recipients_hold_recipients()
         ↔ (recipient_step recipient).faults v e }
 {}
 
-/// Of a recipient or a message that was read from what another is written as, plain or under its tag, the same bytes
-/// represent the protected header, however the item was spelled.
+/// A recipient that is read back has the same protected bytes. So has a message, plain or tagged.
 pub fn kept_with_recipients()
     ensures recipient { AsWritten recipient (λ r s. protected_bytes s.protected
         ≡ protected_bytes r.protected) }
@@ -51,9 +54,11 @@ pub fn kept_with_recipients()
     kept_as_written();
 }
 
-/// What each countersignature in the unprotected header of a message or a recipient is over that was read from what another
-/// is written as, plain or under its tag, is what that one's is over, however the item was spelled. Of signed messages
-/// `countersigned_as_written` says so.
+/// Countersignatures that are read back in the unprotected header of a message or a recipient sign
+/// the same structures.
+///
+/// A message may be plain or tagged. An abbreviated countersignature of the body is covered too.
+/// For signed messages, `countersigned_as_written` says the same.
 pub fn all_countersigned_as_written()
     ensures mac0 { AsWritten mac0
         (λ m n. EachCountersignsSame m.protected m.unprotected n.protected n.unprotected) }
@@ -78,9 +83,11 @@ pub fn all_countersigned_as_written()
     signatures_kept_as_written();
 }
 
-/// What is authenticated of a message, and what goes with its ciphertext or with that of a recipient, at any depth and in
-/// each context, is that of the other one, where it was read from what that other is written as, plain or under its tag,
-/// however the item was spelled.
+/// A recipient or message that is read back has the same structures. So has each recipient in it,
+/// at any depth.
+///
+/// A message may be plain or tagged. A message with a MAC has a `MAC_structure`. An encrypted
+/// message or a recipient has an `Enc_structure`, in each context.
 pub fn structures_as_written()
     ensures recipient { AsWritten recipient RecipientEncryptsSame }
     ensures mac { AsWritten mac MacsSame }
@@ -91,9 +98,11 @@ pub fn structures_as_written()
     kept_as_written();
 }
 
-/// Of a message that was read, plain or under its tag, there always is something that is authenticated or that goes with
-/// its ciphertext, and something that goes with the ciphertext of each recipient, at any depth: their protected headers
-/// kept the bytes that they were read from.
+/// A recipient or message that was read has its structures. So has each recipient in it, at any
+/// depth.
+///
+/// A message may be plain or tagged. The structures exist because the protected headers kept the
+/// bytes that they were read from.
 pub fn structures_when_read()
     ensures recipient { WhenRead recipient RecipientEncrypts }
     ensures mac { WhenRead mac Macs }
@@ -102,9 +111,11 @@ pub fn structures_when_read()
     ensures tagged_encrypt { WhenRead (tagged 96 encrypt) EncryptsAll }
 {}
 
-/// Bytes are the structure of at most one context, of what is signed, authenticated or goes with a ciphertext, and of one
-/// list of parts: of one protected header, one signer or none, one `external_aad`, one payload, where there is one, and
-/// the same other fields, where it is a countersignature's of version 2.
+/// The bytes of a structure determine its context and its parts, across all kinds of structures.
+///
+/// The kinds are those of signatures, MACs, ciphertexts, and countersignatures of version 2. The
+/// parts are one protected header, one signer or none, one `external_aad`, one payload, and the
+/// other fields. Not every kind has all of these parts.
 pub fn one_of_all_structures()
     ensures { (b : List ℕ) (x y : Structured) → IsShortest b (structure_of x)
         → IsShortest b (structure_of y) → x ≡ y }
@@ -113,8 +124,11 @@ pub fn one_of_all_structures()
     shortest_is_encoding();
 }
 
-/// No tag is a message, or a countersignature: these are arrays (RFC 8152, sections 4 to 6; RFC 9338, section 3.1). So what
-/// `from_any_slice` reads was either plain or under the tag, and it reads all that `from_slice` reads.
+/// A CBOR tag is never an untagged message or an untagged countersignature, because these are
+/// arrays (RFC 8152, sections 4 to 6; RFC 9338, section 3.1).
+///
+/// So each message that `from_any_slice` reads was either plain or tagged, and never both. And
+/// `from_any_slice` reads everything that `from_slice` reads.
 pub fn no_tag_is_a_message()
     ensures sign { (n : ℕ) → DescribesNoTag n sign }
     ensures sign1 { (n : ℕ) → DescribesNoTag n sign1 }

@@ -1,5 +1,5 @@
-//! Recipients (RFC 8152, section 5.1), and the messages that have them: encrypted for several (section 5.1) and with a
-//! MAC for several (section 6.1).
+//! Recipients (RFC 8152, section 5.1), and messages with recipients: encrypted messages
+//! (section 5.1) and messages with a MAC (section 6.1).
 #![tactic(auto)]
 
 mod encrypt;

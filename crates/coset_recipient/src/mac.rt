@@ -22,32 +22,33 @@ use coset_msg::mac_structure::mac_structure_of;
 use std::alloc::{AllocError, Global};
 use std::marker::Model;
 
-/// A message with a MAC, and recipients that come to the key: `COSE_Mac` (RFC 8152, section 6.1).
+/// A message with a MAC, and recipients that obtain its key: `COSE_Mac` (RFC 8152, section 6.1).
 ///
 /// ```cddl
 /// COSE_Mac = [ Headers, payload : bstr / nil, tag : bstr, recipients : [+ COSE_recipient] ]
 /// ```
 ///
-/// A message without recipients is read and written too.
+/// A message without recipients can be read and written too.
 #[derive(Debug, Drop, PartialEq, Eq)]
 pub struct CoseMac {
     /// The header that the MAC covers.
     pub protected: ProtectedHeader,
-    /// The header that it doesn't cover.
+    /// The header that the MAC doesn't cover.
     pub unprotected: Header,
-    /// What is authenticated, unless it is detached.
+    /// The authenticated content, or `None` if it is detached.
     pub payload: Option<Vec<u8>>,
     /// The MAC.
     pub tag: Vec<u8>,
-    /// Who can check the MAC, and how they come to the key.
+    /// The recipients that can check the MAC, and how they obtain the key.
     pub recipients: Vec<CoseRecipient>,
 }
 
-/// What the error of another number of elements asks for.
+/// The expected item, as the error for a wrong number of elements names it.
 const PLACES: &str = "array with 5 items";
 
 impl CoseMac {
-    /// An empty message: empty headers, no payload, an empty tag, no recipients. It takes no memory.
+    /// Returns an empty message: empty headers, no payload, an empty tag, no recipients. Allocates
+    /// nothing.
     pub fn new(alloc: Global) -> CoseMac
         ensures { mac_view result ≡ empty_mac }
     {
@@ -60,12 +61,16 @@ impl CoseMac {
         }
     }
 
-    /// The bytes that are authenticated: those of `MAC_structure` (RFC 8152, section 6.3) over the payload that the message
-    /// carries, with the protected header as it was read; `None` where it carries none ([`CoseMac::tbm_detached`]).
+    /// Returns the bytes to be authenticated, or `None` if the message carries no payload.
+    ///
+    /// The bytes are the encoded `MAC_structure` (RFC 8152, section 6.3). A protected header that
+    /// was read is represented by its kept bytes. For a detached payload, call
+    /// [`CoseMac::tbm_detached`].
     ///
     /// # Errors
-    /// `OutOfMemory`, or `DuplicateMapKey` where the protected header wasn't read and it, or one in it, repeats a label of
-    /// its rest.
+    /// - `OutOfMemory` if an allocation fails.
+    /// - `DuplicateMapKey` if the protected header has no kept bytes and has a label twice in its
+    ///   `rest`. Nested headers count too, except those inside kept bytes.
     pub fn tbm(&self, alloc: Global, external_aad: &[u8]) -> Result<Option<Vec<u8>>>
         ensures { WritesWherePresent (λ b. b.items) (mac_view self.now).payload
             (mac_structure_of (mac_view self.now) external_aad.now) result }
@@ -76,8 +81,8 @@ impl CoseMac {
         }
     }
 
-    /// The bytes that are authenticated where this payload is detached (RFC 9052, section 6): it takes the place of one
-    /// that the message carries.
+    /// Returns the bytes to be authenticated for a detached payload (RFC 9052, section 6).
+    /// `payload` takes the place of a payload that the message carries.
     ///
     /// # Errors
     /// The same as [`CoseMac::tbm`].
@@ -99,7 +104,7 @@ impl CoseMac {
         )
     }
 
-    /// The payload, which the message carries.
+    /// Returns the payload, which the message must carry.
     fn carried(&self) -> &[u8]
         requires { self.now.payload ≢ None }
         ensures { (mac_view self.now).payload ≡ Some result.now }
@@ -110,14 +115,15 @@ impl CoseMac {
         }
     }
 
-    /// Asks `verifier` whether the tag, its first argument, is the MAC of the bytes that are authenticated, its second
-    /// one (RFC 8152, section 6.3), where the message carries its payload. It is asked once, unless there is an error
-    /// of ours, and not at all then.
+    /// Calls `verifier` with the tag and the bytes to be authenticated (RFC 8152, section 6.3), in
+    /// this order.
+    ///
+    /// The message must carry its payload. `verifier` decides whether the tag is valid. It is
+    /// called once, or not at all if the bytes can't be made.
     ///
     /// # Errors
-    /// `OutOfMemory`, or `DuplicateMapKey` where the protected header wasn't read and it, or one in it,
-    /// repeats a label of its rest; or
-    /// `Caller` with the error of `verifier`.
+    /// - `Coset` with an error of [`CoseMac::tbm`].
+    /// - `Caller` with the error of `verifier`.
     pub fn verify_tag<F, E>(
         &self,
         alloc: Global,
@@ -137,11 +143,12 @@ impl CoseMac {
         verify_with(&self.tag, structure, verifier)
     }
 
-    /// The same as [`CoseMac::verify_tag`], whether the message carries its payload or not: where it carries none,
-    /// `missing` is called for the error, and `verifier` isn't.
+    /// Does the same as [`CoseMac::verify_tag`], also for a message without a payload. If the
+    /// payload is missing, `missing` is called for the error, and `verifier` isn't called.
     ///
     /// # Errors
-    /// The same as [`CoseMac::verify_tag`]; or `Caller` with what `missing` returns.
+    /// - The errors of [`CoseMac::verify_tag`].
+    /// - `Caller` with the result of `missing`, if the message carries no payload.
     pub fn verify_payload_tag<F, E, M>(
         &self,
         alloc: Global,
@@ -166,8 +173,8 @@ impl CoseMac {
         verify_with(&self.tag, structure, verifier)
     }
 
-    /// The same as [`CoseMac::verify_tag`] where this payload is detached (RFC 9052, section 6): it takes the place of one
-    /// that the message carries.
+    /// Does the same as [`CoseMac::verify_tag`] for a detached payload (RFC 9052, section 6).
+    /// `payload` takes the place of a payload that the message carries.
     ///
     /// # Errors
     /// The same as [`CoseMac::verify_tag`].
@@ -189,10 +196,10 @@ impl CoseMac {
         verify_with(&self.tag, structure, verifier)
     }
 
-    /// A message that equals this one, with the same bytes kept.
+    /// Returns a message equal to this one, kept bytes included.
     ///
     /// # Errors
-    /// `OutOfMemory` alone.
+    /// `OutOfMemory` if an allocation fails.
     pub fn clone(&self) -> Result<CoseMac>
         ensures copy { IfOk result (λ m. mac_view m ≡ mac_view self.now) }
         ensures memory { IfErr result (λ e. e ≡ OutOfMemory) }
@@ -288,7 +295,8 @@ impl TaggedCodec for CoseMac {
     const TAG_NUMBER: u64 = 97;
 }
 
-/// Makes a [`CoseMac`], field by field. Contracts see it as the message that [`build`](CoseMacBuilder::build) gives.
+/// Builds a [`CoseMac`] field by field. Contracts see the builder as the message that
+/// [`build`](CoseMacBuilder::build) returns.
 #[derive(Debug, Drop)]
 pub struct CoseMacBuilder(CoseMac);
 
@@ -307,21 +315,21 @@ impl Model for CoseMacBuilder {
 }
 
 impl CoseMacBuilder {
-    /// An empty message. It takes no memory.
+    /// Returns a builder of an empty message. Allocates nothing.
     pub fn new(alloc: Global) -> CoseMacBuilder
         ensures { mac_view result ≡ empty_mac }
     {
         CoseMacBuilder(CoseMac::new(alloc))
     }
 
-    /// The message that was made.
+    /// Returns the finished message.
     pub fn build(self) -> CoseMac
         ensures { result ≡ self }
     {
         self.0
     }
 
-    /// Sets the protected header: one that was made, and not read, so that it has no bytes of its own yet.
+    /// Sets the protected header. It counts as not read, so it has no kept bytes.
     pub fn protected(mut self, header: Header) -> CoseMacBuilder
         ensures { mac_view result ≡ record
             (mac_view self) { protected = unread (header_view header) } }
@@ -350,10 +358,10 @@ impl CoseMacBuilder {
         self
     }
 
-    /// As [`payload`](CoseMacBuilder::payload), of a copy of these bytes.
+    /// Calls [`payload`](CoseMacBuilder::payload) with a copy of these bytes.
     ///
     /// # Errors
-    /// `OutOfMemory` alone.
+    /// `OutOfMemory` if an allocation fails.
     pub fn payload_from(self, alloc: Global, payload: &[u8]) -> Result<CoseMacBuilder>
         ensures ok { IfOk result (λ b. mac_view b
             ≡ record (mac_view self) { payload = Some payload.now }) }
@@ -370,10 +378,10 @@ impl CoseMacBuilder {
         self
     }
 
-    /// As [`tag`](CoseMacBuilder::tag), of a copy of these bytes.
+    /// Calls [`tag`](CoseMacBuilder::tag) with a copy of these bytes.
     ///
     /// # Errors
-    /// `OutOfMemory` alone.
+    /// `OutOfMemory` if an allocation fails.
     pub fn tag_from(self, alloc: Global, tag: &[u8]) -> Result<CoseMacBuilder>
         ensures ok { IfOk result (λ b. mac_view b ≡ with_tag tag.now (mac_view self)) }
         ensures memory { IfErr result (λ e. e ≡ OutOfMemory) }
@@ -381,10 +389,10 @@ impl CoseMacBuilder {
         Ok(self.tag(Vec::from_slice(alloc, tag)?))
     }
 
-    /// Adds a recipient, behind the others.
+    /// Appends a recipient.
     ///
     /// # Errors
-    /// `OutOfMemory` alone.
+    /// `OutOfMemory` if an allocation fails.
     pub fn add_recipient(mut self, recipient: CoseRecipient) -> Result<CoseMacBuilder>
         ensures ok { IfOk result (λ b. mac_view b
             ≡ and_mac_recipient (recipient_view recipient) (mac_view self)) }
@@ -394,12 +402,16 @@ impl CoseMacBuilder {
         Ok(self)
     }
 
-    /// Sets the tag to what `creator` makes of the bytes that are authenticated (RFC 8152, section 6.3), so all other
-    /// fields are set before, the payload too. It is called once, unless there is an error of ours, and not at all
-    /// then.
+    /// Calls `creator` with the bytes to be authenticated (RFC 8152, section 6.3), and sets the tag
+    /// to its result.
+    ///
+    /// Set all other fields before this call, including the payload. `creator` is called once, or
+    /// not at all if the bytes can't be made.
     ///
     /// # Errors
-    /// `OutOfMemory`, or `DuplicateMapKey` where the protected header, or one in it, repeats a label of its rest.
+    /// - `OutOfMemory` if an allocation fails.
+    /// - `DuplicateMapKey` if the protected header has a label twice in its `rest`. Nested headers
+    ///   count too, except those inside kept bytes.
     pub fn create_tag<F>(
         self,
         alloc: Global,
@@ -418,8 +430,11 @@ impl CoseMacBuilder {
         Ok(self.tag(creator(&tbm)))
     }
 
-    /// The same as [`CoseMacBuilder::create_tag`] where this payload is detached (RFC 9052, section 6): it takes the place of
-    /// one that the message carries, and isn't put into it.
+    /// Does the same as [`CoseMacBuilder::create_tag`] for a detached payload (RFC 9052,
+    /// section 6).
+    ///
+    /// `payload` takes the place of a payload that the message carries. It isn't stored in the
+    /// message.
     ///
     /// # Errors
     /// The same as [`CoseMacBuilder::create_tag`].
@@ -441,10 +456,11 @@ impl CoseMacBuilder {
         Ok(self.tag(creator(&structure)))
     }
 
-    /// The same as [`CoseMacBuilder::create_tag`] with a `creator` that may refuse.
+    /// Does the same as [`CoseMacBuilder::create_tag`] with a `creator` that may fail.
     ///
     /// # Errors
-    /// The same as [`CoseMacBuilder::create_tag`]; or `Caller` with the error of `creator`.
+    /// - `Coset` with an error of [`CoseMacBuilder::create_tag`].
+    /// - `Caller` with the error of `creator`.
     pub fn try_create_tag<F, E>(
         self,
         alloc: Global,
@@ -465,10 +481,11 @@ impl CoseMacBuilder {
         Ok(self.tag(tag))
     }
 
-    /// The same as [`CoseMacBuilder::create_detached_tag`] with a `creator` that may refuse.
+    /// Does the same as [`CoseMacBuilder::create_detached_tag`] with a `creator` that may fail.
     ///
     /// # Errors
-    /// The same as [`CoseMacBuilder::create_detached_tag`]; or `Caller` with the error of `creator`.
+    /// - `Coset` with an error of [`CoseMacBuilder::create_detached_tag`].
+    /// - `Caller` with the error of `creator`.
     pub fn try_create_detached_tag<F, E>(
         self,
         alloc: Global,

@@ -1,4 +1,5 @@
-//! Recipients: who can decrypt a message, or check its MAC, and how they come to the key (RFC 8152, section 5.1).
+//! Recipients (RFC 8152, section 5.1). They obtain the key of a message, and can then decrypt it or
+//! check its MAC.
 
 ghost use Rattle.std.specs.Prelude.{◌≡◌, ◌≢◌, ◌↔◌, ◌≤◌, ◌<◌, ◌+◌, [], length, map, option_map, IsTrue, IfOk, IfErr, IfSome, OnOk, Some, None};
 ghost use Rattle.std.specs.Ordering.{on};
@@ -47,27 +48,29 @@ use std::marker::Model;
 /// COSE_recipient = [ Headers, ciphertext : bstr / nil, ? recipients : [+ COSE_recipient] ]
 /// ```
 ///
-/// An empty list of recipients is read too, and is left out where it is written.
+/// An empty list of recipients can be read too. It is left out when the recipient is written.
 #[derive(Debug, Drop)]
 pub struct CoseRecipient {
     /// The header that is authenticated with the ciphertext.
     pub protected: ProtectedHeader,
-    /// The header that isn't.
+    /// The header that isn't authenticated.
     pub unprotected: Header,
-    /// The encrypted key, unless there is none, as where the key is agreed on.
+    /// The encrypted key, or `None` if there is none, as with key agreement.
     pub ciphertext: Option<Vec<u8>>,
-    /// Who can decrypt that ciphertext, and how.
+    /// The recipients that can decrypt this ciphertext, and how they obtain its key.
     pub recipients: Vec<CoseRecipient>,
 }
 
-/// What the error of another number of elements asks for.
+/// The expected item, as the error for a wrong number of elements names it.
 const PLACES: &str = "array with 3 or 4 items";
 
-/// Reads the first three elements of a recipient's array into empty ones. What reading them returns is inside the answer,
-/// since the fourth is judged before them: it is the fault of the last of the three that has one.
+/// Decodes the first three elements of a recipient's array into empty fields.
+///
+/// The outer error is a wrong length. The inner result is the last error among the three elements,
+/// if there is one. It is reported only if reading the fourth element succeeds.
 ///
 /// # Errors
-/// `UnexpectedItem`: there are fewer.
+/// `UnexpectedItem` if there are fewer than three elements.
 #[inline(never)]
 fn begin_elements(
     protected: &mut ProtectedHeader,
@@ -115,10 +118,11 @@ impl InPlace for CoseRecipient {
     }
 }
 
-/// Reads an array of recipients into an empty list.
+/// Decodes an array of recipients into an empty list.
 ///
 /// # Errors
-/// `UnexpectedItem`: the item is no array; or the same as [`fill_listed`].
+/// - `UnexpectedItem` if the item is no array.
+/// - The errors of [`fill_listed`].
 #[cycle(read)]
 pub(crate) fn fill_recipients(
     all: &mut Vec<CoseRecipient>,
@@ -139,10 +143,11 @@ pub(crate) fn fill_recipients(
     filled
 }
 
-/// Reads each of some recipients into an empty list.
+/// Decodes the elements of an array of recipients into an empty list.
 ///
 /// # Errors
-/// `OutOfMemory`, or the fault of the first that has one.
+/// - `OutOfMemory` if an allocation fails.
+/// - The fault of the first recipient that has one.
 #[cycle(read)]
 fn fill_listed(
     all: &mut Vec<CoseRecipient>,
@@ -165,10 +170,11 @@ fn fill_listed(
     Ok(())
 }
 
-/// Reads a recipient into one that holds nothing.
+/// Decodes a recipient into an empty one.
 ///
 /// # Errors
-/// `UnexpectedItem`: the item is no array; or the same as [`fill_elements`].
+/// - `UnexpectedItem` if the item is no array.
+/// - The errors of [`fill_elements`].
 #[cycle(read)]
 fn fill_recipient(
     recipient: &mut CoseRecipient,
@@ -189,10 +195,12 @@ fn fill_recipient(
     filled
 }
 
-/// Reads the elements of a recipient's array into one that holds nothing. They are judged from the last on.
+/// Decodes the elements of a recipient's array into an empty recipient.
 ///
 /// # Errors
-/// `OutOfMemory`; `UnexpectedItem` where they are neither three nor four; or the fault of the last place that has one.
+/// - `OutOfMemory` if an allocation fails.
+/// - `UnexpectedItem` if there are neither three nor four elements.
+/// - The fault of the last element that has one.
 #[cycle(read)]
 fn fill_elements(
     recipient: &mut CoseRecipient,
@@ -223,10 +231,11 @@ fn fill_elements(
     store_error(first, error)
 }
 
-/// Reads the fourth place of a recipient's array, if it is there, into an empty list.
+/// Decodes the fourth element of a recipient's array, if there is one, into an empty list.
 ///
 /// # Errors
-/// `UnexpectedItem`: a fifth follows; or the same as [`fill_recipients`].
+/// - `UnexpectedItem` if a fifth element follows.
+/// - The errors of [`fill_recipients`].
 #[cycle(read)]
 fn fill_fourth(
     all: &mut Vec<CoseRecipient>,
@@ -253,7 +262,7 @@ fn fill_fourth(
     filled
 }
 
-/// Recipients as they are in a message: the array of them.
+/// The array of recipients in a message.
 #[derive(Debug, Drop)]
 pub(crate) struct Recipients(pub(crate) Vec<CoseRecipient>);
 
@@ -277,14 +286,14 @@ impl Decode for Recipients {
     }
 }
 
-/// Whether there are no recipients.
+/// Returns true if there are no recipients.
 fn are_none(all: &[CoseRecipient]) -> bool
     ensures { result ≡ are_none (recipients_of (map recipient_view all.now)) }
 {
     all.is_empty()
 }
 
-/// How many elements the recipient's array has.
+/// Returns the number of elements of the recipient's array.
 fn count_elements(recipient: &CoseRecipient) -> usize
     ensures { result ≡ 3 + last_elements (recipient_view recipient.now).recipients }
 {
@@ -295,7 +304,7 @@ fn count_elements(recipient: &CoseRecipient) -> usize
     }
 }
 
-/// Appends the head of a recipient's array, and its first three elements.
+/// Appends the head and the first three elements of a recipient's array.
 fn write_first(alloc: Global, recipient: &CoseRecipient, out: &mut Vec<u8>) -> Result<()>
     ensures written { Begins (recipient_view recipient.now) out.old.items out.new.items result }
     ensures kept { Extends out.old.items out.new.items }
@@ -306,7 +315,7 @@ fn write_first(alloc: Global, recipient: &CoseRecipient, out: &mut Vec<u8>) -> R
     recipient.ciphertext.encode(alloc, out)
 }
 
-/// Appends the array of the recipient.
+/// Appends the recipient's array.
 #[cycle(write)]
 fn write_recipient(alloc: Global, recipient: &CoseRecipient, out: &mut Vec<u8>) -> Result<()>
     ensures written { Encodes (recipient_image (recipient_view recipient.now)) out.old.items
@@ -321,7 +330,7 @@ fn write_recipient(alloc: Global, recipient: &CoseRecipient, out: &mut Vec<u8>) 
     write_recipients(alloc, inside, out)
 }
 
-/// Appends the array of recipients.
+/// Appends an array of recipients.
 #[cycle(write)]
 fn write_recipients(alloc: Global, all: &[CoseRecipient], out: &mut Vec<u8>) -> Result<()>
     ensures written { Encodes
@@ -333,7 +342,7 @@ fn write_recipients(alloc: Global, all: &[CoseRecipient], out: &mut Vec<u8>) -> 
     write_each(alloc, all, out)
 }
 
-/// Appends recipients, one after the other.
+/// Appends recipients, one after another.
 #[cycle(write)]
 fn write_each(alloc: Global, all: &[CoseRecipient], out: &mut Vec<u8>) -> Result<()>
     ensures ok { OnOk result (AppendsElements
@@ -349,7 +358,7 @@ fn write_each(alloc: Global, all: &[CoseRecipient], out: &mut Vec<u8>) -> Result
     Ok(())
 }
 
-/// Copies recipients into a list, in place of those that it holds.
+/// Replaces the contents of `copies` with copies of these recipients.
 #[cycle(copy)]
 fn copy_recipients(all: &[CoseRecipient], copies: &mut Vec<CoseRecipient>) -> Result<(), AllocError>
     ensures { OnOk result (map recipient_view copies.new.items ≡ map recipient_view all.now) }
@@ -400,7 +409,7 @@ fn same_recipient(a: &CoseRecipient, b: &CoseRecipient) -> bool
         && same_recipients(&a.recipients, &b.recipients)
 }
 
-/// Copies of recipients, with the same bytes kept.
+/// Copies recipients, kept bytes included.
 pub(crate) fn copy_recipient_list(
     all: &Vec<CoseRecipient>,
 ) -> Result<Vec<CoseRecipient>, AllocError>
@@ -409,7 +418,7 @@ pub(crate) fn copy_recipient_list(
     Ok(Clone::clone(all)?)
 }
 
-/// Whether this is one of the three contexts of a recipient.
+/// Returns true if this is one of the three contexts of a recipient.
 fn is_of_recipient(context: EncryptionContext) -> bool
     ensures { IsOfRecipient context → IsTrue result }
 {
@@ -422,7 +431,7 @@ fn is_of_recipient(context: EncryptionContext) -> bool
 }
 
 impl CoseRecipient {
-    /// An empty recipient: empty headers, no ciphertext, no recipients. It takes no memory.
+    /// Returns an empty recipient: empty headers, no ciphertext, no recipients. Allocates nothing.
     pub fn new(alloc: Global) -> CoseRecipient
         ensures { recipient_view result ≡ empty_recipient }
     {
@@ -434,13 +443,16 @@ impl CoseRecipient {
         }
     }
 
-    /// The bytes that go with the ciphertext as its additional authenticated data: those of `Enc_structure` (RFC 8152,
-    /// section 5.3), with the protected header as it was read. The context is that of a recipient of an encrypted message,
-    /// of a MAC, or of another recipient.
+    /// Returns the additional authenticated data: the encoded `Enc_structure` (RFC 8152,
+    /// section 5.3).
+    ///
+    /// A protected header that was read is represented by its kept bytes. `context` is that of a
+    /// recipient of an encrypted message, of a message with a MAC, or of another recipient.
     ///
     /// # Errors
-    /// `OutOfMemory`, or `DuplicateMapKey` where the protected header wasn't read and it, or one in it, repeats a label of
-    /// its rest.
+    /// - `OutOfMemory` if an allocation fails.
+    /// - `DuplicateMapKey` if the protected header has no kept bytes and has a label twice in its
+    ///   `rest`. Nested headers count too, except those inside kept bytes.
     pub fn aad(
         &self,
         alloc: Global,
@@ -453,7 +465,7 @@ impl CoseRecipient {
         enc_structure_of(alloc, context, &self.protected, external_aad)
     }
 
-    /// The ciphertext, which the recipient carries.
+    /// Returns the ciphertext, which the recipient must carry.
     fn carried(&self) -> &[u8]
         requires { (recipient_view self.now).ciphertext ≢ None }
         ensures { (recipient_view self.now).ciphertext ≡ Some result.now }
@@ -464,15 +476,17 @@ impl CoseRecipient {
         }
     }
 
-    /// What `cipher` makes of the ciphertext, its first argument, and of the additional authenticated data that go with
-    /// it, its second one (RFC 8152, section 5.3), where the recipient has a ciphertext: the key, or what else is
-    /// encrypted. The context is that of a recipient of an encrypted message, of a MAC, or of another recipient.
-    /// `cipher` is called once, unless there is an error of ours, and not at all then.
+    /// Calls `cipher` with the ciphertext and the additional authenticated data (RFC 8152, section
+    /// 5.3), and returns the plaintext: the key, or other content.
+    ///
+    /// The recipient must carry a ciphertext. `context` is that of a recipient of an encrypted
+    /// message, of a message with a MAC, or of another recipient. `cipher` gets its arguments in
+    /// this order. It is called once, or not at all if the additional authenticated data can't be
+    /// made.
     ///
     /// # Errors
-    /// `OutOfMemory`, or `DuplicateMapKey` where the protected header wasn't read and it, or one in it,
-    /// repeats a label of its rest; or
-    /// `Caller` with the error of `cipher`.
+    /// - `Coset` with an error of [`CoseRecipient::aad`].
+    /// - `Caller` with the error of `cipher`.
     pub fn decrypt<F, E>(
         &self,
         alloc: Global,
@@ -494,11 +508,12 @@ impl CoseRecipient {
         verify_with(self.carried(), structure, cipher)
     }
 
-    /// The same as [`CoseRecipient::decrypt`], whether the recipient has a ciphertext or not: where it has none,
-    /// `missing` is called for the error, and `cipher` isn't.
+    /// Does the same as [`CoseRecipient::decrypt`], also for a recipient without a ciphertext. If
+    /// the ciphertext is missing, `missing` is called for the error, and `cipher` isn't called.
     ///
     /// # Errors
-    /// The same as [`CoseRecipient::decrypt`]; or `Caller` with what `missing` returns.
+    /// - The errors of [`CoseRecipient::decrypt`].
+    /// - `Caller` with the result of `missing`, if the recipient carries no ciphertext.
     pub fn decrypt_ciphertext<F, E, M>(
         &self,
         alloc: Global,
@@ -526,10 +541,10 @@ impl CoseRecipient {
         verify_with(ciphertext, structure, cipher)
     }
 
-    /// A recipient that equals this one, with the same bytes kept.
+    /// Returns a recipient equal to this one, kept bytes included.
     ///
     /// # Errors
-    /// `OutOfMemory` alone.
+    /// `OutOfMemory` if an allocation fails.
     pub fn clone(&self) -> Result<CoseRecipient>
         ensures copy { IfOk result (λ r. recipient_view r ≡ recipient_view self.now) }
         ensures memory { IfErr result (λ e. e ≡ OutOfMemory) }
@@ -549,7 +564,7 @@ impl Clone for CoseRecipient {
     }
 }
 
-/// Equality of every field, the bytes that were kept of the protected headers included.
+/// Compares every field, including the kept bytes of the protected headers.
 impl PartialEq for CoseRecipient {
     ghost eq = { on recipient_view recipient_eq };
 
@@ -606,8 +621,8 @@ impl Codec for CoseRecipient {
     }
 }
 
-/// Makes a [`CoseRecipient`], field by field. Contracts see it as the recipient that
-/// [`build`](CoseRecipientBuilder::build) gives.
+/// Builds a [`CoseRecipient`] field by field. Contracts see the builder as the recipient that
+/// [`build`](CoseRecipientBuilder::build) returns.
 #[derive(Debug, Drop)]
 pub struct CoseRecipientBuilder(CoseRecipient);
 
@@ -626,21 +641,21 @@ impl Model for CoseRecipientBuilder {
 }
 
 impl CoseRecipientBuilder {
-    /// An empty recipient. It takes no memory.
+    /// Returns a builder of an empty recipient. Allocates nothing.
     pub fn new(alloc: Global) -> CoseRecipientBuilder
         ensures { recipient_view result ≡ empty_recipient }
     {
         CoseRecipientBuilder(CoseRecipient::new(alloc))
     }
 
-    /// The recipient that was made.
+    /// Returns the finished recipient.
     pub fn build(self) -> CoseRecipient
         ensures { result ≡ self }
     {
         self.0
     }
 
-    /// Sets the protected header: one that was made, and not read, so that it has no bytes of its own yet.
+    /// Sets the protected header. It counts as not read, so it has no kept bytes.
     pub fn protected(mut self, header: Header) -> CoseRecipientBuilder
         ensures { recipient_view result ≡ record
             (recipient_view self) { protected = unread (header_view header) } }
@@ -670,10 +685,10 @@ impl CoseRecipientBuilder {
         self
     }
 
-    /// As [`ciphertext`](CoseRecipientBuilder::ciphertext), of a copy of these bytes.
+    /// Calls [`ciphertext`](CoseRecipientBuilder::ciphertext) with a copy of these bytes.
     ///
     /// # Errors
-    /// `OutOfMemory` alone.
+    /// `OutOfMemory` if an allocation fails.
     pub fn ciphertext_from(self, alloc: Global, ciphertext: &[u8]) -> Result<CoseRecipientBuilder>
         ensures ok { IfOk result (λ b. recipient_view b
             ≡ with_ciphertext ciphertext.now (recipient_view self)) }
@@ -682,10 +697,10 @@ impl CoseRecipientBuilder {
         Ok(self.ciphertext(Vec::from_slice(alloc, ciphertext)?))
     }
 
-    /// Adds a recipient, behind the others.
+    /// Appends a recipient.
     ///
     /// # Errors
-    /// `OutOfMemory` alone.
+    /// `OutOfMemory` if an allocation fails.
     pub fn add_recipient(mut self, recipient: CoseRecipient) -> Result<CoseRecipientBuilder>
         ensures ok { IfOk result (λ b. recipient_view b
             ≡ and_recipient (recipient_view recipient) (recipient_view self)) }
@@ -695,13 +710,18 @@ impl CoseRecipientBuilder {
         Ok(self)
     }
 
-    /// Sets the ciphertext to what `cipher` makes of the plaintext, its first argument, and of the additional
-    /// authenticated data that go with it, its second one (RFC 8152, section 5.3), so all other fields are set before.
-    /// The context is that of a recipient of an encrypted message, of a MAC, or of another recipient. `cipher` is
-    /// called once, unless there is an error of ours, and not at all then.
+    /// Calls `cipher` with `plaintext` and the additional authenticated data (RFC 8152, section
+    /// 5.3), and sets the ciphertext to its result.
+    ///
+    /// Set all other fields before this call. `context` is that of a recipient of an encrypted
+    /// message, of a message with a MAC, or of another recipient. `cipher` gets its arguments in
+    /// this order. It is called once, or not at all if the additional authenticated data can't be
+    /// made.
     ///
     /// # Errors
-    /// `OutOfMemory`, or `DuplicateMapKey` where the protected header, or one in it, repeats a label of its rest.
+    /// - `OutOfMemory` if an allocation fails.
+    /// - `DuplicateMapKey` if the protected header has a label twice in its `rest`. Nested headers
+    ///   count too, except those inside kept bytes.
     pub fn create_ciphertext<F>(
         self,
         alloc: Global,
@@ -723,10 +743,11 @@ impl CoseRecipientBuilder {
         Ok(self.ciphertext(cipher(plaintext, &structure)))
     }
 
-    /// The same as [`CoseRecipientBuilder::create_ciphertext`] with a `cipher` that may refuse.
+    /// Does the same as [`CoseRecipientBuilder::create_ciphertext`] with a `cipher` that may fail.
     ///
     /// # Errors
-    /// The same as [`CoseRecipientBuilder::create_ciphertext`]; or `Caller` with the error of `cipher`.
+    /// - `Coset` with an error of [`CoseRecipientBuilder::create_ciphertext`].
+    /// - `Caller` with the error of `cipher`.
     pub fn try_create_ciphertext<F, E>(
         self,
         alloc: Global,

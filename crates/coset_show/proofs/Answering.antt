@@ -1,4 +1,4 @@
--- From a refusal to what is returned.
+-- From a refusal to the output and the exit status.
 use Rattle.std.proofs.Common.{◌≡◌, ℕ, List, Some, None, IfSome, refl, sym, ap, ◌∙◌, subst, inl, inr, cond, eqb}
 use Rattle.std.specs.Prelude.{Option, sum}
 use Rattle.std.specs.Io.KnownBytes.{Appends}
@@ -9,7 +9,7 @@ use Rattle.coset_show.specs.Refusal.{no_memory}
 use Rattle.coset_show.specs.Kind.{kind_name}
 use Rattle.coset_show.specs.Answer.{RefusesInput, AnswersInput, refusal_line}
 
--- this kind where the name is its own, else another: names are distinguished by their sums
+-- This kind if the name is its own, else the other kind. The sums of names tell kinds apart.
 abbrev this_or : List ℕ → Kind → Kind → Kind
 this_or name k other = cond (eqb (sum name) (sum (kind_name k))) k other
 
@@ -32,11 +32,11 @@ named_again Keyset = refl
 named_again Claims = refl
 named_again Kdf = refl
 
--- kinds of one name are one
+-- Kinds with one name are equal.
 pub kind_of_name : (k j : Kind) → kind_name k ≡ kind_name j → k ≡ j
 kind_of_name k j e = sym (named_again k) ∙ ap named e ∙ named_again j
 
--- the line of a true refusal answers the input
+-- The line of a true refusal is right for the input.
 pub refusal_answers : (known before after : Option (List ℕ)) (k j : Kind) (refusal : Refusal) (lines : List ℕ) (status : ℕ) → k ≡ j
     → lines ≡ refusal_line refusal → Appends before after lines × (status ≡ 1)
     → IfSome known (λ input. RefusesInput j input refusal) → IfSome known (λ input. (x : List ℕ) × Appends before after x × AnswersInput k input x status)
@@ -44,7 +44,7 @@ refusal_answers None before after k j refusal lines status same is put refused =
 refusal_answers (Some input) before after k j refusal lines status same is put refused =
     (lines, put.0, inr (refusal, subst (λ i. RefusesInput i input refusal) (sym same) refused, is, put.1))
 
--- out of memory refuses any input
+-- `OutOfMemory` refuses any input.
 pub memory_refuses : (known : Option (List ℕ)) (k : Kind) → IfSome known (λ input. RefusesInput k input no_memory)
 memory_refuses None k = tt
 memory_refuses (Some input) k = inl refl

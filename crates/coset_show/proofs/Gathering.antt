@@ -1,9 +1,9 @@
--- What several reads gave.
+-- The bytes of several reads.
 use Rattle.std.proofs.Common.{◌≡◌, ℕ, List, [], ◌++◌, take, Some, None, IfSome, sym, ap, ◌∙◌, append-nil}
 use Rattle.std.specs.Prelude.{Option}
 use Rattle.std.specs.Io.KnownBytes.{Consumes, IsAtEnd}
 
--- a reader that is at its end gave all that it had
+-- A reader at its end has returned all of its bytes.
 pub gave_all : (a b e : Option (List ℕ)) (input buffer : List ℕ) (n : ℕ) → n ≡ 0 → Consumes a b input → Consumes b e (take n buffer) → IsAtEnd e
     → IfSome a (λ xs. input ≡ xs)
 gave_all None b e input buffer n zero p q ends = tt

@@ -1,4 +1,4 @@
--- What is shown, and why it isn't.
+-- Output and refusals.
 use Rattle.std.proofs.Common.{◌≡◌, Bool, true, false, ℕ, List, [], Some, None, Result, Ok, Err, subst, sym, ap}
 use Rattle.std.specs.Prelude.{MatchResult, IsErrAnd, option_map}
 use Rattle.coset.specs.Item.{Item, Items, no_items, item}
@@ -19,24 +19,24 @@ use Rattle.coset_show.specs.Show.{RefusesType, tagged_if}
 
 -- ---- refusals
 
--- an error that refuses the bytes, as the answer that a call passes on
+-- An error that refuses the bytes, and is returned unchanged.
 pub passed_on : {T A : Type 0} (shape : Shape A) (b : List ℕ) (e : CoseError) (r : Result T Refusal) (P : T → Type 0) → IsErrAnd r (λ x. x ≡ Cose e)
     → RefusesType shape b (Cose e) → MatchResult r P (RefusesType shape b)
 passed_on shape b e (Ok x) P h f = absurd h
 passed_on shape b e (Err x) P h f = subst (RefusesType shape b) (sym h) f
 
--- an error that names a fault in bytes that describe nothing
+-- An error that names a fault in bytes, if they describe no value.
 pub refuses_read : {A : Type 0} (shape : Shape A) (b : List ℕ) (e : CoseError) → UnlessMemory e (SliceFaults shape b)
     → UnlessMemory e (λ _. DescribesNothing shape b) → RefusesType shape b (Cose e)
 refuses_read shape b e faults none = λ n. (faults n, none n)
 
--- out of memory
+-- `OutOfMemory` refuses any bytes.
 pub refuses_memory : {A : Type 0} (shape : Shape A) (b : List ℕ) (e : CoseError) → e ≡ OutOfMemory → RefusesType shape b (Cose e)
 refuses_memory shape b e is = λ n. absurd (n is)
 
 -- ---- messages
 
--- what is described under a tag or plain is described by an item
+-- A value that bytes describe, tagged or plain, is described by an item.
 pub plainly : {A : Type 0} (t : Bool) (n : ℕ) (s : Shape A) (b : List ℕ) (x : A) → Describes (tagged_if t n s) b x → (v : Item) × s.describes v x
 plainly true n s b x d = (d.2.0, d.2.2)
 plainly false n s b x d = (d.0, d.2)
@@ -45,12 +45,12 @@ first_of : {A B : Type 0} (r : Item → A → Type 0) (rs : Items → B → Type
 first_of r rs no_items x p = absurd p
 first_of r rs (item v vs) x p = (v, p.0)
 
--- a protected header that was read has kept its bytes
+-- A protected header that was read has kept its bytes.
 read_keeps : (v : Item) (p : ProtectedView) → protected.describes v p → (b : List ℕ) × (protected_bytes p ≡ Some b)
 unfolding layered_protected
 read_keeps v p d = (d.0, ap (λ o. content_bytes is_empty_header header_image o p.header) d.2)
 
--- so there is something to sign of a message that was read
+-- Therefore a message that was read has a structure to be signed.
 pub read_is_signed : (v : Item) (m : Sign1View) → sign1.describes v m → (i : Item) × (sign1_carried m [] ≡ Some i)
 read_is_signed v m d =
     let header = first_of protected.describes _ d.0 (sign1_fields m) d.2 in

@@ -1,4 +1,4 @@
--- What is shown of the bytes that an input spells, by its kind.
+-- The output for the bytes of an input, by its kind.
 use Rattle.std.specs.Prelude.{ℕ, List, codes}
 use Rattle.coset.specs.Claims.{claims}
 use Rattle.coset.specs.Context.{context}
@@ -9,7 +9,7 @@ use Rattle.coset_show.specs.declared.kind.Kind.TheVariants.{Value, Sign1, Sign, 
 use Rattle.coset_show.specs.declared.refusal.Refusal.{Refusal}
 use Rattle.coset_show.specs.Show.{ShowsType, RefusesType, ShowsSign1, sign1_in, sign_in, mac_in, mac0_in, encrypt_in, encrypt0_in, countersignature_in}
 
--- the name of a kind, as the program is given it
+-- The name of a kind, as the program's argument has it.
 abbrev pub kind_name : Kind → List ℕ
 kind_name Value = codes "value"
 kind_name Sign1 = codes "sign1"
@@ -24,7 +24,7 @@ kind_name Keyset = codes "keyset"
 kind_name Claims = codes "claims"
 kind_name Kdf = codes "kdf"
 
--- what is shown of bytes of that kind
+-- The lines show the bytes, read as this kind.
 abbrev pub ShowsBytes : Kind → List ℕ → List ℕ → Type 0
 ShowsBytes Value = ShowsType any
 ShowsBytes Sign1 = ShowsSign1
@@ -39,7 +39,7 @@ ShowsBytes Keyset = ShowsType key_set
 ShowsBytes Claims = ShowsType claims
 ShowsBytes Kdf = ShowsType context
 
--- why bytes of that kind are refused
+-- The refusal is true of the bytes, read as this kind.
 abbrev pub RefusesBytes : Kind → List ℕ → Refusal → Type 0
 RefusesBytes Value b = RefusesType any b
 RefusesBytes Sign1 b = RefusesType (sign1_in b) b

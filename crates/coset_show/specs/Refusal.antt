@@ -13,7 +13,7 @@ use Rattle.hex.specs.declared.error.FromHexError.TheVariants as hex_errors
 use Rattle.coset_show.specs.declared.refusal.Refusal.{Refusal}
 use Rattle.coset_show.specs.declared.refusal.Refusal.TheVariants.{Unreadable, NotHexadecimal, Cose}
 
--- the text of an error of the CBOR reader
+-- The text of an error of the CBOR reader.
 abbrev pub fault_text : Error EndOfFile → List ℕ
 fault_text (errors.Io x) = codes "Io(EndOfFile)"
 fault_text (errors.Syntax at) = codes "Syntax(" ++ decimal at ++ codes ")"
@@ -22,7 +22,7 @@ fault_text (errors.Semantic (Some at) text) = codes "Semantic(Some(" ++ decimal 
 fault_text errors.RecursionLimitExceeded = codes "RecursionLimitExceeded"
 fault_text errors.OutOfMemory = codes "OutOfMemory"
 
--- the text of an error: that of the CBOR reader's, behind these words, or the error's own, which each other has
+-- The text of an error. Errors of the CBOR reader have a prefix, and every other error has a text of its own.
 abbrev pub cose_text : CoseError → List ℕ
 cose_text (cose.DecodeFailed error) = codes "decode CBOR failure: " ++ fault_text error
 cose_text error = unwrap_or (error_text error) []
@@ -32,11 +32,11 @@ refusal_text Unreadable = codes "input cannot be read"
 refusal_text NotHexadecimal = codes "input is not hexadecimal"
 refusal_text (Cose error) = cose_text error
 
--- a request for memory was refused
+-- An allocation failed.
 abbrev pub no_memory : Refusal
 no_memory = Cose cose.OutOfMemory
 
--- the refusal that an error of reading hexadecimal is
+-- The refusal for an error of the hexadecimal decoder.
 abbrev pub hex_refusal_of : FromHexError → Refusal
 hex_refusal_of (hex_errors.InvalidHexCharacter c index) = NotHexadecimal
 hex_refusal_of hex_errors.OddLength = NotHexadecimal

@@ -1,4 +1,4 @@
--- What is shown of bytes that should describe a value of some type.
+-- The output for bytes that should describe a value of some type.
 use Rattle.std.specs.Prelude.{◌≡◌, Bool, true, false, ℕ, List, [], ◌∷◌, ◌++◌, ◌/◌, ◌==◌, Option, Some, Result, MatchResult, codes}
 use Rattle.hex.specs.Hex.{encode_lower}
 use Rattle.coset.specs.Item.{Item}
@@ -18,11 +18,11 @@ use Rattle.coset.specs.Encrypt0.{Encrypt0View, encrypt0}
 use Rattle.coset_show.specs.declared.refusal.Refusal.{Refusal}
 use Rattle.coset_show.specs.declared.refusal.Refusal.TheVariants.{Unreadable, NotHexadecimal, Cose}
 
--- the text, as a line
+-- The text as a line.
 abbrev pub line : List ℕ → List ℕ
 line text = text ++ 10 ∷ []
 
--- there is an item, and the line is its shortest encoding in lower-case hexadecimal
+-- There is an image, and the line is its shortest encoding in lower-case hexadecimal.
 pub record IsLineOf (image : Option Item) (shown : List ℕ) : Type 0 where
   pub item : Item
   pub encoding : List ℕ
@@ -30,21 +30,21 @@ pub record IsLineOf (image : Option Item) (shown : List ℕ) : Type 0 where
   pub is_shortest : IsShortest encoding item
   pub is_line : shown ≡ line (encode_lower encoding)
 
--- b describes a value, and the line is that of the value's item
+-- b describes a value, and the line is that of the value's image.
 pub record ShowsType {A : Type 0} (shape : Shape A) (b lines : List ℕ) : Type 0 where
   pub value : A
   pub described : Describes shape b value
   pub is_line : IsLineOf (shape.image value) lines
 
--- the error names a fault that is in b, and b describes no value; or memory ran out
+-- The error names a fault in b, and b describes no value. Otherwise an allocation failed.
 abbrev pub RefusesType : {A : Type 0} → Shape A → List ℕ → Refusal → Type 0
 RefusesType shape b (Cose error) = UnlessMemory error (λ e. SliceFaults shape b e × DescribesNothing shape b)
 RefusesType shape b Unreadable = ⊥
 RefusesType shape b NotHexadecimal = ⊥
 
--- ---- messages: under their tag where the bytes begin with one (RFC 8152, section 2)
+-- ---- messages, tagged if the bytes begin with a tag (RFC 8152, section 2)
 
--- the first byte is of major type 6
+-- The first byte is of major type 6.
 abbrev pub is_tagged : List ℕ → Bool
 is_tagged [] = false
 is_tagged (c ∷ b) = c / 32 == 6
@@ -53,11 +53,11 @@ abbrev pub tagged_if : {A : Type 0} → Bool → ℕ → Shape A → Shape A
 tagged_if true number s = tagged number s
 tagged_if false number s = s
 
--- the shape that messages have in b, where this is their number and their shape
+-- The shape of a message in b, given its tag number and its plain shape.
 abbrev pub message_in : {A : Type 0} → List ℕ → ℕ → Shape A → Shape A
 message_in b number s = tagged_if (is_tagged b) number s
 
--- the message that bytes describe, by its tag
+-- The shape of each type of message in b.
 abbrev pub sign1_in : List ℕ → Shape Sign1View
 sign1_in b = message_in b 18 sign1
 
@@ -79,8 +79,8 @@ encrypt0_in b = message_in b 16 encrypt0
 abbrev pub countersignature_in : List ℕ → Shape SignatureView
 countersignature_in b = message_in b 19 signature
 
--- b describes a message; the first line is that of its item, and the second, behind `tbs `, that of what is signed where
--- `external_aad` is empty
+-- b describes a message. The first line is that of its image. The second, after `tbs `, is that of the structure to be
+-- signed with an empty `external_aad`.
 pub record ShowsSign1 (b lines : List ℕ) : Type 0 where
   pub message : Sign1View
   pub described : Describes (sign1_in b) b message
@@ -90,8 +90,8 @@ pub record ShowsSign1 (b lines : List ℕ) : Type 0 where
   pub is_signed : IsLineOf (sign1_carried message []) second
   pub are_lines : lines ≡ first ++ codes "tbs " ++ second
 
--- ---- what was read, written
+-- ---- values that were read, written
 
--- where bytes described x, the answer is the line of its item, and only memory can run out
+-- If bytes describe x, the result is the line of its image, or `OutOfMemory`.
 abbrev pub WritesRead : {S A : Type 0} → Shape A → A → (S → List ℕ) → Result S CoseError → Type 0
 WritesRead shape x text_of result = (b : List ℕ) → Describes shape b x → MatchResult result (λ s. IsLineOf (shape.image x) (text_of s)) (λ e. e ≡ OutOfMemory)

@@ -1,19 +1,19 @@
--- Whether calls of a reader or a writer failed.
+-- Failures of calls of a reader or a writer.
 use Rattle.std.specs.Prelude.{◌≡◌, Bool, true, false}
 use Rattle.coset_show.specs.declared.stream.Stream.{Stream}
 
--- the reader or the writer itself
+-- The reader or the writer itself.
 abbrev pub inside : {T : Type 0} → Stream T → T
 inside s = s.inner
 
--- whether a call of the reader or the writer failed
+-- True if a call of the reader or the writer failed.
 abbrev pub has_failed : {T : Type 0} → Stream T → Bool
 has_failed s = s.failed
 
--- no call has failed
+-- No call has failed.
 abbrev pub IsSound : {T : Type 0} → Stream T → Type 0
 IsSound s = has_failed s ≡ false
 
--- some call between the two states failed, and none before
+-- A call between the two states failed, and none before.
 abbrev pub Fails : {T : Type 0} → Stream T → Stream T → Type 0
 Fails old new = IsSound old × (has_failed new ≡ true)

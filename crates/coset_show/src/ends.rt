@@ -1,5 +1,6 @@
-//! What the program reads from and writes to, and whether it is known not to fail. The program's own ends may fail; bytes in
-//! memory don't, and the code is the same for both.
+//! The program's reader and writer, and whether they are known not to fail. Standard input and
+//! output may fail. Bytes in memory fail only if an allocation fails. The code is the same for
+//! both.
 
 ghost use Rattle.std.specs.Prelude.{◌≡◌, Bool, true, false, IsTrue, IsOk, IfErr, OnOk};
 ghost use Rattle.std.specs.Io.{ReadsAtMost};
@@ -9,15 +10,15 @@ ghost use Rattle.std.specs.IoError.{error_kind};
 use std::io;
 use std::io::{ErrorKind, Read, Stdin, Stdout, Write};
 
-/// A reader.
+/// A source of input bytes.
 pub trait Reader: Read {
-    /// Whether it is known that no read fails.
+    /// True if no read can fail.
     ghost is_sure: { Bool };
 
-    /// Reads once into the buffer, and returns how many bytes: none at the end of the input.
+    /// Reads once into the buffer, and returns the number of bytes: 0 at the end of the input.
     ///
     /// # Errors
-    /// Those of the reader.
+    /// The errors of the reader.
     fn read_once(&mut self, buffer: &mut [u8]) -> io::Result<usize>
         ensures bound { ReadsAtMost result buffer.new }
         ensures bytes { ReadConsumes (Self.remaining self.old) (Self.remaining self.new) result
@@ -42,15 +43,15 @@ impl Reader for Stdin {
     }
 }
 
-/// A writer.
+/// A destination of output bytes.
 pub trait Writer: Write {
-    /// Whether it is known that no write fails but when out of memory.
+    /// True if no write can fail, except when an allocation fails.
     ghost is_sure: { Bool };
 
-    /// Writes all of the bytes, and sees them through.
+    /// Writes all of the bytes, and flushes them.
     ///
     /// # Errors
-    /// Those of the writer, which may then have taken some of the bytes.
+    /// The errors of the writer. It may have taken some of the bytes by then.
     fn put(&mut self, bytes: &[u8]) -> io::Result<()>
         ensures bytes { OnOk result
             (Appends (Self.contents self.old) (Self.contents self.new) bytes.now) }

@@ -1,4 +1,4 @@
-//! The program over readers and writers that fail at one of their calls, or from one of them on.
+//! Tests of the program with readers and writers that fail at one call, or from one call on.
 
 ghost use Rattle.std.specs.Prelude.{false};
 
@@ -12,18 +12,18 @@ use std::io::{ErrorKind, Read, Write};
 use std::process::Abort;
 use std::test::Fail;
 
-/// Which calls fail, counted from 0, and how.
+/// The calls that fail, counted from 0, and their error.
 #[derive(Clone, Copy, Debug)]
 struct Failing {
-    /// The first that fails.
+    /// The first call that fails.
     first: usize,
-    /// Whether it is the only one.
+    /// True if no other call fails.
     recovers: bool,
-    /// The error, or `None` where a write takes nothing.
+    /// The error, or `None` if a write takes nothing.
     fault: Option<ErrorKind>,
 }
 
-/// Counts calls, and says which of them fail.
+/// Counts calls, and decides which of them fail.
 #[derive(Debug, Drop)]
 struct Calls {
     made: usize,
@@ -31,7 +31,7 @@ struct Calls {
 }
 
 impl Calls {
-    /// Counts a call, and says whether it fails.
+    /// Counts a call, and returns true if it fails.
     fn fails(&mut self) -> bool {
         let call = self.made;
         self.made = call.saturating_add(1);
@@ -43,7 +43,7 @@ impl Calls {
     }
 }
 
-/// Bytes that are read in parts of at most `size`.
+/// A reader of bytes, in parts of at most `size`.
 #[derive(Drop)]
 struct FailRead<'a> {
     rest: &'a [u8],
@@ -75,7 +75,7 @@ impl Reader for FailRead<'_> {
     }
 }
 
-/// Bytes that are written one by one.
+/// A writer that takes one byte at a time.
 #[derive(Drop)]
 struct FailWrite {
     taken: Vec<u8>,
@@ -117,7 +117,8 @@ impl Writer for FailWrite {
     }
 }
 
-/// Asserts what is written where calls of the reader fail, and the status; `true` where no call failed.
+/// Asserts the output and the exit status if calls of the reader fail. Returns true if no call
+/// failed.
 fn reads_to_the_end(
     rt: &impl Abort,
     alloc: Global,
@@ -149,8 +150,9 @@ fn reads_to_the_end(
     ends
 }
 
-/// A read fails at each call in turn, at this one alone or at each from it on, until none is left to fail: the line says so, and
-/// the status is 1. One that is interrupted is made again. The input comes in one part, in several, and byte by byte.
+/// Each read fails in turn, alone or with all later ones. The output says so, and the status is 1.
+///
+/// An interrupted read is repeated. The input comes in one part, in several, and byte by byte.
 #[test]
 fn says_that_a_read_failed(rt: HostRuntime) -> Result<(), Fail> {
     let alloc = rt.alloc();
@@ -165,7 +167,7 @@ fn says_that_a_read_failed(rt: HostRuntime) -> Result<(), Fail> {
         let fault = Some(fault);
         for row in &rows {
             for size in [1usize, 7, 4096] {
-                // A call for each part, and one that finds the end.
+                // There is a call for each part, and one more at the end.
                 for first in 0..row.input.len().saturating_add(3) {
                     let failing = Failing {
                         first,
@@ -182,7 +184,8 @@ fn says_that_a_read_failed(rt: HostRuntime) -> Result<(), Fail> {
     Ok(())
 }
 
-/// Asserts what is written where calls of the writer fail, and the status; `true` where no call failed.
+/// Asserts the output and the exit status if calls of the writer fail. Returns true if no call
+/// failed.
 fn writes_to_the_end(rt: &impl Abort, alloc: Global, row: &Row, failing: Failing) -> bool {
     let mut reader = Stream::new(row.input.as_str().as_bytes());
     let mut writer = Stream::new(FailWrite {
@@ -193,7 +196,7 @@ fn writes_to_the_end(rt: &impl Abort, alloc: Global, row: &Row, failing: Failing
     let writer = writer.into_inner();
     let lines = row.lines.as_str().as_bytes();
     let ends = writer.calls.made <= failing.first;
-    // A write is made for each byte, and then what was written is seen through.
+    // There is a write for each byte, and then a flush.
     let is_made_again = failing.fault == Some(ErrorKind::Interrupted)
         && failing.first < lines.len();
     if ends || is_made_again {
@@ -207,8 +210,8 @@ fn writes_to_the_end(rt: &impl Abort, alloc: Global, row: &Row, failing: Failing
     ends
 }
 
-/// A write fails at each call in turn, at this one alone or at each from it on, until none is left to fail: the status is 1. One
-/// that is interrupted is made again.
+/// Each write fails in turn, alone or with all later ones. The status is 1. An interrupted write is
+/// repeated.
 #[test]
 fn says_that_a_write_failed(rt: HostRuntime) -> Result<(), Fail> {
     let alloc = rt.alloc();
@@ -240,7 +243,7 @@ fn says_that_a_write_failed(rt: HostRuntime) -> Result<(), Fail> {
     Ok(())
 }
 
-/// Where a write takes nothing that isn't its end: the status is 1.
+/// If a write takes nothing before the end, the status is 1.
 #[test]
 fn says_that_a_write_took_nothing(rt: HostRuntime) -> Result<(), Fail> {
     let alloc = rt.alloc();
@@ -257,7 +260,7 @@ fn says_that_a_write_took_nothing(rt: HostRuntime) -> Result<(), Fail> {
     Ok(())
 }
 
-/// A kind that isn't known: the usage line and 2, and nothing is read.
+/// For an unknown kind, the usage line is written, the status is 2, and nothing is read.
 #[test]
 fn reads_nothing_for_an_unknown_kind(rt: HostRuntime) -> Result<(), Fail> {
     let alloc = rt.alloc();

@@ -1,4 +1,4 @@
-//! What the program can show.
+//! The kinds of input that the program can show.
 
 ghost use Rattle.std.specs.Prelude.{◌≡◌, MatchOption, MatchResult};
 ghost use Rattle.std.specs.String.{string_bytes};
@@ -14,10 +14,10 @@ use coset::{
 };
 use std::alloc::Global;
 
-/// What the input spells.
+/// The kind of an input.
 #[derive(Clone, Copy, Debug, PartialEq, Eq)]
 pub enum Kind {
-    /// An item of CBOR (RFC 8949, section 3).
+    /// A CBOR data item (RFC 8949, section 3).
     Value,
     /// A message with one signature (RFC 8152, section 4.2).
     Sign1,
@@ -44,7 +44,7 @@ pub enum Kind {
 }
 
 impl Kind {
-    /// The kind of that name.
+    /// Returns the kind with this name, or `None` if there is none.
     pub fn of(name: &str) -> Option<Kind>
         ensures { MatchOption result ((k : Kind) → name.now ≡ kind_name k → ⊥)
             (λ k. name.now ≡ kind_name k) }
@@ -66,10 +66,10 @@ impl Kind {
         }
     }
 
-    /// The lines that show the bytes.
+    /// Returns the lines that show the bytes.
     ///
     /// # Errors
-    /// Why the bytes aren't of the kind, or that memory ran out.
+    /// The reason why the bytes aren't of the kind, or `OutOfMemory`.
     pub fn lines(self, alloc: Global, bytes: &[u8]) -> Result<String, Refusal>
         ensures { MatchResult result (λ lines. ShowsBytes self bytes.now (string_bytes lines))
             (λ refusal. RefusesBytes self bytes.now refusal) }

@@ -1,4 +1,4 @@
-//! `coset_show KIND`: shows what standard input spells in hexadecimal, written anew in its shortest form.
+//! `coset_show KIND`: decodes hexadecimal standard input, and prints its shortest encoding.
 #![tactic(auto)]
 
 ghost use Rattle.std.specs.Prelude.{MatchOption};
@@ -23,7 +23,7 @@ use std::env::Args;
 use std::process::ExitCode;
 use stream::Stream;
 
-/// The one argument behind the program's name, or nothing where there isn't exactly one.
+/// Returns the argument after the program's name, or `None` unless there is exactly one.
 fn only_argument(mut arguments: Args) -> Option<String>
     ensures { MatchOption result (AreNoNameAndOne (into_iter_items arguments))
         (λ only. AreNameAnd (into_iter_items arguments) only) }

@@ -1,4 +1,4 @@
-//! Why an input isn't shown.
+//! The reasons why an input isn't shown.
 
 ghost use Rattle.std.specs.Fmt.{WritesOnOk};
 ghost use Rattle.coset_show.specs.Refusal.{fault_text};
@@ -9,14 +9,14 @@ use hex::FromHexError;
 use std::alloc::AllocError;
 use std::fmt;
 
-/// Why an input isn't shown. Its text follows `error: ` in the line that says so.
+/// The reason why an input isn't shown. Its text follows `error: ` in the output line.
 #[derive(Debug, Drop)]
 pub enum Refusal {
     /// A read failed.
     Unreadable,
     /// The input isn't hexadecimal.
     NotHexadecimal,
-    /// The bytes aren't of the kind, or a request for memory was refused.
+    /// The bytes aren't of the kind, or an allocation failed.
     Cose(CoseError),
 }
 
@@ -39,7 +39,7 @@ impl fmt::Display for Refusal {
     }
 }
 
-/// Writes the error as its `Debug` does, in words that a contract can name.
+/// Writes the error as its `Debug` impl does, in text that a contract can name.
 fn write_fault<W: fmt::Write>(
     f: &mut fmt::Formatter<W>,
     error: &de::Error<EndOfFile>,

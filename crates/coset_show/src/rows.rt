@@ -1,7 +1,9 @@
-//! Rows of the program.
+//! The program's test rows.
 
-/// A row is KIND, the status, the input, and what is written for it, with ` | ` between them; in the last two `\n` is a line feed,
-/// `\t` a tab, `\r` a carriage return and `\\` a backslash. Lines that begin with `#`, and empty ones, are no rows.
+/// A row is KIND, the exit status, the input and the output, separated by ` | `.
+///
+/// In the input and the output, `\n` is a line feed, `\t` a tab, `\r` a carriage return and `\\` a
+/// backslash. Empty lines and lines that begin with `#` are no rows.
 pub(crate) const ROWS: &str = r#"
 # Values (RFC 8949, section 3): digits of either case, white space, indefinite lengths, heads that are longer than need be.
 value | 0 | a20126180126 | a201260126\n

@@ -18,46 +18,48 @@ use coset::CoseError;
 use std::alloc::{AllocError, Global};
 use std::io::ErrorKind;
 
-/// The status of an input that was shown.
+/// The exit status if the input was shown.
 const SHOWN: u8 = 0;
 
-/// The status of an input that was refused, and of a write that failed.
+/// The exit status if the input was refused or a write failed.
 const REFUSED: u8 = 1;
 
-/// The status of a kind that isn't known.
+/// The exit status if the kind isn't known.
 const MISUSED: u8 = 2;
 
-/// Shows what the reader's input spells in hexadecimal, as the kind says, and returns the exit status.
+/// Shows the reader's hexadecimal input as a value of this kind, and returns the exit status.
 ///
-/// White space in the input (the bytes 09, 0a, 0d and 20) is dropped, and digits may be of either case. What is
-/// written is made before any of it goes out. The status is 0 where the input is shown; 1 where it is refused,
-/// which a line that begins `error: ` says, and where a write fails; 2 for a kind that isn't known, of which the
-/// usage line says: then the reader isn't asked.
+/// White space in the input (the bytes 09, 0a, 0d and 20) is dropped. Digits may be of either case.
+/// All output is made before any of it is written. The exit status is:
+///
+/// - 0 if the input is shown.
+/// - 1 if the input is refused, as a line that begins with `error: ` says, or if a write fails.
+/// - 2 if the kind isn't known. The usage line is then written, and nothing is read.
 pub fn run<R: Reader, W: Writer>(
     alloc: Global,
     kind: &str,
     reader: &mut Stream<R>,
     writer: &mut Stream<W>,
 ) -> u8
-    // Another kind: the usage line and 2, and the reader isn't asked.
+    // For an unknown kind, the usage line is written, the status is 2, and nothing is read.
     ensures unknown { ((k : Kind) → kind.now ≡ kind_name k → ⊥) → (reader.new ≡ reader.old)
         × (IsSound writer.new
         → Appends (W.contents (inside writer.old)) (W.contents (inside writer.new)) usage_line
         × (result ≡ 2)) }
-    // No call fails, and the bytes are known: what is written answers the input.
+    // If no call fails and the bytes are known, the output and the status are right for the input.
     ensures known { (k : Kind) → kind.now ≡ kind_name k → IsSound reader.new → IsSound writer.new
         → IfSome (R.remaining (inside reader.old)) (λ input. (lines : List ℕ)
         × Appends (W.contents (inside writer.old)) (W.contents (inside writer.new)) lines
         × AnswersInput k input lines result) }
-    // A read fails: the line that says so, or that memory ran out, and 1.
+    // If a read fails, the line says so or says `out of memory`, and the status is 1.
     ensures unreadable { (k : Kind) → kind.now ≡ kind_name k → Fails reader.old reader.new
         → IsSound writer.new → (lines : List ℕ)
         × Appends (W.contents (inside writer.old)) (W.contents (inside writer.new)) lines
         × ((lines ≡ refusal_line Refusal.Unreadable) ⊎ (lines ≡ refusal_line no_memory))
         × (result ≡ 1) }
-    // A write fails: 1.
+    // If a write fails, the status is 1.
     ensures unwritten { Fails writer.old writer.new → result ≡ 1 }
-    // Of a reader that is known not to fail none is said to have failed.
+    // A reader that is known not to fail isn't recorded as failed.
     ensures sure { IsTrue R.is_sure → has_failed reader.new ≡ has_failed reader.old }
 {
     let Some(kind) = Kind::of(kind) else {
@@ -72,10 +74,10 @@ pub fn run<R: Reader, W: Writer>(
     }
 }
 
-/// The lines for the reader's input.
+/// Returns the lines for the reader's input.
 ///
 /// # Errors
-/// Why the input isn't shown.
+/// The reason why the input isn't shown.
 fn answer<R: Reader>(alloc: Global, kind: Kind, reader: &mut Stream<R>) -> Result<String, Refusal>
     ensures known { IsSound reader.new → IfSome (R.remaining (inside reader.old)) (λ input.
         MatchResult result (λ lines. ShowsInput kind input (string_bytes lines))
@@ -88,7 +90,7 @@ fn answer<R: Reader>(alloc: Global, kind: Kind, reader: &mut Stream<R>) -> Resul
     kind.lines(alloc, bytes.as_slice())
 }
 
-/// All that the reader has left.
+/// Reads the input to its end.
 fn read_to_end<R: Reader>(alloc: Global, reader: &mut Stream<R>) -> Result<Vec<u8>, Refusal>
     ensures bytes { IfSome (R.remaining (inside reader.old)) (λ input.
         IfOk result (λ v. v.items ≡ input)) }
@@ -111,11 +113,11 @@ fn read_to_end<R: Reader>(alloc: Global, reader: &mut Stream<R>) -> Result<Vec<u
             }
         }
     }
-    // That many bytes fit into no memory.
+    // So many bytes would not fit into memory.
     Err(Refusal::Cose(CoseError::OutOfMemory))
 }
 
-/// The bytes that the input spells in hexadecimal, white space aside.
+/// Decodes the input from hexadecimal, ignoring white space.
 fn spelled_bytes(alloc: Global, mut input: Vec<u8>) -> Result<Vec<u8>, Refusal>
     ensures { MatchResult result (λ bytes. Spells input.items bytes.items)
         (λ refusal. RefusesHexadecimal input.items refusal) }
@@ -124,28 +126,28 @@ fn spelled_bytes(alloc: Global, mut input: Vec<u8>) -> Result<Vec<u8>, Refusal>
     Ok(hex::decode(alloc, input.as_slice())?)
 }
 
-/// Drops the white space.
+/// Removes white space.
 fn drop_space(input: &mut Vec<u8>)
     ensures { input.new.items ≡ without_space input.old.items }
 {
     input.retain(|&byte| !is_space(byte));
 }
 
-/// Whether the byte is a tab, a line feed, a carriage return or a space.
+/// Returns true if the byte is a tab, a line feed, a carriage return or a space.
 fn is_space(byte: u8) -> bool
     ensures { result ≡ is_space_spec byte }
 {
     matches!(byte, b'\t' | b'\n' | b'\r' | b' ')
 }
 
-/// The line for the refusal.
+/// Returns the output line for the refusal.
 fn refusal_line(alloc: Global, refusal: &Refusal) -> Result<String, AllocError>
     ensures { IfOk result (λ text. string_bytes text ≡ refusal_line refusal.now) }
 {
     format!(in alloc; "error: {refusal}\n")
 }
 
-/// Writes the lines, and returns the status, or that of a failed write.
+/// Writes the lines and returns `status`, or the status of a failed write.
 fn write_lines<W: Writer>(writer: &mut Stream<W>, lines: &str, status: u8) -> u8
     ensures written { IsSound writer.new
         → Appends (W.contents (inside writer.old)) (W.contents (inside writer.new)) lines.now

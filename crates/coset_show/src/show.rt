@@ -1,4 +1,4 @@
-//! How values of the types of COSE are shown.
+//! Output for values of the COSE types.
 
 ghost use Rattle.std.specs.Prelude.{◌≡◌, [], IfOk, MatchResult};
 ghost use Rattle.hex.specs.Hex.{encode_lower};
@@ -14,7 +14,7 @@ use crate::refusal::Refusal;
 use coset::{CborSerializable, CoseError, CoseSign1, Lawful, TaggedCborSerializable};
 use std::alloc::{AllocError, Global};
 
-/// The bytes as a line of lower-case hexadecimal.
+/// Returns the bytes as a line of lower-case hexadecimal.
 fn hexadecimal_line(alloc: Global, bytes: &[u8]) -> Result<String, AllocError>
     ensures { IfOk result (λ text. string_bytes text ≡ line (encode_lower bytes.now)) }
 {
@@ -23,7 +23,7 @@ fn hexadecimal_line(alloc: Global, bytes: &[u8]) -> Result<String, AllocError>
     Ok(text)
 }
 
-/// The line of a value that was read.
+/// Returns the line of a value that was read.
 fn line_of<T: Lawful + CborSerializable>(alloc: Global, value: T) -> Result<String, CoseError>
     ensures { WritesRead T.shape (T.view value) (λ s. string_bytes s) result }
 {
@@ -31,10 +31,10 @@ fn line_of<T: Lawful + CborSerializable>(alloc: Global, value: T) -> Result<Stri
     Ok(hexadecimal_line(alloc, &encoded)?)
 }
 
-/// The line of the value that the bytes describe.
+/// Returns the line of the value that the bytes describe.
 ///
 /// # Errors
-/// Why they describe none, or that memory ran out.
+/// The reason why they describe no value, or `OutOfMemory`.
 pub fn type_line<T: Lawful + CborSerializable>(
     alloc: Global,
     bytes: &[u8],
@@ -46,14 +46,14 @@ pub fn type_line<T: Lawful + CborSerializable>(
     Ok(line_of(alloc, value)?)
 }
 
-/// Whether the bytes begin with a tag (RFC 8949, section 3.4).
+/// Returns true if the bytes begin with a tag (RFC 8949, section 3.4).
 fn is_tagged(bytes: &[u8]) -> bool
     ensures { result ≡ is_tagged_spec bytes.now }
 {
     matches!(bytes.first(), Some(first) if first / 32 == 6)
 }
 
-/// Reads a message, under its tag or plain.
+/// Decodes a message, tagged or plain.
 fn read_message<T: CborSerializable + TaggedCborSerializable>(
     alloc: Global,
     tagged: bool,
@@ -69,7 +69,7 @@ fn read_message<T: CborSerializable + TaggedCborSerializable>(
     }
 }
 
-/// The line of a message that was read, under its tag or plain.
+/// Returns the line of a message that was read, tagged or plain.
 fn message_line<T: Lawful + CborSerializable + TaggedCborSerializable>(
     alloc: Global,
     tagged: bool,
@@ -86,7 +86,7 @@ fn message_line<T: Lawful + CborSerializable + TaggedCborSerializable>(
     }
 }
 
-/// The line of the message that the bytes describe, under its tag where they begin with one.
+/// Returns the line of the message that the bytes describe, tagged if they begin with a tag.
 ///
 /// # Errors
 /// The same as [`type_line`].
@@ -103,7 +103,8 @@ pub fn message_lines<T: Lawful + CborSerializable + TaggedCborSerializable>(
     Ok(message_line(alloc, tagged, message)?)
 }
 
-/// The line of what is signed where `external_aad` is empty, of a message that was read.
+/// Returns the line of the bytes to be signed, for a message that was read and an empty
+/// `external_aad`.
 fn signed_line(alloc: Global, message: &CoseSign1) -> Result<String, CoseError>
     ensures { (v : Item) → sign1.describes v (sign1_view message.now)
         → MatchResult result (λ l. IsLineOf (sign1_carried (sign1_view message.now) [])
@@ -113,7 +114,7 @@ fn signed_line(alloc: Global, message: &CoseSign1) -> Result<String, CoseError>
     Ok(hexadecimal_line(alloc, &signed)?)
 }
 
-/// The line of the message that the bytes describe, and behind `tbs ` that of what is signed.
+/// Returns two lines: the message that the bytes describe, and after `tbs ` the bytes to be signed.
 ///
 /// # Errors
 /// The same as [`type_line`].

@@ -1,4 +1,4 @@
-//! Readers and writers that remember a failure.
+//! Readers and writers that remember whether a call failed.
 
 ghost use Rattle.std.specs.Prelude.{◌≡◌, ◌≢◌, true, IsTrue, IsOk, IfErr, OnOk, OnErr};
 ghost use Rattle.std.specs.Io.{ReadsAtMost};
@@ -10,8 +10,8 @@ use crate::ends::{Reader, Writer};
 use std::io;
 use std::io::ErrorKind;
 
-/// A reader or a writer, and whether a call of it has failed. A call that was interrupted hasn't failed: it can
-/// be made again.
+/// A reader or a writer, and whether one of its calls has failed. An interrupted read doesn't
+/// count, because it can be repeated.
 #[derive(Drop)]
 pub struct Stream<T> {
     inner: T,
@@ -19,7 +19,7 @@ pub struct Stream<T> {
 }
 
 impl<T> Stream<T> {
-    /// A reader or a writer of which no call has failed.
+    /// Wraps a reader or a writer. No call has failed yet.
     pub fn new(inner: T) -> Stream<T>
         ensures inner { inside result ≡ inner }
         ensures sound { IsSound result }
@@ -30,7 +30,7 @@ impl<T> Stream<T> {
         }
     }
 
-    /// The reader or the writer itself.
+    /// Returns the reader or the writer.
     #[cfg(test)]
     pub fn into_inner(self) -> T
         ensures { result ≡ inside self }
@@ -40,10 +40,10 @@ impl<T> Stream<T> {
 }
 
 impl<R: Reader> Stream<R> {
-    /// Reads once into the buffer, and returns how many bytes: none at the end of the input.
+    /// Reads once into the buffer, and returns the number of bytes: 0 at the end of the input.
     ///
     /// # Errors
-    /// Those of the reader.
+    /// The errors of the reader.
     pub fn read(&mut self, buffer: &mut [u8]) -> io::Result<usize>
         ensures bound { ReadsAtMost result buffer.new }
         ensures bytes { ReadConsumes (R.remaining (inside self.old)) (R.remaining (inside self.new))
@@ -66,10 +66,10 @@ impl<R: Reader> Stream<R> {
 }
 
 impl<W: Writer> Stream<W> {
-    /// Writes all of the bytes, and sees them through.
+    /// Writes all of the bytes, and flushes them.
     ///
     /// # Errors
-    /// Those of the writer, which may then have taken some of the bytes.
+    /// The errors of the writer. It may have taken some of the bytes by then.
     pub fn write_all(&mut self, bytes: &[u8]) -> io::Result<()>
         ensures bytes { OnOk result
             (Appends (W.contents (inside self.old)) (W.contents (inside self.new)) bytes.now) }

@@ -1,4 +1,4 @@
-//! The program over memory: the rows of `rows.rt`, and rows that are made here.
+//! Tests of the program in memory: the rows of `rows.rt`, and rows that are made here.
 
 use crate::rows::ROWS;
 use crate::run::run;
@@ -7,7 +7,7 @@ use std::alloc::{AllocError, Global};
 use std::process::Abort;
 use std::test::Fail;
 
-/// A kind, an input, what is written for it, and the status.
+/// A kind, an input, its output, and the exit status.
 #[derive(Drop)]
 pub(crate) struct Row {
     pub(crate) kind: String,
@@ -16,7 +16,8 @@ pub(crate) struct Row {
     pub(crate) status: u8,
 }
 
-/// The text that a field of a row spells: `\n` is a line feed, `\t` a tab, `\r` a carriage return, `\\` a backslash.
+/// Returns the text of a row's field: `\n` is a line feed, `\t` a tab, `\r` a carriage return, `\\`
+/// a backslash.
 fn unescaped(alloc: Global, field: &str) -> Result<String, AllocError> {
     let mut text = String::new(alloc);
     let mut escapes = false;
@@ -37,7 +38,7 @@ fn unescaped(alloc: Global, field: &str) -> Result<String, AllocError> {
     Ok(text)
 }
 
-/// The row that a line has; `None` of a line that is empty or begins with `#`.
+/// Returns the row of a line, or `None` if the line is empty or begins with `#`.
 fn row_of(rt: &impl Abort, alloc: Global, line: &str) -> Result<Option<Row>, AllocError> {
     if line.is_empty() || line.starts_with('#') {
         return Ok(None);
@@ -65,7 +66,7 @@ fn row_of(rt: &impl Abort, alloc: Global, line: &str) -> Result<Option<Row>, All
     }))
 }
 
-/// The rows of [`ROWS`].
+/// Returns the rows of [`ROWS`].
 pub(crate) fn rows(rt: &impl Abort, alloc: Global) -> Result<Vec<Row>, AllocError> {
     let mut rows = Vec::new(alloc);
     for line in ROWS.split('\n') {
@@ -76,7 +77,7 @@ pub(crate) fn rows(rt: &impl Abort, alloc: Global) -> Result<Vec<Row>, AllocErro
     Ok(rows)
 }
 
-/// What is written for the input, and the status.
+/// Returns the output for the input, and the exit status.
 fn shown(alloc: Global, kind: &str, input: &[u8]) -> (Vec<u8>, u8) {
     let mut reader = Stream::new(input);
     let mut writer = Stream::new(Vec::new(alloc));
@@ -84,7 +85,7 @@ fn shown(alloc: Global, kind: &str, input: &[u8]) -> (Vec<u8>, u8) {
     (writer.into_inner(), status)
 }
 
-/// Asserts what is written for the input, and the status.
+/// Asserts the output for the input, and the exit status.
 fn assert_shown(rt: &impl Abort, alloc: Global, kind: &str, input: &str, lines: &str, status: u8) {
     let (written, answer) = shown(alloc, kind, input.as_bytes());
     assert_eq!(rt; written.as_slice(), lines.as_bytes(), "{kind} {input}");
@@ -105,7 +106,7 @@ fn shows_each_row(rt: HostRuntime) -> Result<(), Fail> {
 /// A text and how often it is repeated.
 type Run<'a> = (&'a str, usize);
 
-/// The texts, one after the other.
+/// Concatenates the repeated texts.
 fn repeated(alloc: Global, runs: &[Run<'_>]) -> Result<String, AllocError> {
     let mut text = String::new(alloc);
     for (part, times) in runs {
@@ -116,7 +117,8 @@ fn repeated(alloc: Global, runs: &[Run<'_>]) -> Result<String, AllocError> {
     Ok(text)
 }
 
-/// 256 levels are read, where an array or a map is one even if it is empty, and so is a tag; one level more is refused.
+/// 256 levels are read, and one more is refused. An array or a map is a level even if it is empty,
+/// and so is a tag.
 #[test]
 fn reads_256_levels(rt: HostRuntime) -> Result<(), Fail> {
     let alloc = rt.alloc();
@@ -152,8 +154,9 @@ fn reads_256_levels(rt: HostRuntime) -> Result<(), Fail> {
     Ok(())
 }
 
-/// A string of that many letters `a` as digits: with the shortest head, and with one of eight bytes. `major` is the major type's
-/// share of the first byte.
+/// Returns two encodings in hexadecimal of a string of `length` letters `a`. The first has the
+/// shortest head, and the second an argument of eight bytes. `major` is the major type's share of
+/// the initial byte.
 fn spellings(alloc: Global, major: usize, length: usize) -> Result<(String, String), AllocError> {
     let content = repeated(alloc, &[("61", length)])?;
     let head = if length < 24 {
@@ -169,8 +172,8 @@ fn spellings(alloc: Global, major: usize, length: usize) -> Result<(String, Stri
     Ok((format!(in alloc; "{head}{content}")?, long))
 }
 
-/// Strings of many lengths, with their shortest heads, with those of eight bytes, and in one chunk. The long ones take several
-/// reads.
+/// Strings of many lengths, with the shortest head, with an argument of eight bytes, and in one
+/// chunk. The long ones take several reads.
 #[test]
 fn shows_strings(rt: HostRuntime) -> Result<(), Fail> {
     let alloc = rt.alloc();
@@ -187,7 +190,8 @@ fn shows_strings(rt: HostRuntime) -> Result<(), Fail> {
     Ok(())
 }
 
-/// The byte string of bytes, both as digits: its shortest encoding where there are less than 256.
+/// Returns the encoding of a byte string, both in hexadecimal. It is the shortest encoding if there
+/// are fewer than 256 bytes.
 fn byte_string(alloc: Global, content: &str) -> Result<String, AllocError> {
     let length = content.len() / 2;
     if length < 24 {
@@ -197,8 +201,8 @@ fn byte_string(alloc: Global, content: &str) -> Result<String, AllocError> {
     }
 }
 
-/// A protected header's byte string with so many inside one another, each but the innermost with a counter signature (RFC 8152,
-/// section 4.5).
+/// Returns nested byte strings of protected headers. Each one except the innermost has a counter
+/// signature (RFC 8152, section 4.5).
 fn nested(alloc: Global, strings: usize) -> Result<String, AllocError> {
     let mut string = byte_string(alloc, "")?;
     for _ in 1..strings {
@@ -208,7 +212,7 @@ fn nested(alloc: Global, strings: usize) -> Result<String, AllocError> {
     Ok(string)
 }
 
-/// 16 protected headers inside one another are read, and 17 are refused.
+/// 16 nested protected headers are read, and 17 are refused.
 #[test]
 fn reads_16_protected_headers(rt: HostRuntime) -> Result<(), Fail> {
     let alloc = rt.alloc();

@@ -1,4 +1,4 @@
--- What calls store that take a closure.
+-- Storing the result of a closure.
 use Rattle.std.proofs.Common.{◌≡◌, [], ◌∷◌, ◌++◌, map, Vec, Global, ap, ◌∙◌}
 use Rattle.std.proofs.lemmas.List.{map_push}
 use Rattle.coset_core.specs.Headers.{SignatureView}
@@ -7,7 +7,7 @@ use Rattle.coset_core.specs.declared.signature.CoseSignature.{CoseSignature}
 use Rattle.coset_sign.specs.Sign.{sign_view, and_signature}
 use Rattle.coset_sign.specs.declared.sign.CoseSign.{CoseSign}
 
--- one more signature
+-- Pushing one more signature.
 pub signature_pushed :
     (m : CoseSign) (all : Vec CoseSignature Global) (s : CoseSignature) (x : SignatureView) → all.items ≡ m.signatures.items ++ s ∷ [] → signature_view s ≡ x
     → sign_view (record m { signatures = all }) ≡ and_signature x (sign_view m)

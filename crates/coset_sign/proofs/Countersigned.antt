@@ -1,4 +1,5 @@
--- What countersignatures are over is determined by the bytes of two protected headers, and these stay as they were written.
+-- The protected bytes of body and signer determine what a countersignature signs, and are the same after writing and
+-- reading.
 use Rattle.std.proofs.Common.{◌≡◌, ℕ, List, [], ◌∷◌, Some, None, option_map, sym, ap}
 use Rattle.coset_value.specs.Item.{Item}
 use Rattle.coset_codec.specs.AsWritten.{AsWritten, WhenRead}
@@ -20,7 +21,7 @@ use Rattle.coset_sign.specs.Sign1.{sign1, sign1_elements, sign1_fields}
 use Rattle.coset_sign.specs.SignatureStructure.{signature_structure}
 use Rattle.coset_sign.specs.declared.signature.SignatureContext.TheVariants.{CounterSignature}
 
--- ---- by the bytes of the headers
+-- ---- structures from protected bytes
 
 pub countersigns_same : (p s q t : ProtectedView) → protected_bytes p ≡ protected_bytes q → protected_bytes s ≡ protected_bytes t → CountersignsSame p s q t
 countersigns_same p s q t e f =
@@ -42,7 +43,7 @@ countersigns p s h g =
 abbreviates : (p : ProtectedView) → HasBytes p → Abbreviates p
 abbreviates p h a l others none = some-none (ap (option_map (λ b. countersign_structure b None a l others)) h.1) none
 
--- ---- those in a header
+-- ---- countersignatures in a header
 
 module _ {R Q : SignatureView → SignatureView → Type 0} (f : (s t : SignatureView) → R s t → Q s t) where
   each_with : (ss ts : List SignatureView) → EachWith R ss ts → EachWith Q ss ts
@@ -69,11 +70,11 @@ module _ {P Q : SignatureView → Type 0} (f : (s : SignatureView) → P s → Q
   each_signature : (h : HeaderView) → EachSignature P h → EachSignature Q h
   each_signature h k = (each_has (each_of (counter_signatures_in h)) k.0, each_has (each_of (countersignatures_in h)) k.1)
 
--- what the laws of signatures in headers say
+-- The law of `coset_core` on the signatures in headers that are written and read.
 abbrev pub SignaturesKeptAsWritten : Type 0
 SignaturesKeptAsWritten = AsWritten header (SignaturesReadAs KeepsSignature)
 
--- so they are over the same, in headers
+-- Therefore countersignatures in such headers have the same structures.
 in_headers : (p q : ProtectedView) (h g : HeaderView) → KeepsBytes p q → SignaturesReadAs KeepsSignature h g → EachCountersignsSame p h q g
 in_headers p q h g e k = (abbreviates_same p q (sym e), all_read_as (λ s t f. countersigns_same p s.protected q t.protected (sym e) (sym f.0)) h g k)
 
@@ -91,14 +92,14 @@ in_header p h b k = (abbreviates p b, each_signature (λ s own. countersigns p s
 pub within_when_read : WhenRead header KeepsSignatures → (p : ProtectedView) → HasBytes p → WhenRead header (EachCountersigns p)
 within_when_read kept p b v h d = in_header p h b (kept v h d)
 
--- what the laws say of a signature that was read
+-- The law of `coset_core` on a signature that was read.
 abbrev pub KeptAsReceived : Type 0
 KeptAsReceived = (k : ℕ) (v : Item) (s : SignatureView) → (layered_signature k).describes v s → KeepsReceived v s
 
 pub apart_when_read : KeptAsReceived → (p : ProtectedView) → HasBytes p → WhenRead signature (λ s. Countersigns p s.protected)
 apart_when_read kept p b v s d = let own = (kept LAYERS v s d).0 in countersigns p s.protected b (own.0, own.2)
 
--- ---- those in the unprotected header of a message
+-- ---- countersignatures in the unprotected header of a message
 
 module _ {A : Type 0} (ps : Elements A) where
   pub countersigned_as_written :

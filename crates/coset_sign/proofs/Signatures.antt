@@ -1,4 +1,4 @@
--- What is signed determines its parts.
+-- The bytes of a structure determine its parts.
 use Rattle.std.proofs.Common.{◌≡◌, ℕ, List, length, cond, eqb, Option, Some, None, refl, sym, ap, ◌∙◌, arith}
 use Rattle.coset_cbor.specs.Shortest.{IsShortest}
 use Rattle.coset_sign.specs.declared.signature.SignatureContext.{SignatureContext}
@@ -6,7 +6,7 @@ use Rattle.coset_sign.specs.declared.signature.SignatureContext.TheVariants.{Cos
 use Rattle.coset_core.specs.Structure.{structure}
 use Rattle.coset_sign.specs.SignatureStructure.{context_text, signed_parts, signature_structure}
 
--- ---- contexts, by the lengths of their texts
+-- ---- contexts, told apart by the lengths of their texts
 
 abbrev context_of_length : ℕ → SignatureContext
 context_of_length n = cond (eqb n 9) CoseSignature (cond (eqb n 10) CoseSign1 CounterSignature)
@@ -27,7 +27,7 @@ same_parts p q None (Some t) a x l m e = absurd (let n = ap length e in omega ar
 same_parts p q (Some s) None a x l m e = absurd (let n = ap length e in omega arith)
 same_parts p q (Some s) (Some t) a x l m e = (cc, cc, cc, cc)
 
--- bytes are the structure of at most one context and one list of parts
+-- The bytes of a structure determine its context and its list of parts.
 abbrev OneStructure : Type 0
 OneStructure = (c d b : List ℕ) (p q : List (List ℕ)) → IsShortest b (structure c p) → IsShortest b (structure d q) → (c ≡ d) × (p ≡ q)
 

@@ -1,4 +1,4 @@
--- A message that was read, and one that was read from what another is written as.
+-- Messages after reading, and after writing and reading.
 use Rattle.std.proofs.Common.{◌≡◌, ℕ, List, [], ◌∷◌, Some, None, option_map, ap}
 use Rattle.std.specs.Prelude.{⊤}
 use Rattle.coset_codec.proofs.AsWritten.{bstr_as_written, list_as_written, list_when_read, or_nil_as_written, then_as_written, then_when_read}
@@ -15,7 +15,7 @@ use Rattle.coset_sign.specs.Sign1.{SamePayloadAndSignature, sign1, sign1_fields,
 use Rattle.coset_sign.specs.Sign.{SignView, sign, sign_fields, sign_elements, signer, signer_structure, EachSigns, EachSignsSame}
 use Rattle.coset_sign.specs.declared.signature.SignatureContext.TheVariants.{CoseSign1, CoseSignature}
 
--- ---- their protected headers
+-- ---- protected headers
 
 pub sign1_kept : KeptAsWritten → AsWritten sign1 (λ m n. KeepsBytes m.protected n.protected)
 sign1_kept kept v m n e d = header_as_written sign1_elements KeepsBytes kept v (sign1_fields m) (sign1_fields n) e d
@@ -23,7 +23,7 @@ sign1_kept kept v m n e d = header_as_written sign1_elements KeepsBytes kept v (
 pub sign_kept : KeptAsWritten → AsWritten sign (λ m n. KeepsBytes m.protected n.protected)
 sign_kept kept v m n e d = header_as_written sign_elements KeepsBytes kept v (sign_fields m) (sign_fields n) e d
 
--- ---- with one signature
+-- ---- messages with one signature
 
 signs_same : (p q : ProtectedView) → KeepsBytes p q → SignsSame q p
 signs_same p q e context None a l = ap (option_map (λ b. signature_structure context b None a l)) e
@@ -44,9 +44,9 @@ has_signed external_aad payload v m d none =
     let header = header_when_read sign1_elements HasBytes has_bytes v (sign1_fields m) d in
     some-none (ap (option_map (λ p. signature_structure CoseSign1 p None external_aad payload)) header.1) none
 
--- ---- with any number of signatures
+-- ---- messages with any number of signatures
 
--- of the signatures' own headers
+-- Both signatures have the same protected bytes.
 abbrev KeepsSame : SignatureView → SignatureView → Type 0
 KeepsSame s t = KeepsBytes s.protected t.protected
 
@@ -71,7 +71,7 @@ each_signs_as_written kept v m n e d =
     let all = message_as_written sign_elements KeepsBytes _ kept elements v (sign_fields m) (sign_fields n) e d in
     each_signs_same m n all.0 m.signatures n.signatures all.1.1.1.0
 
--- of the signatures' own headers
+-- The signature's own protected header has protected bytes.
 abbrev HasOwnBytes : SignatureView → Type 0
 HasOwnBytes s = HasBytes s.protected
 

@@ -1,4 +1,4 @@
--- Two messages are seen alike exactly where their parts are.
+-- The views of two messages are equal exactly when their parts are.
 use Rattle.std.specs.Prelude.{◌≡◌, ◌&&◌, Bool, Decides}
 use Rattle.std.proofs.Common.{ap}
 use Rattle.std.proofs.lemmas.Bool.Decides.{Decides-like, Decides-and}

@@ -14,7 +14,7 @@ use Rattle.coset_sign.specs.Signed.{signed_item, or_empty}
 use Rattle.coset_sign.specs.declared.sign.CoseSign.{CoseSign}
 use Rattle.coset_sign.specs.declared.signature.SignatureContext.TheVariants.{CoseSignature}
 
--- a message without its memory
+-- The view of a message.
 pub record SignView : Type 0 where
   pub protected : ProtectedView
   pub unprotected : HeaderView
@@ -29,7 +29,7 @@ sign_view m = record {
   signatures = map signature_view m.signatures.items;
 }
 
--- one that holds nothing
+-- The empty message.
 abbrev pub empty_sign : SignView
 empty_sign = record { protected = empty_protected; unprotected = empty_header; payload = None; signatures = [] }
 
@@ -39,7 +39,7 @@ sign_of p = record { protected = p.0; unprotected = p.1.0; payload = p.1.1.0; si
 abbrev pub sign_fields : SignView → WithHeaders (Option (List ℕ) × (List SignatureView × Unit {0}))
 sign_fields m = (m.protected, (m.unprotected, (m.payload, (m.signatures, tt))))
 
--- COSE_Signature; the error says that an item is none, and not why
+-- The shape of COSE_Signature. Its errors say only that an item is no signature, and not why.
 abbrev pub signer : Shape SignatureView
 signer = masked IsUnexpected signature
 
@@ -59,32 +59,33 @@ sign = mapped sign_of sign_fields (with_headers sign_elements)
 pub sign_laws : Lawful SignView sign
 sign_laws = mapped_laws sign_of sign_fields (λ x. refl) _ (with_headers_laws sign_elements sign_elements_laws)
 
--- ---- what is signed
+-- ---- the structures to be signed
 
--- the structure of one signature of the message over `external_aad` and a payload, where both protected headers have
--- bytes
+-- The structure that one signature of the message signs, over `external_aad` and a payload. `None` if a protected
+-- header has no protected bytes.
 abbrev pub signer_structure : SignView → SignatureView → List ℕ → List ℕ → Option Item
 signer_structure m s external_aad payload = signed_item CoseSignature m.protected (Some s.protected) external_aad payload
 
--- over the payload that the message carries, which counts as empty where it is missing
+-- The same over the message's own payload. A missing payload counts as empty.
 abbrev pub signer_carried : SignView → SignatureView → List ℕ → Option Item
 signer_carried m s external_aad = signer_structure m s external_aad (or_empty m.payload)
 
--- of each signature of the two messages the same is signed, whatever goes with it
+-- The messages have as many signatures. Each signature has the same structure as its counterpart, for any
+-- `external_aad` and payload.
 abbrev pub EachSignsSame : SignView → SignView → Type 0
 EachSignsSame m n = EachWith (λ s t. (external_aad payload : List ℕ)
     → signer_structure m s external_aad payload ≡ signer_structure n t external_aad payload) m.signatures n.signatures
 
--- each signature of the message signs something, whatever goes with it
+-- Each signature of the message has a structure, for any `external_aad` and payload.
 abbrev pub EachSigns : SignView → Type 0
 EachSigns m = EachHas (λ s. (external_aad payload : List ℕ) → signer_structure m s external_aad payload ≡ None → ⊥) m.signatures
 
--- ---- with one signature more
+-- ---- one more signature
 
--- behind the others
+-- The message with this signature after the others.
 abbrev pub and_signature : SignatureView → SignView → SignView
 and_signature s m = record m { signatures = m.signatures ++ s ∷ [] }
 
--- the signature with these bytes
+-- The signature with these bytes, and its other fields unchanged.
 abbrev pub signed_with : List ℕ → SignatureView → SignatureView
 signed_with b s = record s { signature = b }

@@ -10,7 +10,7 @@ use Rattle.coset_sign.specs.Signed.{signed_item, or_empty}
 use Rattle.coset_sign.specs.declared.sign1.CoseSign1 as declared
 use Rattle.coset_sign.specs.declared.signature.SignatureContext.TheVariants.{CoseSign1}
 
--- a message without its memory
+-- The view of a message.
 pub record Sign1View : Type 0 where
   pub protected : ProtectedView
   pub unprotected : HeaderView
@@ -25,7 +25,7 @@ sign1_view m = record {
   signature = m.signature.items;
 }
 
--- one that holds nothing
+-- The empty message.
 abbrev pub empty_sign1 : Sign1View
 empty_sign1 = record { protected = empty_protected; unprotected = empty_header; payload = None; signature = [] }
 
@@ -49,22 +49,23 @@ sign1 = mapped sign1_of sign1_fields (with_headers sign1_elements)
 pub sign1_laws : Lawful Sign1View sign1
 sign1_laws = mapped_laws sign1_of sign1_fields (λ x. refl) _ (with_headers_laws sign1_elements sign1_elements_laws)
 
--- the second message carries the payload and the signature of the first
+-- The second message has the payload and the signature of the first.
 abbrev pub SamePayloadAndSignature : Sign1View → Sign1View → Type 0
 SamePayloadAndSignature m n = (n.payload ≡ m.payload) × (n.signature ≡ m.signature)
 
--- ---- what is signed
+-- ---- the structure to be signed
 
--- the structure of the message over `external_aad` and a payload, where its protected header has bytes
+-- The structure of the message over `external_aad` and a payload. `None` if its protected header has no protected
+-- bytes.
 abbrev pub sign1_structure : Sign1View → List ℕ → List ℕ → Option Item
 sign1_structure m external_aad payload = signed_item CoseSign1 m.protected None external_aad payload
 
--- over the payload that the message carries, which counts as empty where it is missing
+-- The same over the message's own payload. A missing payload counts as empty.
 abbrev pub sign1_carried : Sign1View → List ℕ → Option Item
 sign1_carried m external_aad = sign1_structure m external_aad (or_empty m.payload)
 
--- ---- with one field set
+-- ---- one field set
 
--- the message with this signature, and all else as it was
+-- The message with this signature, and its other fields unchanged.
 abbrev pub with_signature : List ℕ → Sign1View → Sign1View
 with_signature s m = record m { signature = s }

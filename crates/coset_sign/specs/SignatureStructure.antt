@@ -16,6 +16,6 @@ abbrev pub signed_parts : List ℕ → Option (List ℕ) → List ℕ → List �
 signed_parts body None external_aad payload = body ∷ external_aad ∷ payload ∷ []
 signed_parts body (Some signer) external_aad payload = body ∷ signer ∷ external_aad ∷ payload ∷ []
 
--- Sig_structure: the context, and then these
+-- Sig_structure: the context, and then these parts
 abbrev pub signature_structure : SignatureContext → List ℕ → Option (List ℕ) → List ℕ → List ℕ → Item
 signature_structure context body signer external_aad payload = structure (context_text context) (signed_parts body signer external_aad payload)

@@ -1,4 +1,5 @@
-//! What countersignatures of version 2 are over. The structures are this library's own, modelled on RFC 9338, section 3.3.
+//! The bytes that countersignatures of version 2 sign. The structures are this library's own,
+//! modelled on RFC 9338, section 3.3.
 
 ghost use Rattle.std.specs.Prelude.{◌≡◌, ◌≢◌, [], map, option_map, is_some, IfOk, IfErr, Some, None};
 ghost use Rattle.std.specs.Option.{option_copied};
@@ -19,11 +20,12 @@ use coset_core::structure::{begin_structure, byte_strings_room};
 use coset_core::{CoseCountersignature, ProtectedHeader};
 use std::alloc::Global;
 
-/// The beginning of the structure of these contents of protected headers, of which an abbreviated countersignature has no
-/// `signer`: all but the other fields, for which so many bytes are kept ready.
+/// Encodes the structure up to its other fields, and reserves `more` bytes for those.
+///
+/// `body` and `signer` are protected bytes. An abbreviated countersignature has no `signer`.
 ///
 /// # Errors
-/// `OutOfMemory` alone.
+/// `OutOfMemory` if an allocation fails.
 fn begin_countersign(
     alloc: Global,
     body: &[u8],
@@ -49,10 +51,10 @@ fn begin_countersign(
     }
 }
 
-/// The structure of these contents of protected headers.
+/// Encodes the structure of these protected bytes.
 ///
 /// # Errors
-/// `OutOfMemory` alone.
+/// `OutOfMemory` if an allocation fails.
 fn countersign_bytes(
     alloc: Global,
     body: &[u8],
@@ -73,10 +75,12 @@ fn countersign_bytes(
     Ok(out)
 }
 
-/// The structure over the protected bytes of the headers.
+/// Encodes the structure of these protected headers.
 ///
 /// # Errors
-/// `OutOfMemory`, or `DuplicateMapKey` where a header wasn't read and it, or one in it, repeats a label of its rest.
+/// - `OutOfMemory` if an allocation fails.
+/// - `DuplicateMapKey` if a header has no kept bytes and has a label twice in its `rest`. Nested
+///   headers count too, except those inside kept bytes.
 fn countersigned_bytes(
     alloc: Global,
     body: &ProtectedHeader,
@@ -108,9 +112,8 @@ fn countersigned_bytes(
     }
 }
 
-/// The bytes that a countersignature of version 2 is over: the shortest encoding of the structure of the protected bytes of
-/// the body's header and of the countersignature's, `external_aad`, the payload, and the other fields of what is
-/// countersigned. Which these are is the caller's; there is at least one. It is modelled on RFC 9338, section 3.3.
+/// Returns the bytes that a countersignature of version 2 signs: the shortest encoding of a
+/// `Countersign_structure`.
 ///
 /// ```cddl
 /// Countersign_structure = [
@@ -123,8 +126,15 @@ fn countersigned_bytes(
 /// ]
 /// ```
 ///
+/// `body` is the protected header of the body, and `sign` that of the countersignature. A header
+/// that was read is represented by its kept bytes. The caller chooses `other_fields` from the
+/// countersigned structure; there must be at least one. The structure is modelled on RFC 9338,
+/// section 3.3.
+///
 /// # Errors
-/// `OutOfMemory`, or `DuplicateMapKey` where a header wasn't read and it, or one in it, repeats a label of its rest.
+/// - `OutOfMemory` if an allocation fails.
+/// - `DuplicateMapKey` if a header has no kept bytes and has a label twice in its `rest`. Nested
+///   headers count too, except those inside kept bytes.
 pub fn countersign_v2_structure_data(
     alloc: Global,
     body: ProtectedHeader,
@@ -148,8 +158,8 @@ pub fn countersign_v2_structure_data(
     )
 }
 
-/// The bytes that an abbreviated countersignature of version 2 is over: the same without a header of its own, under a
-/// context of its own. It is modelled on RFC 9338, section 3.3.
+/// Returns the bytes that an abbreviated countersignature of version 2 signs: the shortest encoding
+/// of a `Countersign0_structure`.
 ///
 /// ```cddl
 /// Countersign0_structure = [
@@ -160,6 +170,9 @@ pub fn countersign_v2_structure_data(
 ///     other_fields : [+ bstr]
 /// ]
 /// ```
+///
+/// It is the structure of [`countersign_v2_structure_data`] without the countersignature's header,
+/// and with a context of its own. It is modelled on RFC 9338, section 3.3.
 ///
 /// # Errors
 /// The same as [`countersign_v2_structure_data`].
@@ -177,12 +190,16 @@ pub fn countersign0_v2_structure_data(
     countersigned_bytes(alloc, &body, None, external_aad, payload, other_fields)
 }
 
-/// Asks `verifier` whether the countersignature, its first argument, is one of the bytes that it is over, its second one
-/// ([`countersign_v2_structure_data`] with the countersignature's protected header). It is asked once, unless there is an
-/// error of ours, and not at all then. The process is that of RFC 9338, section 3.3.
+/// Calls `verifier` with the countersignature's bytes and the bytes that it signs
+/// ([`countersign_v2_structure_data`]), in this order.
+///
+/// The structure includes the countersignature's protected header. `verifier` decides whether the
+/// countersignature is valid. It is called once, or not at all if the bytes to be signed can't be
+/// made. The process is that of RFC 9338, section 3.3.
 ///
 /// # Errors
-/// The same as [`countersign_v2_structure_data`]; or `Caller` with the error of `verifier`.
+/// - `Coset` with an error of [`countersign_v2_structure_data`].
+/// - `Caller` with the error of `verifier`.
 pub fn verify_countersignature<F, E>(
     alloc: Global,
     countersignature: &CoseCountersignature,

@@ -1,4 +1,7 @@
-//! Laws of the structures and of what is signed, which callers may cite. Each is the contract of a function that does nothing.
+//! Laws of the structures and of signed messages, for callers to cite.
+//!
+//! Each law is the contract of a function that does nothing. A value is "read back" if it was read
+//! from the item that another value is written as. How the item was encoded doesn't matter.
 
 ghost use Rattle.std.specs.Prelude.{◌≡◌, ℕ, List, Option, Some, None};
 ghost use Rattle.coset_cbor.specs.Shortest.{IsShortest};
@@ -16,7 +19,7 @@ ghost use Rattle.coset_sign.specs.declared.signature.SignatureContext.{Signature
 use coset_cbor::laws::{one_item, shortest_is_encoding};
 use coset_core::laws::{kept_as_written, signatures_kept_as_received, signatures_kept_as_written};
 
-/// Bytes are the structure of at most one context and one list of parts.
+/// The bytes of a structure determine its context and its list of parts.
 pub fn one_structure()
     ensures { (c d b : List ℕ) (p q : List (List ℕ)) → IsShortest b (structure c p)
         → IsShortest b (structure d q)
@@ -26,7 +29,8 @@ pub fn one_structure()
     shortest_is_encoding();
 }
 
-/// What is signed is of one context, one body, one signer or none, one `external_aad` and one payload alone.
+/// The bytes of a `Sig_structure` determine its context, body, `external_aad` and payload. They
+/// also determine its signer, or that it has none.
 pub fn one_signature_structure()
     ensures { (c d : SignatureContext) (p q : List ℕ) (s t : Option (List ℕ)) (a x l m b : List ℕ)
         → IsShortest b (signature_structure c p s a l)
@@ -36,8 +40,8 @@ pub fn one_signature_structure()
     one_structure();
 }
 
-/// Of a message with one signature that was read, plain or under its tag, there always is something that is signed: its
-/// protected header kept the bytes that it was read from.
+/// Every `COSE_Sign1` message that was read, plain or tagged, has a structure to be signed, because
+/// its protected header kept its bytes.
 pub fn signed_when_read()
     ensures plain { (external_aad payload : List ℕ)
         → WhenRead sign1 (λ m. sign1_structure m external_aad payload ≡ None → ⊥) }
@@ -45,14 +49,14 @@ pub fn signed_when_read()
         → WhenRead (tagged 18 sign1) (λ m. sign1_structure m external_aad payload ≡ None → ⊥) }
 {}
 
-/// Of a message that was read, plain or under its tag, each signature signs something.
+/// Every signature of a `COSE_Sign` message that was read, plain or tagged, has a structure to be
+/// signed.
 pub fn each_signed_when_read()
     ensures plain { WhenRead sign EachSigns }
     ensures tagged { WhenRead (tagged 98 sign) EachSigns }
 {}
 
-/// What is signed of a message with one signature that was read from what another is written as, plain or under its tag,
-/// is what is signed of that one, however the item was spelled.
+/// A `COSE_Sign1` message that is read back, plain or tagged, has the same structures to be signed.
 pub fn signed_as_written()
     ensures plain { AsWritten sign1 (λ m n. SignsSame n.protected m.protected) }
     ensures tagged { AsWritten (tagged 18 sign1) (λ m n. SignsSame n.protected m.protected) }
@@ -60,15 +64,14 @@ pub fn signed_as_written()
     kept_as_written();
 }
 
-/// A message with one signature that was read from what another is written as, plain or under its tag, carries the payload
-/// and the signature of that one, however the item was spelled.
+/// A `COSE_Sign1` message that is read back, plain or tagged, has the same payload and signature.
 pub fn carried_as_written()
     ensures plain { AsWritten sign1 SamePayloadAndSignature }
     ensures tagged { AsWritten (tagged 18 sign1) SamePayloadAndSignature }
 {}
 
-/// What each signature of a message signs that was read from what another is written as, plain or under its tag, is what
-/// that one's signs, however the item was spelled; and there are as many of them.
+/// A `COSE_Sign` message that is read back, plain or tagged, has as many signatures. Each signature
+/// has the same structures to be signed.
 pub fn each_signed_as_written()
     ensures plain { AsWritten sign (λ m n. EachSignsSame n m) }
     ensures tagged { AsWritten (tagged 98 sign) (λ m n. EachSignsSame n m) }
@@ -76,8 +79,7 @@ pub fn each_signed_as_written()
     kept_as_written();
 }
 
-/// Of a message that was read from what another is written as, plain or under its tag, the same bytes represent the
-/// protected header, however the item was spelled.
+/// A signed message that is read back, plain or tagged, has the same protected bytes.
 pub fn kept_in_signed()
     ensures sign1 { AsWritten sign1 (λ m n. protected_bytes n.protected
         ≡ protected_bytes m.protected) }
@@ -91,8 +93,10 @@ pub fn kept_in_signed()
     kept_as_written();
 }
 
-/// Bodies and signers whose protected headers have the same bytes countersign the same, whatever goes with it: under
-/// label 7, under label 11, and abbreviated under label 12.
+/// Bodies and signers with the same protected bytes have the same structures for countersignatures.
+///
+/// This holds whatever the other parts are. It covers the countersignatures of labels 7 and 11, and
+/// the abbreviated ones of label 12.
 pub fn countersigned_by_bytes()
     ensures full { (body signer other_body other_signer : ProtectedView)
         → protected_bytes body ≡ protected_bytes other_body
@@ -102,10 +106,19 @@ pub fn countersigned_by_bytes()
         → protected_bytes body ≡ protected_bytes other_body → AbbreviatesSame body other_body }
 {}
 
-/// Where a body has the protected bytes of what was written, what its countersignatures are over that were read is what
-/// those that were written are over, however they were spelled: each in a header, and one by itself, plain or under its
-/// tag; and so is an abbreviated one. So in a message with one signature or several, plain or under its tag. That bodies of
-/// other kinds have these bytes is what `kept_in_messages` and `kept_with_recipients` say.
+/// Countersignatures that are read back sign the same structures, if the body has the same
+/// protected bytes.
+///
+/// - `within`: each countersignature in a header.
+/// - `apart` and `tagged_apart`: a countersignature by itself, plain or tagged.
+/// - The other clauses: each countersignature in the unprotected header of a signed message, plain
+///   or tagged.
+///
+/// All clauses except `apart` and `tagged_apart` also cover an abbreviated countersignature of the
+/// body.
+///
+/// `kept_in_messages` and `kept_with_recipients` say that bodies of other kinds have the same
+/// protected bytes.
 pub fn countersigned_as_written()
     ensures within { (body read : ProtectedView) → protected_bytes read ≡ protected_bytes body
         → AsWritten header (λ h g. EachCountersignsSame body h read g) }
@@ -127,9 +140,15 @@ pub fn countersigned_as_written()
     signatures_kept_as_written();
 }
 
-/// Each countersignature that was read is over something where its body has protected bytes: each in a header, and one by
-/// itself, plain or under its tag; and so is an abbreviated one. So in the unprotected header of a message that was read,
-/// plain or under its tag.
+/// Countersignatures that were read have a structure to be signed, if the body has protected bytes.
+///
+/// - `within`: each countersignature in a header.
+/// - `apart` and `tagged_apart`: a countersignature by itself, plain or tagged.
+/// - The other clauses: each countersignature in the unprotected header of a signed message, plain
+///   or tagged.
+///
+/// All clauses except `apart` and `tagged_apart` also cover an abbreviated countersignature of the
+/// body.
 pub fn countersigned_when_read()
     ensures within { (body : ProtectedView) (b : List ℕ) → protected_bytes body ≡ Some b
         → WhenRead header (λ h. EachCountersigns body h) }

@@ -1,4 +1,4 @@
-//! Signatures (RFC 8152, section 4): the bytes that are signed.
+//! Signed messages, countersignatures and the bytes that they sign (RFC 8152, section 4).
 #![tactic(auto)]
 
 mod countersign;

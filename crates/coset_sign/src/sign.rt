@@ -28,23 +28,23 @@ use std::marker::Model;
 /// COSE_Sign = [ Headers, payload : bstr / nil, signatures : [+ COSE_Signature] ]
 /// ```
 ///
-/// A message without signatures is read and written too.
+/// A message without signatures can be read and written too.
 #[derive(Debug, Drop, PartialEq, Eq)]
 pub struct CoseSign {
-    /// The header that each of the signatures covers.
+    /// The header that every signature covers.
     pub protected: ProtectedHeader,
-    /// The header that none covers.
+    /// The header that no signature covers.
     pub unprotected: Header,
-    /// What is signed, unless it is detached.
+    /// The signed content, or `None` if it is detached.
     pub payload: Option<Vec<u8>>,
     /// The signatures.
     pub signatures: Vec<CoseSignature>,
 }
 
-/// What the error of another number of elements asks for.
+/// The expected item, as the error for a wrong number of elements names it.
 const PLACES: &str = "array with 4 items";
 
-/// The signatures of a message. Of one with a fault is said that it is none.
+/// The signatures of a message. An element with a fault is refused as a non-signature.
 #[derive(Debug, Drop)]
 struct Signatures(Vec<CoseSignature>);
 
@@ -69,7 +69,7 @@ impl Decode for Signatures {
 }
 
 impl CoseSign {
-    /// An empty message: empty headers, no payload, no signatures. It takes no memory.
+    /// Returns an empty message: empty headers, no payload, no signatures. Allocates nothing.
     pub fn new(alloc: Global) -> CoseSign
         ensures { sign_view result ≡ empty_sign }
     {
@@ -81,7 +81,7 @@ impl CoseSign {
         }
     }
 
-    /// The structure of this signature over this payload.
+    /// Encodes the `Sig_structure` of `signature` over `payload`.
     fn structure(
         &self,
         alloc: Global,
@@ -104,12 +104,16 @@ impl CoseSign {
         )
     }
 
-    /// The bytes that this signature of the message is over (RFC 8152, section 4.4), with the protected headers as they
-    /// were read. A missing payload counts as empty.
+    /// Returns the bytes that `signature` signs: its encoded `Sig_structure` (RFC 8152,
+    /// section 4.4).
+    ///
+    /// A protected header that was read is represented by its kept bytes. A missing payload counts
+    /// as empty.
     ///
     /// # Errors
-    /// `OutOfMemory`, or `DuplicateMapKey` where a protected header wasn't read and it, or one in it,
-    /// repeats a label of its rest.
+    /// - `OutOfMemory` if an allocation fails.
+    /// - `DuplicateMapKey` if a protected header has no kept bytes and has a label twice in its
+    ///   `rest`. Nested headers count too, except those inside kept bytes.
     pub fn tbs_data(
         &self,
         alloc: Global,
@@ -125,7 +129,8 @@ impl CoseSign {
         }
     }
 
-    /// The bytes that this signature is over where the payload is detached, so that the message carries none.
+    /// Returns the bytes that `signature` signs if `payload` is detached. The message itself must
+    /// carry no payload.
     ///
     /// # Errors
     /// The same as [`CoseSign::tbs_data`].
@@ -144,7 +149,7 @@ impl CoseSign {
         self.structure(alloc, external_aad, payload, signature)
     }
 
-    /// The signature of that number, counted from 0.
+    /// Returns the signature at index `which`.
     fn signature(&self, which: usize) -> &CoseSignature
         requires { which < length self.now.signatures.items }
         ensures { slice_get (sign_view self.now).signatures which
@@ -153,12 +158,16 @@ impl CoseSign {
         &self.signatures[which]
     }
 
-    /// Asks `verifier` whether the bytes of signature number `which` (counted from 0), its first argument, sign the
-    /// bytes that this signature is over, its second one ([`CoseSign::tbs_data`]). It is asked once, unless there is an
-    /// error of ours, and not at all then.
+    /// Calls `verifier` with the bytes of signature `which` and the bytes that it signs
+    /// ([`CoseSign::tbs_data`]), in this order.
+    ///
+    /// `which` counts from 0, and there must be such a signature. `verifier` decides whether the
+    /// signature is valid. It is called once, or not at all if the bytes to be signed can't be
+    /// made.
     ///
     /// # Errors
-    /// The same as [`CoseSign::tbs_data`]; or `Caller` with the error of `verifier`.
+    /// - `Coset` with an error of [`CoseSign::tbs_data`].
+    /// - `Caller` with the error of `verifier`.
     pub fn verify_signature<F, E>(
         &self,
         alloc: Global,
@@ -180,7 +189,8 @@ impl CoseSign {
         verify_with(&signature.signature, structure, verifier)
     }
 
-    /// The same as [`CoseSign::verify_signature`] where the payload is detached, so that the message carries none.
+    /// Does the same as [`CoseSign::verify_signature`] for a detached payload. The message itself
+    /// must carry no payload.
     ///
     /// # Errors
     /// The same as [`CoseSign::verify_signature`].
@@ -207,10 +217,10 @@ impl CoseSign {
         verify_with(&signature.signature, structure, verifier)
     }
 
-    /// A message that equals this one, with the same bytes kept.
+    /// Returns a message equal to this one, kept bytes included.
     ///
     /// # Errors
-    /// `OutOfMemory` alone.
+    /// `OutOfMemory` if an allocation fails.
     pub fn clone(&self) -> Result<CoseSign>
         ensures copy { IfOk result (λ m. sign_view m ≡ sign_view self.now) }
         ensures memory { IfErr result (λ e. e ≡ OutOfMemory) }
@@ -233,7 +243,7 @@ impl Clone for CoseSign {
     }
 }
 
-/// Copies of the signatures, with the same bytes kept.
+/// Copies the signatures, kept bytes included.
 fn copy_signatures(all: &Vec<CoseSignature>) -> Result<Vec<CoseSignature>, AllocError>
     ensures { IfOk result (λ c. map signature_view c.items ≡ map signature_view all.now.items) }
 {
@@ -306,7 +316,7 @@ impl TaggedCodec for CoseSign {
     const TAG_NUMBER: u64 = 98;
 }
 
-/// The signature with these bytes, under the same headers.
+/// Returns the signature with these bytes and the same headers.
 fn signed_with(mut signature: CoseSignature, bytes: Vec<u8>) -> CoseSignature
     ensures { signature_view result ≡ signed_with bytes.items (signature_view signature) }
 {
@@ -314,7 +324,8 @@ fn signed_with(mut signature: CoseSignature, bytes: Vec<u8>) -> CoseSignature
     signature
 }
 
-/// Makes a [`CoseSign`], field by field. Contracts see it as the message that [`build`](CoseSignBuilder::build) gives.
+/// Builds a [`CoseSign`] field by field. Contracts see the builder as the message that
+/// [`build`](CoseSignBuilder::build) returns.
 #[derive(Debug, Drop)]
 pub struct CoseSignBuilder(CoseSign);
 
@@ -333,21 +344,21 @@ impl Model for CoseSignBuilder {
 }
 
 impl CoseSignBuilder {
-    /// An empty message. It takes no memory.
+    /// Returns a builder of an empty message. Allocates nothing.
     pub fn new(alloc: Global) -> CoseSignBuilder
         ensures { sign_view result ≡ empty_sign }
     {
         CoseSignBuilder(CoseSign::new(alloc))
     }
 
-    /// The message that was made.
+    /// Returns the finished message.
     pub fn build(self) -> CoseSign
         ensures { result ≡ self }
     {
         self.0
     }
 
-    /// Sets the protected header: one that was made, and not read, so that it has no bytes of its own yet.
+    /// Sets the protected header. It counts as not read, so it has no kept bytes.
     pub fn protected(mut self, header: Header) -> CoseSignBuilder
         ensures { sign_view result ≡ record
             (sign_view self) { protected = unread (header_view header) } }
@@ -376,10 +387,10 @@ impl CoseSignBuilder {
         self
     }
 
-    /// As [`payload`](CoseSignBuilder::payload), of a copy of these bytes.
+    /// Calls [`payload`](CoseSignBuilder::payload) with a copy of these bytes.
     ///
     /// # Errors
-    /// `OutOfMemory` alone.
+    /// `OutOfMemory` if an allocation fails.
     pub fn payload_from(self, alloc: Global, payload: &[u8]) -> Result<CoseSignBuilder>
         ensures ok { IfOk result (λ b. sign_view b
             ≡ record (sign_view self) { payload = Some payload.now }) }
@@ -388,10 +399,10 @@ impl CoseSignBuilder {
         Ok(self.payload(Vec::from_slice(alloc, payload)?))
     }
 
-    /// Adds a signature that is made already.
+    /// Appends a finished signature.
     ///
     /// # Errors
-    /// `OutOfMemory` alone.
+    /// `OutOfMemory` if an allocation fails.
     pub fn add_signature(mut self, signature: CoseSignature) -> Result<CoseSignBuilder>
         ensures ok { IfOk result (λ b. sign_view b
             ≡ and_signature (signature_view signature) (sign_view self)) }
@@ -401,10 +412,12 @@ impl CoseSignBuilder {
         Ok(self)
     }
 
-    /// Adds the signature with the bytes that `signer` makes of the structure, once there is room for it.
+    /// Appends `signature` with the bytes that `signer` returns for `structure`. Reserves the room
+    /// before it calls `signer`.
     ///
     /// # Errors
-    /// The structure's, or `OutOfMemory`.
+    /// - The error in `structure`.
+    /// - `OutOfMemory` if an allocation fails.
     fn add_signed<F>(
         mut self,
         signature: CoseSignature,
@@ -425,10 +438,11 @@ impl CoseSignBuilder {
         Ok(self)
     }
 
-    /// The same with a `signer` that may refuse.
+    /// Does the same as `add_signed` with a `signer` that may fail.
     ///
     /// # Errors
-    /// The structure's, or `OutOfMemory`; or `Caller` with the error of `signer`.
+    /// - `Coset` with an error of `add_signed`.
+    /// - `Caller` with the error of `signer`.
     fn try_add_signed<F, E>(
         mut self,
         signature: CoseSignature,
@@ -451,9 +465,11 @@ impl CoseSignBuilder {
         Ok(self)
     }
 
-    /// Adds a signature with the bytes that `signer` makes of those that it is to be over ([`CoseSign::tbs_data`]), so
-    /// both its headers and the message's other fields are set before. `signer` is called once, unless there is an
-    /// error of ours, and not at all then.
+    /// Calls `signer` with the bytes that `signature` is to sign ([`CoseSign::tbs_data`]), and
+    /// appends `signature` with its result.
+    ///
+    /// Set the headers of `signature` and the message's other fields before this call. `signer` is
+    /// called once, or not at all if an error of this library comes first.
     ///
     /// # Errors
     /// The same as [`CoseSign::tbs_data`].
@@ -475,8 +491,8 @@ impl CoseSignBuilder {
         self.add_signed(signature, structure, signer)
     }
 
-    /// The same as [`CoseSignBuilder::add_created_signature`] where the payload is detached, so that the message
-    /// carries none.
+    /// Does the same as [`CoseSignBuilder::add_created_signature`] for a detached payload. The
+    /// message itself must carry no payload.
     ///
     /// # Errors
     /// The same as [`CoseSign::tbs_data`].
@@ -503,10 +519,11 @@ impl CoseSignBuilder {
         self.add_signed(signature, structure, signer)
     }
 
-    /// The same as [`CoseSignBuilder::add_created_signature`] with a `signer` that may refuse.
+    /// Does the same as [`CoseSignBuilder::add_created_signature`] with a `signer` that may fail.
     ///
     /// # Errors
-    /// The same as [`CoseSign::tbs_data`]; or `Caller` with the error of `signer`.
+    /// - `Coset` with an error of [`CoseSign::tbs_data`].
+    /// - `Caller` with the error of `signer`.
     pub fn try_add_created_signature<F, E>(
         self,
         alloc: Global,
@@ -526,10 +543,11 @@ impl CoseSignBuilder {
         self.try_add_signed(signature, structure, signer)
     }
 
-    /// The same as [`CoseSignBuilder::add_detached_signature`] with a `signer` that may refuse.
+    /// Does the same as [`CoseSignBuilder::add_detached_signature`] with a `signer` that may fail.
     ///
     /// # Errors
-    /// The same as [`CoseSign::tbs_data`]; or `Caller` with the error of `signer`.
+    /// - `Coset` with an error of [`CoseSign::tbs_data`].
+    /// - `Caller` with the error of `signer`.
     pub fn try_add_detached_signature<F, E>(
         self,
         alloc: Global,

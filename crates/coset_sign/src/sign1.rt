@@ -27,19 +27,19 @@ use std::marker::Model;
 pub struct CoseSign1 {
     /// The header that the signature covers.
     pub protected: ProtectedHeader,
-    /// The header that it doesn't cover.
+    /// The header that the signature doesn't cover.
     pub unprotected: Header,
-    /// What is signed, unless it is detached.
+    /// The signed content, or `None` if it is detached.
     pub payload: Option<Vec<u8>>,
     /// The signature.
     pub signature: Vec<u8>,
 }
 
-/// What the error of another number of elements asks for.
+/// The expected item, as the error for a wrong number of elements names it.
 const PLACES: &str = "array with 4 items";
 
 impl CoseSign1 {
-    /// An empty message: empty headers, no payload, an empty signature. It takes no memory.
+    /// Returns an empty message: empty headers, no payload, an empty signature. Allocates nothing.
     pub fn new(alloc: Global) -> CoseSign1
         ensures { sign1_view result ≡ empty_sign1 }
     {
@@ -51,7 +51,7 @@ impl CoseSign1 {
         }
     }
 
-    /// The structure over this payload.
+    /// Encodes the `Sig_structure` over `payload`.
     fn structure(&self, alloc: Global, external_aad: &[u8], payload: &[u8]) -> Result<Vec<u8>>
         ensures { Writes (sign1_structure (sign1_view self.now) external_aad.now payload.now) (λ b.
             b.items) result }
@@ -60,12 +60,15 @@ impl CoseSign1 {
         sig_structure_of(alloc, context, &self.protected, None, external_aad, payload)
     }
 
-    /// The bytes that the signature is over (RFC 8152, section 4.4), with the protected header as it was read.
-    /// A missing payload counts as empty.
+    /// Returns the bytes to be signed: the encoded `Sig_structure` (RFC 8152, section 4.4).
+    ///
+    /// A protected header that was read is represented by its kept bytes. A missing payload counts
+    /// as empty.
     ///
     /// # Errors
-    /// `OutOfMemory`, or `DuplicateMapKey` where the protected header wasn't read and it, or one in it,
-    /// repeats a label of its rest.
+    /// - `OutOfMemory` if an allocation fails.
+    /// - `DuplicateMapKey` if the protected header has no kept bytes and has a label twice in its
+    ///   `rest`. Nested headers count too, except those inside kept bytes.
     pub fn tbs_data(&self, alloc: Global, external_aad: &[u8]) -> Result<Vec<u8>>
         ensures { Writes (sign1_carried (sign1_view self.now) external_aad.now) (λ b. b.items)
             result }
@@ -76,7 +79,8 @@ impl CoseSign1 {
         }
     }
 
-    /// The bytes that the signature is over where the payload is detached, so that the message carries none.
+    /// Returns the bytes to be signed if `payload` is detached. The message itself must carry no
+    /// payload.
     ///
     /// # Errors
     /// The same as [`CoseSign1::tbs_data`].
@@ -94,11 +98,15 @@ impl CoseSign1 {
         self.structure(alloc, external_aad, payload)
     }
 
-    /// Asks `verifier` whether the signature, its first argument, is one of the bytes that it is over, its second one
-    /// ([`CoseSign1::tbs_data`]). It is asked once, unless there is an error of ours, and not at all then.
+    /// Calls `verifier` with the signature and the bytes to be signed ([`CoseSign1::tbs_data`]), in
+    /// this order.
+    ///
+    /// `verifier` decides whether the signature is valid. It is called once, or not at all if the
+    /// bytes can't be made.
     ///
     /// # Errors
-    /// The same as [`CoseSign1::tbs_data`]; or `Caller` with the error of `verifier`.
+    /// - `Coset` with an error of [`CoseSign1::tbs_data`].
+    /// - `Caller` with the error of `verifier`.
     pub fn verify_signature<F, E>(
         &self,
         alloc: Global,
@@ -116,7 +124,8 @@ impl CoseSign1 {
         verify_with(&self.signature, structure, verifier)
     }
 
-    /// The same as [`CoseSign1::verify_signature`] where the payload is detached, so that the message carries none.
+    /// Does the same as [`CoseSign1::verify_signature`] for a detached payload. The message itself
+    /// must carry no payload.
     ///
     /// # Errors
     /// The same as [`CoseSign1::verify_signature`].
@@ -139,10 +148,10 @@ impl CoseSign1 {
         verify_with(&self.signature, structure, verifier)
     }
 
-    /// A message that equals this one, with the same bytes kept.
+    /// Returns a message equal to this one, kept bytes included.
     ///
     /// # Errors
-    /// `OutOfMemory` alone.
+    /// `OutOfMemory` if an allocation fails.
     pub fn clone(&self) -> Result<CoseSign1>
         ensures copy { IfOk result (λ m. sign1_view m ≡ sign1_view self.now) }
         ensures memory { IfErr result (λ e. e ≡ OutOfMemory) }
@@ -232,7 +241,8 @@ impl TaggedCodec for CoseSign1 {
     const TAG_NUMBER: u64 = 18;
 }
 
-/// Makes a [`CoseSign1`], field by field. Contracts see it as the message that [`build`](CoseSign1Builder::build) gives.
+/// Builds a [`CoseSign1`] field by field. Contracts see the builder as the message that
+/// [`build`](CoseSign1Builder::build) returns.
 #[derive(Debug, Drop)]
 pub struct CoseSign1Builder(CoseSign1);
 
@@ -251,21 +261,21 @@ impl Model for CoseSign1Builder {
 }
 
 impl CoseSign1Builder {
-    /// An empty message. It takes no memory.
+    /// Returns a builder of an empty message. Allocates nothing.
     pub fn new(alloc: Global) -> CoseSign1Builder
         ensures { sign1_view result ≡ empty_sign1 }
     {
         CoseSign1Builder(CoseSign1::new(alloc))
     }
 
-    /// The message that was made.
+    /// Returns the finished message.
     pub fn build(self) -> CoseSign1
         ensures { result ≡ self }
     {
         self.0
     }
 
-    /// Sets the protected header: one that was made, and not read, so that it has no bytes of its own yet.
+    /// Sets the protected header. It counts as not read, so it has no kept bytes.
     pub fn protected(mut self, header: Header) -> CoseSign1Builder
         ensures { sign1_view result ≡ record
             (sign1_view self) { protected = unread (header_view header) } }
@@ -294,10 +304,10 @@ impl CoseSign1Builder {
         self
     }
 
-    /// As [`payload`](CoseSign1Builder::payload), of a copy of these bytes.
+    /// Calls [`payload`](CoseSign1Builder::payload) with a copy of these bytes.
     ///
     /// # Errors
-    /// `OutOfMemory` alone.
+    /// `OutOfMemory` if an allocation fails.
     pub fn payload_from(self, alloc: Global, payload: &[u8]) -> Result<CoseSign1Builder>
         ensures ok { IfOk result (λ b. sign1_view b
             ≡ record (sign1_view self) { payload = Some payload.now }) }
@@ -314,10 +324,10 @@ impl CoseSign1Builder {
         self
     }
 
-    /// As [`signature`](CoseSign1Builder::signature), of a copy of these bytes.
+    /// Calls [`signature`](CoseSign1Builder::signature) with a copy of these bytes.
     ///
     /// # Errors
-    /// `OutOfMemory` alone.
+    /// `OutOfMemory` if an allocation fails.
     pub fn signature_from(self, alloc: Global, signature: &[u8]) -> Result<CoseSign1Builder>
         ensures ok { IfOk result (λ b. sign1_view b
             ≡ with_signature signature.now (sign1_view self)) }
@@ -326,8 +336,11 @@ impl CoseSign1Builder {
         Ok(self.signature(Vec::from_slice(alloc, signature)?))
     }
 
-    /// Sets the signature to what `signer` makes of the bytes that it is to be over ([`CoseSign1::tbs_data`]), so all
-    /// other fields are set before. It is called once, unless there is an error of ours, and not at all then.
+    /// Calls `signer` with the bytes to be signed ([`CoseSign1::tbs_data`]), and sets the signature
+    /// to its result.
+    ///
+    /// Set all other fields before this call. `signer` is called once, or not at all if the bytes
+    /// can't be made.
     ///
     /// # Errors
     /// The same as [`CoseSign1::tbs_data`].
@@ -347,8 +360,8 @@ impl CoseSign1Builder {
         Ok(self.signature(signer(&tbs)))
     }
 
-    /// The same as [`CoseSign1Builder::create_signature`] where the payload is detached, so that the message carries
-    /// none.
+    /// Does the same as [`CoseSign1Builder::create_signature`] for a detached payload. The message
+    /// itself must carry no payload.
     ///
     /// # Errors
     /// The same as [`CoseSign1::tbs_data`].
@@ -371,10 +384,11 @@ impl CoseSign1Builder {
         Ok(self.signature(signer(&tbs)))
     }
 
-    /// The same as [`CoseSign1Builder::create_signature`] with a `signer` that may refuse.
+    /// Does the same as [`CoseSign1Builder::create_signature`] with a `signer` that may fail.
     ///
     /// # Errors
-    /// The same as [`CoseSign1::tbs_data`]; or `Caller` with the error of `signer`.
+    /// - `Coset` with an error of [`CoseSign1::tbs_data`].
+    /// - `Caller` with the error of `signer`.
     pub fn try_create_signature<F, E>(
         self,
         alloc: Global,
@@ -392,10 +406,12 @@ impl CoseSign1Builder {
         Ok(self.signature(signature))
     }
 
-    /// The same as [`CoseSign1Builder::create_detached_signature`] with a `signer` that may refuse.
+    /// Does the same as [`CoseSign1Builder::create_detached_signature`] with a `signer` that may
+    /// fail.
     ///
     /// # Errors
-    /// The same as [`CoseSign1::tbs_data`]; or `Caller` with the error of `signer`.
+    /// - `Coset` with an error of [`CoseSign1::tbs_data`].
+    /// - `Caller` with the error of `signer`.
     pub fn try_create_detached_signature<F, E>(
         self,
         alloc: Global,

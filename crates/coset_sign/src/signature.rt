@@ -14,22 +14,22 @@ use coset_core::ProtectedHeader;
 use coset_core::structure::structure_bytes;
 use std::alloc::Global;
 
-/// What a signature is part of (RFC 8152, section 4.4). It is in the bytes that are signed, so that those of one
-/// are never those of another.
+/// The context of a signature (RFC 8152, section 4.4). The signed bytes contain it, so the bytes of
+/// one context are never those of another.
 #[derive(Clone, Copy, Debug, PartialEq, Eq)]
 pub enum SignatureContext {
     /// A signature of a `COSE_Sign` message, by one of its signers.
     CoseSignature,
     /// The signature of a `COSE_Sign1` message.
     CoseSign1,
-    /// A counter signature, over any structure with a body (section 4.5).
+    /// A counter signature of any structure that has a body (section 4.5).
     CounterSignature,
 }
 
 impl SignatureContext {
     ghost use Rattle.coset_sign.specs.SignatureStructure.{context_text};
 
-    /// Its text in the structure.
+    /// Returns the text of the context in the structure.
     fn text(self) -> &'static str
         ensures { result.now ≡ context_text self }
     {
@@ -41,12 +41,14 @@ impl SignatureContext {
     }
 }
 
-/// The bytes that are signed, as [`sig_structure_data`] gives them of headers.
+/// Encodes the `Sig_structure` of these protected bytes. [`sig_structure_data`] does so for
+/// headers.
 ///
-/// `body` and `signer` are the contents of the protected headers. A `COSE_Sign1` message has no `signer`.
+/// `body` and `signer` are the contents of the protected headers. A `COSE_Sign1` message has no
+/// `signer`.
 ///
 /// # Errors
-/// `OutOfMemory` alone.
+/// `OutOfMemory` if an allocation fails.
 pub(crate) fn signature_structure_bytes(
     alloc: Global,
     context: SignatureContext,
@@ -70,11 +72,13 @@ pub(crate) fn signature_structure_bytes(
     }
 }
 
-/// The structure over the protected bytes of the headers. Nothing of them is cloned, but a header that wasn't read is
-/// written.
+/// Encodes the `Sig_structure` of these headers. Borrows kept bytes, and encodes a header without
+/// kept bytes.
 ///
 /// # Errors
-/// `OutOfMemory`, or `DuplicateMapKey` where a header wasn't read and it, or one in it, repeats a label of its rest.
+/// - `OutOfMemory` if an allocation fails.
+/// - `DuplicateMapKey` if a header has no kept bytes and has a label twice in its `rest`. Nested
+///   headers count too, except those inside kept bytes.
 pub(crate) fn sig_structure_of(
     alloc: Global,
     context: SignatureContext,
@@ -97,8 +101,8 @@ pub(crate) fn sig_structure_of(
     }
 }
 
-/// The bytes that are signed (RFC 8152, section 4.4): the shortest encoding of the structure of this context, the
-/// protected bytes of the body's header and, where there is one, of the signer's, `external_aad` and the payload.
+/// Returns the bytes to be signed: the shortest encoding of a `Sig_structure` (RFC 8152,
+/// section 4.4).
 ///
 /// ```cddl
 /// Sig_structure = [
@@ -110,8 +114,13 @@ pub(crate) fn sig_structure_of(
 /// ]
 /// ```
 ///
+/// `body` is the protected header of the body, and `sign` that of the signer, if there is one. A
+/// header that was read is represented by its kept bytes.
+///
 /// # Errors
-/// `OutOfMemory`, or `DuplicateMapKey` where a header wasn't read and it, or one in it, repeats a label of its rest.
+/// - `OutOfMemory` if an allocation fails.
+/// - `DuplicateMapKey` if a header has no kept bytes and has a label twice in its `rest`. Nested
+///   headers count too, except those inside kept bytes.
 pub fn sig_structure_data(
     alloc: Global,
     context: SignatureContext,

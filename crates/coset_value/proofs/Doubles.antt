@@ -1,4 +1,4 @@
--- Floats as doubles: what std reads from bits is exactly the number that they are.
+-- Floats as doubles: std decodes bits to exactly the number that they represent.
 use Rattle.std.proofs.Common.{◌≡◌, ◌<◌, ◌≤◌, ◌+◌, ◌-◌, ◌*◌, ◌/◌, ◌%◌, ◌^◌, ℕ, zero, suc, Bool, true, false, T, not, cond, refl, sym, subst}
 use Rattle.std.proofs.Common.{ap, ◌∙◌, arith, pos, Some, None, if◌then◌else◌, ◌==◌}
 use lib.Dec.{leb, eqb, eqb→eq, leb→le, le→leb}
@@ -19,7 +19,7 @@ same true false p q = absurd (p tt)
 same false true p q = absurd (q tt)
 same false false p q = refl
 
--- the double d is of that sign, exponent and fraction
+-- The double d has this sign, exponent and fraction.
 abbrev AreFields : Format → Bool → ℕ → ℕ → Float → Type 0
 AreFields f s e t d =
     IsExactly (if t == 0 then inf s else nan)
@@ -42,7 +42,7 @@ fields f s (suc x) t = go (eqb (suc x) (ones f)) (eqb (suc x + 1) (suc (ones f))
     go true false e = absurd (subst T (sym e) tt)
     go false true e = absurd (subst T e tt)
 
--- bits by their fields
+-- A double decoded from bits has the sign, exponent and fraction of those bits.
 side_by_side : (f : Format) (n : ℕ) (s : Bool) (e : ℕ) → leb (top f) n ≡ s → n % top f / hid f ≡ e → AreFields f s e (n % hid f) (of_bits f n)
 unfolding of_bits
 side_by_side f n s e p q =
@@ -74,7 +74,7 @@ scaled m n d h = omega (arith, h)
 regrouped : (a b d g : ℕ) → a * (1 * 2 ^ 24 * d) ≡ b * 1 * g → a * 2 ^ 24 * d ≡ b * 1 * g
 regrouped a b d g h = omega (arith, h)
 
--- so many units, by how many of them make 1
+-- Dividing n by 2 ^ 24 is exact, for n below 2 ^ 41.
 quotient : (x : Float) (n : ℕ) → HasValue x false n 1 → n < 2 ^ 41 → HasValue (div binary64 x (fin false 1 (pos 24))) false n (2 ^ 24)
 unfolding div
 quotient nan n v h = v
@@ -108,7 +108,7 @@ half_number e t n p q h = go (eqb (e + 1) 32) (λ b. p (eqb→eq (e + 1) 32 b))
     go true k = absurd (k tt)
     go false k = value
 
--- an infinity, and a NaN
+-- Halves that are infinities or NaNs.
 pub half_infinity : (e t : ℕ) → e + 1 ≡ 32 → t ≡ 0 → IsHalf false e t (of_bits binary64 9218868437227405312)
 unfolding of_bits
 half_infinity e t p q = go (eqb (e + 1) 32) (eqb t 0) (eq→eqb p) (eq→eqb q)

@@ -1,14 +1,14 @@
--- CBOR's items (RFC 8949, sections 2 and 3), apart from where they lie in memory.
+-- CBOR data items (RFC 8949, sections 2 and 3), apart from their layout in memory.
 use Rattle.std.specs.Prelude.{ℕ, suc, max, ℤ, List, Bool}
 
--- a float is its width and its bits (section 3.3)
+-- A float: its width and its bits (section 3.3).
 pub data Bits : Type 0 where
   half : ℕ → Bits
   single : ℕ → Bits
   double : ℕ → Bits
 
--- an item by its major type (section 3.1), with `dict` for the RFC's map. A text string is its UTF-8 bytes, and simple
--- values are `false`, `true` and `null` alone
+-- A data item, by its major type (section 3.1). `dict` is the RFC's map, and a text string is its UTF-8 bytes. The only
+-- simple values are `false`, `true` and `null`.
 mutual
   pub data Item : Type 0 where
     integer : ℤ → Item
@@ -29,17 +29,18 @@ mutual
     no_pairs : Pairs
     pair : Item → Item → Pairs → Pairs
 
--- how many items, and how many pairs
+-- The number of items.
 abbrev pub items_count : Items → ℕ
 items_count no_items = 0
 items_count (item v vs) = suc (items_count vs)
 
--- how many pairs
+-- The number of pairs.
 abbrev pub pairs_count : Pairs → ℕ
 pairs_count no_pairs = 0
 pairs_count (pair k v ps) = suc (pairs_count ps)
 
--- how deep arrays, maps and tags nest: each is 1 deeper than the deepest item within, and all else is 0 deep
+-- The nesting depth. An array, a map or a tag is 1 deeper than the deepest item in it. An empty array or map has depth
+-- 1, and all other items have depth 0.
 abbrev mutual
   pub depth : Item → ℕ
   depth (integer n) = 0

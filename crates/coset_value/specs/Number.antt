@@ -4,29 +4,30 @@ use Rattle.std.specs.Float.Ieee as ieee
 use lib.Ieee.Exact.{HasValue}
 use Rattle.coset_value.specs.Item.{Bits, half, single, double}
 
--- a format: how many fractions and how many exponents its bits distinguish; and 2 ^ scale of its least number make 1
+-- A binary format: how many fractions and how many exponents its bits distinguish. 2 ^ scale times its least positive
+-- number is 1.
 pub record Format : Type 0 where
   pub fractions : ℕ
   pub exponents : ℕ
   pub scale : ℕ
 
--- a number by its sign, and how many units it is, of which 2 ^ scale make 1
+-- A number: its sign and its magnitude in units. 2 ^ scale units make 1.
 pub record Number : Type 0 where
   pub is_negative : Bool
   pub units : ℕ
   pub scale : ℕ
 
--- how many units a fraction is: with the least exponent as it is, and with each further one behind a 1, times 2
+-- The magnitude, in units, of an exponent and a fraction. With exponent 0 it is the fraction itself. With a larger
+-- exponent, a 1 bit stands before the fraction, and each step above exponent 1 doubles the result.
 abbrev pub units_of : ℕ → ℕ → ℕ → ℕ
 units_of fractions zero f = f
 units_of fractions (suc e) f = (fractions + f) * 2 ^ e
 
--- the number of a sign, an exponent and a fraction; none, where the exponent is the greatest, as it is of infinities and of
--- what is no number
+-- The number with this sign, exponent and fraction. `None` if the exponent is the greatest, as in infinities and NaNs.
 abbrev pub number_of : Format → Bool → ℕ → ℕ → Option Number
 number_of m s e f = if e + 1 == m.exponents then None else Some (record { is_negative = s; units = units_of m.fractions e f; scale = m.scale })
 
--- the number of bits, in which the sign, the exponent and the fraction are side by side
+-- The number encoded in the bits: the sign, the exponent and the fraction, in this order from the highest bit.
 abbrev pub number_in : Format → ℕ → Option Number
 number_in m n = let upper = n / m.fractions in number_of m (nat_le m.exponents upper) (upper % m.exponents) (n % m.fractions)
 
@@ -46,7 +47,7 @@ number (double n) = number_in double_format n
 
 -- ---- as doubles
 
--- what a sign and a fraction are where there is no number: an infinity where the fraction is 0, and else NaN
+-- The float with this sign and fraction and the greatest exponent: an infinity if the fraction is 0, else NaN.
 abbrev pub special_of : Bool → ℕ → ieee.Float
 special_of s f = if f == 0 then ieee.inf s else ieee.nan
 
@@ -58,15 +59,15 @@ special (half n) = special_in half_format n
 special (single n) = special_in single_format n
 special (double n) = special_in double_format n
 
--- d is exactly the number x, with its sign; or where there is none, the infinity or NaN s
+-- The double d is exactly the number x, with its sign. If there is no number, d is the infinity or NaN s.
 abbrev pub IsExactly : ieee.Float → Option Number → ieee.Float → Type 0
 IsExactly s (Some x) d = HasValue d x.is_negative x.units (2 ^ x.scale)
 IsExactly s None d = d ≡ s
 
--- the double d is the half with this sign, exponent and fraction
+-- The double d is the half with this sign, exponent and fraction.
 abbrev pub IsHalf : Bool → ℕ → ℕ → ieee.Float → Type 0
 IsHalf s e f d = IsExactly (special_of s f) (number_of half_format s e f) d
 
--- the double d is the float
+-- The double d is the float x.
 abbrev pub IsDouble : Bits → ieee.Float → Type 0
 IsDouble x d = IsExactly (special x) (number x) d

@@ -1,23 +1,23 @@
--- The ranges of CBOR's numbers and lengths (RFC 8949, section 3): every argument is below 2 ^ 64, and text strings are
+-- The ranges of CBOR's numbers and lengths (RFC 8949, section 3). Every argument is below 2 ^ 64, and text strings are
 -- UTF-8.
 use Rattle.std.specs.Prelude.{◌^◌, ◌<◌, ⊤, ℤ, pos, negsuc, length}
 use Rattle.std.specs.Str.{IsUtf8}
 use Rattle.coset_value.specs.Item.{Bits, half, single, double, Item, integer, bytes, float, text, boolean, null, tag, array, dict, Items, no_items, item, Pairs}
 use Rattle.coset_value.specs.Item.{no_pairs, pair, items_count, pairs_count}
 
--- from -2 ^ 64 to 2 ^ 64 - 1: `negsuc n` is -1 - n
+-- The integer is from -2 ^ 64 to 2 ^ 64 - 1. `negsuc n` is -1 - n.
 abbrev pub IsIntegerInRange : ℤ → Type 0
 IsIntegerInRange (pos n) = n < 2 ^ 64
 IsIntegerInRange (negsuc n) = n < 2 ^ 64
 
--- the bits fit the width
+-- The bits fit the width.
 abbrev pub AreBitsInRange : Bits → Type 0
 AreBitsInRange (half n) = n < 2 ^ 16
 AreBitsInRange (single n) = n < 2 ^ 32
 AreBitsInRange (double n) = n < 2 ^ 64
 
 abbrev mutual
-  -- every number and every length within is in CBOR's range, and every text string is UTF-8
+  -- Every number and length in the item is in CBOR's range, and every text string is UTF-8.
   pub IsInRange : Item → Type 0
   IsInRange (integer n) = IsIntegerInRange n
   IsInRange (bytes s) = length s < 2 ^ 64

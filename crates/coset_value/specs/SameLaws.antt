@@ -1,4 +1,4 @@
--- `item_eq` returns `true` exactly where two items are equal.
+-- `item_eq` returns `true` exactly when two items are equal.
 use Rattle.std.specs.Prelude.{◌≡◌, true, ◌&&◌, ◌==◌, refl}
 use Rattle.std.proofs.Common.{sym, ap, subst, true≢false}
 use Rattle.std.proofs.lemmas.Bool.{and_parts, and_from}
@@ -9,20 +9,20 @@ use Rattle.coset_value.specs.Item.{Bits, half, single, double, Item, integer, by
 use Rattle.coset_value.specs.Item.{no_pairs, pair}
 use Rattle.coset_value.specs.Same.{bits_eq, item_eq, items_eq, pairs_eq}
 
--- bits that pass the test are equal
+-- Bits that pass the test are equal.
 bits_eq-sound : (x y : Bits) → bits_eq x y ≡ true → x ≡ y
 bits_eq-sound (half m) (half n) h = ap half ((unsigned_Decides m n).0 h)
 bits_eq-sound (single m) (single n) h = ap single ((unsigned_Decides m n).0 h)
 bits_eq-sound (double m) (double n) h = ap double ((unsigned_Decides m n).0 h)
 bits_eq-sound x y h = absurd (true≢false (sym h))
 
--- bits pass the test against themselves
+-- Bits pass the test against themselves.
 bits_eq-itself : (x : Bits) → bits_eq x x ≡ true
 bits_eq-itself (half n) = (unsigned_Decides n n).1 refl
 bits_eq-itself (single n) = (unsigned_Decides n n).1 refl
 bits_eq-itself (double n) = (unsigned_Decides n n).1 refl
 
--- items that pass the test are equal
+-- Items that pass the test are equal.
 mutual
   item_eq-sound : (v w : Item) → item_eq v w ≡ true → v ≡ w
   item_eq-sound (integer m) (integer n) h = ap integer ((signed_Decides m n).0 h)
@@ -53,7 +53,7 @@ mutual
       λ i. pair (item_eq-sound j k first.0 i) (item_eq-sound v w first.1 i) (pairs_eq-sound ps qs both.1 i)
   pairs_eq-sound ps qs h = absurd (true≢false (sym h))
 
--- an item passes the test against itself
+-- An item passes the test against itself.
 mutual
   item_eq-itself : (v : Item) → item_eq v v ≡ true
   item_eq-itself (integer n) = (signed_Decides n n).1 refl
@@ -77,10 +77,10 @@ mutual
       (and_from (item_eq k k) (item_eq v v) (item_eq-itself k) (item_eq-itself v))
       (pairs_eq-itself ps)
 
--- the test is equality of items
+-- The test decides equality of items.
 pub item_eq-decides : (v w : Item) → Decides (item_eq v w) (v ≡ w)
 item_eq-decides v w = (item_eq-sound v w, λ e. subst (λ x. item_eq v x ≡ true) e (item_eq-itself v))
 
--- so it is reflexive, symmetric and transitive
+-- The test is reflexive, symmetric and transitive.
 pub item_eq_equiv : IsEquivalence item_eq
 item_eq_equiv = decided item_eq item_eq-decides

@@ -7,13 +7,13 @@ use Rattle.coset_value.specs.declared.float.Float.TheVariants.{Half, Single, Dou
 use Rattle.coset_value.specs.declared.value.Value.{Value, fold-Value}
 use Rattle.coset_value.specs.declared.value.Value.TheOpen.{Value-F}
 
--- a float as its width and bits
+-- A float as its width and bits.
 abbrev pub bits_of : Float → Bits
 bits_of (Half n) = half n
 bits_of (Single n) = single n
 bits_of (Double n) = double n
 
--- lists as `Items` and `Pairs`
+-- Lists as `Items` and `Pairs`.
 abbrev pub items_of : List Item → Items
 items_of [] = no_items
 items_of (v ∷ vs) = item v (items_of vs)
@@ -22,7 +22,7 @@ abbrev pub pairs_of : List (Item × Item) → Pairs
 pairs_of [] = no_pairs
 pairs_of (p ∷ ps) = pair p.0 p.1 (pairs_of ps)
 
--- one level, with each value inside already seen as its item
+-- The item of a value, if the values inside it are already replaced by their items.
 abbrev pub value_step : Value-F Item → Item
 value_step (Value-F.Integer n) = integer n
 value_step (Value-F.Bytes v) = bytes v.items
@@ -34,18 +34,18 @@ value_step (Value-F.Tag t v) = tag t v.value
 value_step (Value-F.Array v) = array (items_of v.items)
 value_step (Value-F.Map v) = dict (pairs_of v.items)
 
--- the item of a value
+-- The item of a value.
 abbrev pub value_item : Value → Item
 value_item = fold-Value Item value_step
 
--- the items of a list of values
+-- The items of a list of values.
 abbrev pub value_items : List Value → Items
 value_items vs = items_of (map value_item vs)
 
--- the items of a key and its value, and then of a list of such pairs
+-- The items of a key and its value.
 abbrev pub value_pair : Value × Value → Item × Item
 value_pair p = (value_item p.0, value_item p.1)
 
--- the pairs of items that pairs of values represent
+-- The items of a list of pairs of values.
 abbrev pub value_pairs : List (Value × Value) → Pairs
 value_pairs ps = pairs_of (map value_pair ps)

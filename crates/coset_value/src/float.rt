@@ -1,4 +1,4 @@
-//! CBOR's floats (RFC 8949, section 3.3).
+//! CBOR floats (RFC 8949, section 3.3).
 
 ghost use Rattle.std.specs.Prelude.{◌≡◌, ◌<◌, ◌*◌, ◌^◌, false};
 ghost use Rattle.coset_value.specs.Number.{IsDouble, IsHalf, units_of};
@@ -7,10 +7,10 @@ ghost use Rattle.coset_value.specs.View.{bits_of};
 
 use std::num::{f32_from_bits_with_nan, f64_from_bits_with_nan};
 
-/// A float as its width and its bits in IEEE 754's binary form (RFC 8949, section 3.3).
+/// A float, as its width and its bits in IEEE 754 binary format (RFC 8949, section 3.3).
 ///
-/// It is never read as a number: two floats are equal where their widths and bits are, so a NaN
-/// equals itself, 0 differs from -0, and one number in two widths is two floats.
+/// Floats are compared by width and bits, not as numbers. So a NaN equals itself, and 0 differs
+/// from -0. The same number in two widths makes two different floats.
 #[derive(Clone, Copy, Debug, PartialEq, Eq)]
 pub enum Float {
     /// Half precision, 16 bits.
@@ -22,7 +22,8 @@ pub enum Float {
 }
 
 impl Float {
-    /// The same number as a double, exactly; an infinity stays one, with its sign, and a NaN is a NaN.
+    /// Returns the same number as a double, exactly. An infinity keeps its sign, and a NaN stays a
+    /// NaN.
     pub fn to_f64(self) -> f64
         ensures { IsDouble (bits_of self) result }
     {
@@ -34,7 +35,8 @@ impl Float {
     }
 }
 
-/// The double of a half (IEEE 754, section 3.4: one bit for the sign, 5 for the exponent, 10 for the fraction).
+/// Converts a half to a double. A half has 1 sign bit, 5 exponent bits and 10 fraction bits (IEEE
+/// 754, section 3.4).
 fn half_to_f64(bits: u16) -> f64
     ensures { IsDouble (half bits) result }
 {
@@ -42,7 +44,7 @@ fn half_to_f64(bits: u16) -> f64
     if bits / 1_024 >= 32 { -size } else { size }
 }
 
-/// The double of a half without its sign.
+/// Returns the double of a half without its sign, from the half's exponent and fraction bits.
 fn half_size(exponent: u16, fraction: u16) -> f64
     requires exponents { exponent < 32 }
     requires fractions { fraction < 2 ^ 10 }
@@ -58,7 +60,7 @@ fn half_size(exponent: u16, fraction: u16) -> f64
     half_units(exponent, fraction) as f64 / 16_777_216.0
 }
 
-/// How many times the least half above 0, which is 2 to the power of -24.
+/// Returns the magnitude of a half in units of the least positive half, which is 2^-24.
 fn half_units(exponent: u16, fraction: u16) -> u64
     requires exponents { exponent < 31 }
     requires fractions { fraction < 2 ^ 10 }

@@ -1,4 +1,4 @@
-//! CBOR's integers (RFC 8949, section 3.1).
+//! CBOR integers (RFC 8949, section 3.1).
 
 ghost use Rattle.std.specs.Prelude.{◌≡◌, ◌<◌, ◌^◌, ◌<ℤ◌, pos, FitsSigned, MatchResult};
 ghost use Rattle.std.specs.Int.{w64};
@@ -8,11 +8,11 @@ ghost use Rattle.coset_value.specs.Range.{IsIntegerInRange};
 use std::marker::Model;
 use std::num::TryFromIntError;
 
-/// An integer from -2^64 to 2^64 - 1, which CBOR's two integer types hold (RFC 8949, section
-/// 3.1, major types 0 and 1). The order is that of numbers.
+/// An integer from -2^64 to 2^64 - 1 (RFC 8949, section 3.1, major types 0 and 1).
 ///
-/// `From` takes each of Rust's integer types up to 64 bits and gives an `i128`; `TryFrom` takes
-/// the types of 128 bits and gives an `i64` or a `u64`. Both keep the number.
+/// Integers are ordered as numbers. `From` converts Rust's integer types of up to 64 bits to an
+/// `Integer`, and an `Integer` to an `i128`. `TryFrom` converts the 128-bit types to an `Integer`,
+/// and an `Integer` to an `i64` or a `u64`. Each conversion keeps the number.
 #[derive(Clone, Copy, Debug, PartialEq, Eq, PartialOrd, Ord)]
 pub struct Integer {
     value: i128,
@@ -111,21 +111,21 @@ impl From<i64> for Integer {
     }
 }
 
-/// The same number, or an error where it is below -2^64 or above 2^64 - 1.
+/// Keeps the number. Fails if it is below -2^64 or above 2^64 - 1.
 impl TryFrom<i128> for Integer {
     type Error = TryFromIntError;
 
     ghost try_from_gives = { λ n result. OkIff result (IsIntegerInRange n) n };
 
     fn try_from(n: i128) -> Result<Integer, TryFromIntError> {
-        // The number that CBOR spells: n in major type 0, -1 - n in major type 1.
+        // The argument of the head: n in major type 0, -1 - n in major type 1.
         let argument = if n < 0 { -1 - n } else { n };
         u64::try_from(argument)?;
         Ok(Integer { value: n })
     }
 }
 
-/// The same number, or an error where it is above 2^64 - 1.
+/// Keeps the number. Fails if it is above 2^64 - 1.
 impl TryFrom<u128> for Integer {
     type Error = TryFromIntError;
 
@@ -136,7 +136,7 @@ impl TryFrom<u128> for Integer {
     }
 }
 
-/// The same number, or an error where it is below -2^63 or above 2^63 - 1.
+/// Keeps the number. Fails if it is below -2^63 or above 2^63 - 1.
 impl TryFrom<Integer> for i64 {
     type Error = TryFromIntError;
 
@@ -147,7 +147,7 @@ impl TryFrom<Integer> for i64 {
     }
 }
 
-/// The same number, or an error where it is negative.
+/// Keeps the number. Fails if it is negative.
 impl TryFrom<Integer> for u64 {
     type Error = TryFromIntError;
 
@@ -158,7 +158,7 @@ impl TryFrom<Integer> for u64 {
     }
 }
 
-/// The same number. The contract also says that it lies in an `Integer`'s range.
+/// Keeps the number. The contract also states that it is in the range of an `Integer`.
 impl From<Integer> for i128 {
     ghost from_gives = { λ n result. (result ≡ n) × IsIntegerInRange result };
 

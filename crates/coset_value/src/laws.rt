@@ -1,4 +1,4 @@
-//! What holds of integers and floats, each the contract of a function that does nothing.
+//! Laws of integers and floats. Each law is the contract of an empty function.
 
 ghost use Rattle.std.specs.Prelude.{◌≡◌, ◌↔◌, IsTrue};
 ghost use Rattle.std.specs.Ordering.{int_cmp};
@@ -7,12 +7,12 @@ ghost use Rattle.coset_value.specs.View.{bits_of};
 use crate::float::Float;
 use crate::integer::Integer;
 
-/// Integers are ordered as the numbers that they are.
+/// Integers compare as their numbers do.
 pub fn integers_compare_as_numbers(a: Integer, b: Integer)
     ensures { ⟦<Integer as Ord>⟧.cmp a b ≡ int_cmp a b }
 {}
 
-/// Floats are equal exactly where their widths and bits are.
+/// Two floats are equal exactly when their widths and bits are equal.
 pub fn floats_compare_by_bits(a: Float, b: Float)
     ensures { IsTrue (⟦<Float as PartialEq>⟧.eq a b) ↔ (bits_of a ≡ bits_of b) }
 {}

@@ -1,7 +1,7 @@
-//! CBOR's values, apart from the bytes that spell them (RFC 8949, sections 2 and 3).
+//! CBOR values, apart from the bytes that encode them (RFC 8949, sections 2 and 3).
 //!
-//! Contracts see a [`Value`] as the item that it represents, `value_item value` of `specs/View.antt`,
-//! and an [`Integer`] as a number.
+//! Contracts see a [`Value`] as its data item, `value_item value` of `specs/View.antt`. They see an
+//! [`Integer`] as its number.
 #![tactic(auto)]
 
 mod float;

@@ -1,4 +1,4 @@
-//! CBOR's values (RFC 8949, section 2).
+//! CBOR values (RFC 8949, section 2).
 
 ghost use Rattle.std.specs.Prelude.{◌≡◌, ◌↔◌, IsTrue, IfOk, option_map, pos};
 ghost use Rattle.std.specs.Ordering.{on};
@@ -15,17 +15,17 @@ use std::alloc::AllocError;
 
 /// A CBOR value (RFC 8949, sections 2 and 3.1).
 ///
-/// Every number of Rust's integer types up to 64 bits converts by `From`. Of the simple values
-/// only `false`, `true` and `null` have a place. Tags 2 and 3 stay tags, and are no integers.
+/// Rust's integer types of up to 64 bits convert to a `Value` with `From`. The only simple values
+/// are `false`, `true` and `null`. Tags 2 and 3 stay tags and do not become integers.
 ///
-/// A copy, a comparison and a drop call themselves once for each level of nesting.
+/// Copying, comparing and dropping a value recurse once for each level of nesting.
 #[derive(Debug, Drop)]
 pub enum Value {
     /// An integer from -2^64 to 2^64 - 1 (major types 0 and 1).
     Integer(Integer),
     /// A byte string (major type 2).
     Bytes(Vec<u8>),
-    /// A float, by its width and bits (major type 7).
+    /// A float, as its width and bits (major type 7).
     Float(Float),
     /// A text string (major type 3).
     Text(String),
@@ -33,16 +33,16 @@ pub enum Value {
     Bool(bool),
     /// The simple value `null` (major type 7).
     Null,
-    /// A tag's number, and the value that it encloses (major type 6).
+    /// A tag: its number and the enclosed value (major type 6).
     Tag(u64, Box<Value>),
-    /// An array, in order (major type 4).
+    /// The elements of an array, in order (major type 4).
     Array(Vec<Value>),
-    /// A map of pairs of a key and a value, in order. A key may repeat (major type 5).
+    /// The key and value pairs of a map, in order (major type 5). A key may repeat.
     Map(Vec<(Value, Value)>),
 }
 
 impl Value {
-    /// The number of an integer, and `None` of any other value (RFC 8949, section 3.1).
+    /// Returns the integer, or `None` for any other value (RFC 8949, section 3.1).
     pub fn as_integer(&self) -> Option<Integer>
         ensures { result ≡ as_integer (value_item self.now) }
     {
@@ -52,7 +52,7 @@ impl Value {
         }
     }
 
-    /// The bytes of a byte string, and `None` of any other value (RFC 8949, section 3.1).
+    /// Returns the bytes of a byte string, or `None` for any other value (RFC 8949, section 3.1).
     pub fn as_bytes(&self) -> Option<&Vec<u8>>
         ensures { option_map (λ bytes. bytes.now.items) result ≡ as_bytes (value_item self.now) }
     {
@@ -62,7 +62,7 @@ impl Value {
         }
     }
 
-    /// The text of a text string, and `None` of any other value (RFC 8949, section 3.1).
+    /// Returns the text of a text string, or `None` for any other value (RFC 8949, section 3.1).
     pub fn as_text(&self) -> Option<&str>
         ensures { option_map (λ text. text.now) result ≡ as_text (value_item self.now) }
     {
@@ -72,7 +72,7 @@ impl Value {
         }
     }
 
-    /// Which of `false` and `true` this is, and `None` of any other value (RFC 8949, section 3.3).
+    /// Returns the boolean, or `None` for any other value (RFC 8949, section 3.3).
     pub fn as_bool(&self) -> Option<bool>
         ensures { result ≡ as_bool (value_item self.now) }
     {
@@ -82,7 +82,8 @@ impl Value {
         }
     }
 
-    /// The elements of an array in order, and `None` of any other value (RFC 8949, section 3.1).
+    /// Returns the elements of an array in order, or `None` for any other value (RFC 8949, section
+    /// 3.1).
     pub fn as_array(&self) -> Option<&Vec<Value>>
         ensures { option_map (λ items. value_items items.now.items) result
             ≡ as_array (value_item self.now) }
@@ -93,7 +94,7 @@ impl Value {
         }
     }
 
-    /// The pairs of a map in order, and `None` of any other value (RFC 8949, section 3.1).
+    /// Returns the pairs of a map in order, or `None` for any other value (RFC 8949, section 3.1).
     pub fn as_map(&self) -> Option<&Vec<(Value, Value)>>
         ensures { option_map (λ pairs. value_pairs pairs.now.items) result
             ≡ as_map (value_item self.now) }
@@ -104,8 +105,8 @@ impl Value {
         }
     }
 
-    /// The number of a tag, with the value that it encloses, and `None` of any other value (RFC
-    /// 8949, section 3.4).
+    /// Returns the number of a tag and the enclosed value, or `None` for any other value (RFC 8949,
+    /// section 3.4).
     pub fn as_tag(&self) -> Option<(u64, &Value)>
         ensures { option_map (λ tag. (tag.0, value_item tag.1.now)) result ≡ as_tag
             (value_item self.now) }
@@ -116,17 +117,17 @@ impl Value {
         }
     }
 
-    /// Whether this is `null` (RFC 8949, section 3.3).
+    /// Returns true if this is `null` (RFC 8949, section 3.3).
     pub fn is_null(&self) -> bool
         ensures { IsTrue result ↔ (value_item self.now ≡ null) }
     {
         matches!(self, Value::Null)
     }
 
-    /// An equal value in memory of its own.
+    /// Returns an equal value in memory of its own.
     ///
     /// # Errors
-    /// That memory ran out.
+    /// `AllocError` if an allocation fails.
     pub fn clone(&self) -> Result<Value, AllocError>
         ensures { IfOk result (λ copy. value_item copy ≡ value_item self.now) }
     {
@@ -250,8 +251,8 @@ fn copy_pairs(pairs: &Vec<(Value, Value)>) -> Result<Vec<(Value, Value)>, AllocE
     Ok(copies)
 }
 
-/// Equality of every field: two floats are equal where their widths and bits are, and two maps
-/// where they hold equal pairs in the same order.
+/// Compares all fields. Two floats are equal if their widths and bits are equal. Two maps are equal
+/// if they have equal pairs in the same order.
 impl PartialEq for Value {
     ghost eq = { on value_item item_eq };
 

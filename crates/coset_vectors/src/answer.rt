@@ -1,4 +1,4 @@
-//! What the bytes of a row are returned, read both ways.
+//! The answer to the bytes of a row, which are read in two ways.
 
 use crate::form::Form;
 use crate::fronts::flaw;
@@ -7,10 +7,11 @@ use coset::{CoseError, Result};
 use hex::FromHexError;
 use std::alloc::{AllocError, Global};
 
-/// The answer where a word is no hexadecimal.
+/// The answer if a word isn't hexadecimal.
 pub const NOT_HEXADECIMAL: &str = "error: input is not hexadecimal";
 
-/// What is before the first space and behind it. No space is as good as one at the end.
+/// Returns the text before the first space, and the text after it. Without a space, the second is
+/// empty.
 pub fn name_and_rest(row: &str) -> (&str, &str) {
     match row.split_once(' ') {
         Some((name, rest)) => (name, rest),
@@ -18,7 +19,7 @@ pub fn name_and_rest(row: &str) -> (&str, &str) {
     }
 }
 
-/// The bytes that this spells in hexadecimal, if it does.
+/// Returns the bytes that the text spells in hexadecimal, or `None` if it isn't hexadecimal.
 pub fn spelled(alloc: Global, hexadecimal: &str) -> Result<Option<Vec<u8>>, AllocError> {
     match hex::decode(alloc, hexadecimal.as_bytes()) {
         Ok(bytes) => Ok(Some(bytes)),
@@ -27,7 +28,8 @@ pub fn spelled(alloc: Global, hexadecimal: &str) -> Result<Option<Vec<u8>>, Allo
     }
 }
 
-/// The text for the bytes that this spells in hexadecimal; of structures, for those and the `external_aad` behind a space.
+/// Returns the answer to bytes in hexadecimal. For structures, the `external_aad` follows after a
+/// space.
 pub fn answer_words<F: Form<T>, T: PartialEq + Drop>(
     alloc: Global,
     words: &str,
@@ -43,8 +45,8 @@ pub fn answer_words<F: Form<T>, T: PartialEq + Drop>(
     }
 }
 
-/// The text for these bytes. Where they hold a value, that every proper front of them ends too early, and that a byte
-/// behind them is extraneous, is looked at as well, and said of where it isn't so.
+/// Returns the answer to these bytes. If they encode a value, also checks that every proper prefix
+/// ends too early, and that one more byte is extraneous.
 fn answer_row<F: Form<T>, T: PartialEq + Drop>(
     alloc: Global,
     bytes: &[u8],
@@ -58,9 +60,11 @@ fn answer_row<F: Form<T>, T: PartialEq + Drop>(
     if flaw.is_empty() { Ok(text) } else { Ok(flaw) }
 }
 
-/// The text for bytes of that form: the hexadecimal of what is written of the value that they hold, or `error: ` and
-/// why they hold none; and `differs` where reading them straight, and as an item that is read then, come to different
-/// values or texts. What is written of it may be a structure with this `external_aad`.
+/// Returns the encoding of the value in hexadecimal, or `error: ` and the error.
+///
+/// The value is read from the bytes, and also from the item that was read from them. If the two
+/// differ, the answer is `differs`. The encoding may be that of a structure with this
+/// `external_aad`.
 pub fn answer<F: Form<T>, T: PartialEq + Drop>(
     alloc: Global,
     bytes: &[u8],
@@ -81,7 +85,7 @@ pub fn answer<F: Form<T>, T: PartialEq + Drop>(
     }
 }
 
-/// Reads a value from the one item that the bytes are.
+/// Reads a value from the one item that the bytes encode.
 pub fn read_through_item<F: Form<T>, T>(alloc: Global, bytes: &[u8]) -> Result<T> {
     let (item, length) = read_value(alloc, bytes)?;
     if length < bytes.len() {
@@ -90,10 +94,10 @@ pub fn read_through_item<F: Form<T>, T>(alloc: Global, bytes: &[u8]) -> Result<T
     F::read_item(alloc, item)
 }
 
-/// The text for a value that was read, or for why it wasn't.
+/// Returns the answer for a value or an error.
 ///
 /// # Errors
-/// Memory ran out: that is no answer that could differ from another.
+/// `AllocError` if an allocation fails, so that this isn't compared with another answer.
 fn text_of<F: Form<T>, T>(
     alloc: Global,
     read: Result<T>,

@@ -1,4 +1,4 @@
-//! How values are in the bytes of rows.
+//! The forms of values in the bytes of rows.
 
 use coset::cbor::value::Value;
 use coset::cwt::Timestamp;
@@ -8,31 +8,33 @@ use coset::{
 };
 use std::alloc::Global;
 
-/// How values of a type are read from the bytes of a row, and what is written of them.
+/// How values of a type are read from the bytes of a row, and which bytes are written for them.
 pub trait Form<T> {
-    /// Whether what is written of a value is a structure, or some, that `external_aad` is in.
+    /// Whether structures with an `external_aad` are written.
     const IS_STRUCTURE: bool = false;
 
-    /// Reads a value straight from bytes.
+    /// Reads a value from bytes.
     ///
     /// # Errors
-    /// Why the bytes hold none, or that memory ran out.
+    /// - A fault in bytes that encode no value.
+    /// - `OutOfMemory` if an allocation fails.
     fn read(alloc: Global, bytes: &[u8]) -> Result<T>;
 
-    /// Reads a value from the one item that the bytes are.
+    /// Reads a value from the one item that the bytes encode.
     ///
     /// # Errors
-    /// The same as [`Form::read`].
+    /// The errors of [`Form::read`].
     fn read_item(alloc: Global, item: Value) -> Result<T>;
 
-    /// What is written of the value. Forms that have no use for `external_aad` pass over it.
+    /// Returns the bytes for the value. A form without structures ignores `external_aad`.
     ///
     /// # Errors
-    /// Why the value can't be written, or that memory ran out.
+    /// - A fault in a value that can't be written.
+    /// - `OutOfMemory` if an allocation fails.
     fn write(alloc: Global, value: T, external_aad: &[u8]) -> Result<Vec<u8>>;
 }
 
-/// The item of the type itself.
+/// An item of the type itself.
 pub struct Plain;
 
 impl<T: CborSerializable> Form<T> for Plain {
@@ -49,7 +51,7 @@ impl<T: CborSerializable> Form<T> for Plain {
     }
 }
 
-/// The item of the type under its tag (RFC 8152, section 2).
+/// An item of the type under its tag (RFC 8152, section 2).
 pub struct Tagged;
 
 impl<T: TaggedCborSerializable> Form<T> for Tagged {
@@ -74,7 +76,7 @@ impl<T: TaggedCborSerializable> Form<T> for Tagged {
     }
 }
 
-/// The name of a value's kind in errors.
+/// Returns the name of a value's type in errors.
 fn kind_name(value: &Value) -> &'static str {
     match value {
         Value::Integer(_) => "int",
@@ -89,7 +91,7 @@ fn kind_name(value: &Value) -> &'static str {
     }
 }
 
-/// The byte string that represents a protected header in messages (RFC 8152, section 3).
+/// The byte string of a protected header in messages (RFC 8152, section 3).
 pub struct InString;
 
 impl Form<ProtectedHeader> for InString {
@@ -106,7 +108,7 @@ impl Form<ProtectedHeader> for InString {
     }
 }
 
-/// Seconds, which are read and written by way of a value alone.
+/// Timestamps, which are read from items and written as items alone.
 pub struct AsValue;
 
 impl Form<Timestamp> for AsValue {

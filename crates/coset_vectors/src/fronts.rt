@@ -1,5 +1,5 @@
-//! What is in front of an end, and behind one: of bytes that hold a value, every proper front ends where more is due,
-//! and one byte more is extraneous.
+//! Checks the ends of bytes that encode a value: every proper prefix ends too early, and one more
+//! byte is extraneous.
 
 use crate::answer::read_through_item;
 use crate::form::Form;
@@ -8,7 +8,7 @@ use coset::cbor::value::Value;
 use coset::{CoseError, Result};
 use std::alloc::{AllocError, Global};
 
-/// Why that isn't so of these bytes, which hold a value; or nothing.
+/// Returns what is wrong with the prefixes and the end of these bytes, or an empty text.
 pub fn flaw<F: Form<T>, T: Drop>(alloc: Global, bytes: &[u8]) -> Result<String, AllocError> {
     for length in 0..bytes.len() {
         let front = &bytes[..length];
@@ -21,12 +21,12 @@ pub fn flaw<F: Form<T>, T: Drop>(alloc: Global, bytes: &[u8]) -> Result<String, 
     followed::<F, T>(alloc, bytes)
 }
 
-/// Whether the answer is that the input ends where more is due.
+/// Returns true if the error is that the input ends too early.
 fn is_end<T: Drop>(answer: Result<T>) -> bool {
     matches!(&answer, Err(CoseError::DecodeFailed(Error::Io(_))))
 }
 
-/// What is wrong with these bytes and one more behind them.
+/// Returns what is wrong with these bytes followed by one more, or an empty text.
 fn followed<F: Form<T>, T: Drop>(alloc: Global, bytes: &[u8]) -> Result<String, AllocError> {
     let mut longer = Vec::from_slice(alloc, bytes)?;
     longer.push(0)?;
@@ -43,7 +43,7 @@ fn followed<F: Form<T>, T: Drop>(alloc: Global, bytes: &[u8]) -> Result<String, 
     }
 }
 
-/// The item at the front of the bytes and its length; nothing where none is there.
+/// Returns the item at the front of the bytes and its length, or `None` and 0 if there is none.
 fn first_item(alloc: Global, bytes: &[u8]) -> Result<(Option<Value>, usize), AllocError> {
     match read_value(alloc, bytes) {
         Ok((value, length)) => Ok((Some(value), length)),

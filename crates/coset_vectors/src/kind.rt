@@ -1,4 +1,4 @@
-//! The kinds of bytes in rows, by their names: of each its type, and how the type's values are in bytes.
+//! The kinds of bytes in rows, by name: the type of each, and the form of its values in bytes.
 
 use crate::answer::answer_words;
 use crate::form::{AsValue, Form, InString, Plain, Tagged};
@@ -17,17 +17,17 @@ use coset::{
 };
 use std::alloc::{AllocError, Global};
 
-/// What is asked about a kind.
+/// A question about a kind.
 #[derive(Clone, Copy)]
 pub enum Question<'a> {
-    /// What is answered to the bytes that these words spell.
+    /// The answer to the bytes that these words spell.
     Row(&'a str),
-    /// How many short inputs hold a value.
+    /// The number of short inputs that encode a value.
     Every,
 }
 
 impl Question<'_> {
-    /// The answer for values of the type in that form.
+    /// Returns the answer for values of the type in that form.
     fn of<F: Form<T>, T: PartialEq + Drop>(self, alloc: Global) -> Result<String, AllocError> {
         match self {
             Question::Row(words) => answer_words::<F, T>(alloc, words),
@@ -35,7 +35,8 @@ impl Question<'_> {
         }
     }
 
-    /// The answer for the kind of that name, which isn't under a tag; `None` where no kind has the name.
+    /// Returns the answer for the kind of that name without a tag, or `None` if there is no such
+    /// kind.
     pub fn ask(self, alloc: Global, name: &str) -> Option<Result<String, AllocError>> {
         Some(match name {
             "value" => self.of::<Plain, Value>(alloc),
@@ -48,7 +49,7 @@ impl Question<'_> {
             "header_parameter" => {
                 self.of::<Plain, RegisteredLabelWithPrivate<HeaderParameter>>(alloc)
             }
-            // A registry of which no number is for private use.
+            // This type refuses numbers for private use.
             "elliptic_curve" => self.of::<Plain, RegisteredLabel<EllipticCurve>>(alloc),
             "header" => self.of::<Plain, Header>(alloc),
             "protected" => self.of::<Plain, ProtectedHeader>(alloc),
@@ -73,21 +74,25 @@ impl Question<'_> {
         })
     }
 
-    /// The answer for the kind of that name, of whose values structures are written; `None` where no kind has the name.
+    /// Returns the answer for the kind of that name whose structures are written, or `None` if
+    /// there is no such kind.
     fn ask_structure(self, alloc: Global, name: &str) -> Option<Result<String, AllocError>> {
         Some(match name {
-            // What is signed of a message, authenticated, or goes with the ciphertext (RFC 8152, sections 4.4, 6.3, 5.3).
+            // Structures that are signed, authenticated, or passed with the ciphertext (RFC 8152,
+            // sections 4.4, 6.3, 5.3).
             "sign1_tbs" => self.of::<Of<Structures>, CoseSign1>(alloc),
             "sign_tbs" => self.of::<Of<Structures>, CoseSign>(alloc),
             "mac0_tbm" => self.of::<Of<Structures>, CoseMac0>(alloc),
             "mac_tbm" => self.of::<Of<Structures>, CoseMac>(alloc),
             "encrypt0_aad" => self.of::<Of<Structures>, CoseEncrypt0>(alloc),
             "encrypt_aad" => self.of::<Of<Structures>, CoseEncrypt>(alloc),
-            // What goes with the ciphertext of a recipient: of such a message, of one with a MAC, of another recipient.
+            // Structures of recipients: of encrypted messages, of messages with a MAC, and of other
+            // recipients.
             "enc_recipient_aad" => self.of::<Of<EncRecipient>, CoseRecipient>(alloc),
             "mac_recipient_aad" => self.of::<Of<MacRecipient>, CoseRecipient>(alloc),
             "rec_recipient_aad" => self.of::<Of<RecRecipient>, CoseRecipient>(alloc),
-            // What a message's counter signatures are over (RFC 8152, section 4.5; RFC 9338, section 3.3).
+            // Structures of a message's counter signatures (RFC 8152, section 4.5; RFC 9338,
+            // section 3.3).
             "sign1_countersigned" => self.of::<Of<Countersignatures>, CoseSign1>(alloc),
             "sign_countersigned" => self.of::<Of<Countersignatures>, CoseSign>(alloc),
             "mac0_countersigned" => self.of::<Of<Countersignatures>, CoseMac0>(alloc),
@@ -98,7 +103,8 @@ impl Question<'_> {
         })
     }
 
-    /// The answer for the kind of that name under its tag; `None` where no kind has the name and a tag.
+    /// Returns the answer for the kind of that name under its tag, or `None` if no kind has the
+    /// name and a tag.
     pub fn ask_tagged(self, alloc: Global, name: &str) -> Option<Result<String, AllocError>> {
         Some(match name {
             "countersignature" => self.of::<Tagged, CoseCountersignature>(alloc),

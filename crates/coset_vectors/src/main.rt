@@ -1,10 +1,11 @@
-//! `coset_vectors`: answers rows of test vectors, line by line, from standard input to standard output.
+//! `coset_vectors` reads rows of test vectors from standard input, and writes one answer for each
+//! to standard output.
 //!
-//! A row is `KIND HEX`: what the bytes are said to be, as `header` or `sign1`, and the bytes. It is returned by what is
-//! written of the value that they hold, in hexadecimal; or, where they hold none, by `error: ` and why. `tagged KIND HEX`
-//! is a message under its tag; of kinds like `sign1_tbs`, which are returned by structures, a second word is the
-//! `external_aad` in these. An empty line, and a comment, which begins with `#`, is returned by itself. Where memory
-//! runs out while a row is returned, that is its answer, and the next one is read.
+//! A row is `KIND HEX`: a kind, such as `header` or `sign1`, and bytes. The answer is the encoding
+//! of the value in hexadecimal, or `error: ` and the error. `tagged KIND HEX` is a message under
+//! its tag. For kinds like `sign1_tbs` the answer is a structure, and a second word is its
+//! `external_aad`. The answer to an empty line, and to a comment, which begins with `#`, is the
+//! line itself. If an allocation fails, the answer to the row says so, and the next row is read.
 #![tactic(auto)]
 
 mod answer;

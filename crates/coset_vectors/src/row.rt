@@ -1,4 +1,4 @@
-//! Rows, one a line: `KIND HEX`, or `tagged KIND HEX`; of structures `KIND HEX HEX`.
+//! Rows, one a line: `KIND HEX`, or `tagged KIND HEX`. For structures there is a second `HEX`.
 
 use crate::answer::{NOT_HEXADECIMAL, name_and_rest, spelled};
 use crate::kind::Question;
@@ -12,8 +12,8 @@ use test_lines::mark;
 pub struct Rows;
 
 impl Calls for Rows {
-    /// What the bytes of the row are returned. What answers a row is between two marks, and is `error: out of memory` where
-    /// there is none for that.
+    /// Returns the answer to the row. A row is answered between two marks. If an allocation fails
+    /// there, the answer is `error: out of memory`.
     fn answer(alloc: Global, line: &str) -> Result<String, AllocError> {
         match name_and_rest(line) {
             ("every", row) => answer_one(alloc, row, true),
@@ -25,7 +25,7 @@ impl Calls for Rows {
     }
 }
 
-/// The text for a row, or that memory ran out while that was made.
+/// Returns the answer to a row between two marks.
 fn answer_marked(alloc: Global, row: &str) -> Result<String, AllocError> {
     mark::begin(alloc);
     let answer = answer_one(alloc, row, false);
@@ -36,7 +36,8 @@ fn answer_marked(alloc: Global, row: &str) -> Result<String, AllocError> {
     }
 }
 
-/// The text for a row; for one without hexadecimal, of a sweep, that for the sweep over short inputs of its kind.
+/// Returns the answer to a row. A sweep has no hexadecimal, and its answer is for all short inputs
+/// of its kind.
 fn answer_one(alloc: Global, row: &str, is_sweep: bool) -> Result<String, AllocError> {
     let (is_tagged, row) = match row.strip_prefix("tagged ") {
         Some(rest) => (true, rest),
@@ -59,7 +60,7 @@ fn answer_one(alloc: Global, row: &str, is_sweep: bool) -> Result<String, AllocE
     }
 }
 
-/// The text for values that nest, of what is around the others and of what is inside.
+/// Returns the answer for nested values. The words are the outer and the inner bytes.
 fn answer_nested(alloc: Global, words: &str) -> Result<String, AllocError> {
     let (outer, inner) = name_and_rest(words);
     match (spelled(alloc, outer)?, spelled(alloc, inner)?) {

@@ -1,4 +1,4 @@
-//! Strings of each length, in each spelling.
+//! Strings of every length, in every spelling.
 
 use crate::answer::answer;
 use crate::form::Plain;
@@ -10,7 +10,7 @@ use std::alloc::{AllocError, Global};
 /// The longest string of the sweep.
 const LONGEST: u64 = 300;
 
-/// What each string is made of, letters.
+/// The letter of which each string consists.
 const LETTER: u8 = b'a';
 
 /// A major type of strings (RFC 8949, section 3.1), as the first byte of its shortest head.
@@ -29,15 +29,16 @@ impl Major {
     }
 }
 
-/// How a length is announced (RFC 8949, section 3): in the first byte, or in so many bytes behind it.
+/// The widths of a length's argument (RFC 8949, section 3): in the first byte, or in so many bytes
+/// after it.
 const WIDTHS: [usize; 5] = [0, 1, 2, 4, 8];
 
-/// How long the chunks are of a string of indefinite length.
+/// The lengths of chunks in strings of indefinite length.
 const CHUNKS: [usize; 3] = [1, 7, 400];
 
-/// Each string of letters up to the longest is written shortest, whatever head it has and in whatever chunks it comes, also
-/// where the value is lent to the writer.
-/// Answers how many spellings these are, or the first that is returned otherwise.
+/// Checks that every string of letters up to the longest gets its shortest encoding, in whatever
+/// head or chunks it came, also if the writer borrows the value. Returns the number of spellings,
+/// or the first wrong one.
 pub fn strings(alloc: Global, major: Major) -> Result<String, AllocError> {
     let mut count = 0u32;
     for length in 0..=LONGEST {
@@ -54,7 +55,8 @@ pub fn strings(alloc: Global, major: Major) -> Result<String, AllocError> {
     format!(in alloc; "{count} accepted")
 }
 
-/// What is written of the item, in hexadecimal, where its value is lent to the writer; or nothing.
+/// Returns the encoding of a value that the writer borrows, in hexadecimal, or an empty text if
+/// there is none.
 fn written_lent(alloc: Global, spelling: &[u8]) -> Result<String, AllocError> {
     let Ok((value, _)) = read_value(alloc, spelling) else {
         return Ok(String::new(alloc));
@@ -66,7 +68,7 @@ fn written_lent(alloc: Global, spelling: &[u8]) -> Result<String, AllocError> {
     }
 }
 
-/// The shortest encoding, in hexadecimal.
+/// Returns the shortest encoding in hexadecimal.
 fn expected(alloc: Global, major: Major, length: u64) -> Result<String, AllocError> {
     let mut bytes = Vec::new(alloc);
     let shortest = match length {
@@ -79,7 +81,7 @@ fn expected(alloc: Global, major: Major, length: u64) -> Result<String, AllocErr
     hex::encode(alloc, &bytes)
 }
 
-/// The string under each head that holds its length, and in chunks.
+/// Returns the string under each head that fits its length, and in chunks.
 fn spellings(alloc: Global, major: Major, length: u64) -> Result<Vec<Vec<u8>>, AllocError> {
     let mut all = Vec::new(alloc);
     for width in WIDTHS {
@@ -94,7 +96,7 @@ fn spellings(alloc: Global, major: Major, length: u64) -> Result<Vec<Vec<u8>>, A
     Ok(all)
 }
 
-/// The string in chunks of each length.
+/// Appends the string in chunks of each length.
 fn push_chunked(
     alloc: Global,
     major: Major,
@@ -107,7 +109,7 @@ fn push_chunked(
     Ok(())
 }
 
-/// Whether that many bytes behind the first one of a head announce the length.
+/// Returns true if the length fits in `width` bytes after the first byte of a head.
 fn fits(width: usize, length: u64) -> bool {
     match width {
         0 => length < 24,
@@ -116,7 +118,7 @@ fn fits(width: usize, length: u64) -> bool {
     }
 }
 
-/// A head with the length in that many bytes behind its first one.
+/// Appends a head with the length in `width` bytes after its first byte.
 fn push_head(
     bytes: &mut Vec<u8>,
     major: Major,
@@ -142,7 +144,8 @@ fn push_letters(bytes: &mut Vec<u8>, length: u64) -> Result<(), AllocError> {
     Ok(())
 }
 
-/// The string in chunks of that length, but for the last, and with an empty one in front (RFC 8949, section 3.2.3).
+/// Returns the string in chunks of that length. The last may be shorter, and an empty chunk comes
+/// first (RFC 8949, section 3.2.3).
 fn chunked(alloc: Global, major: Major, length: u64, chunk: usize) -> Result<Vec<u8>, AllocError> {
     let mut bytes = Vec::new(alloc);
     bytes.push(major.first_byte() | 31)?;

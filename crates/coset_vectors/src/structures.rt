@@ -1,5 +1,5 @@
-//! Structures of messages and recipients, in which an `external_aad` is: what is signed, authenticated, or goes with a
-//! ciphertext. Where there are some, they are written one behind the other.
+//! The structures of messages and recipients, with an `external_aad`: signed, authenticated, or
+//! passed with a ciphertext. Several structures are written one after another.
 
 use crate::form::Form;
 use coset::cbor::value::Value;
@@ -13,15 +13,17 @@ use std::alloc::Global;
 use std::marker::PhantomData;
 use std::slice::from_ref;
 
-/// Messages, as what of them there is a structure of.
+/// Messages whose structures can be written.
 pub trait Structured: Sized {
-    /// What is signed (of each signature), authenticated, or goes with the ciphertext (RFC 8152, sections 4.4, 5.3 and 6.3).
+    /// Returns the structures of the message: of each signature, of the MAC, or of the ciphertext
+    /// (RFC 8152, sections 4.4, 5.3 and 6.3).
     ///
     /// # Errors
-    /// What is authenticated has no payload, or memory ran out.
+    /// - `UnexpectedItem` if a message with a MAC has no payload.
+    /// - `OutOfMemory` if an allocation fails.
     fn structures(&self, alloc: Global, external_aad: &[u8]) -> Result<Vec<u8>>;
 
-    /// What of it is countersigned.
+    /// Returns the parts of the message that are countersigned.
     fn countersigned(&self) -> Countersigned<'_>;
 }
 
@@ -92,17 +94,17 @@ impl Structured for CoseEncrypt {
     }
 }
 
-/// Why nothing is authenticated where a message carries no payload.
+/// The error for a message with a MAC and without a payload.
 const NO_PAYLOAD: CoseError = CoseError::UnexpectedItem("nul", "bstr");
 
-/// What of a message is countersigned, and the header in which its counter signatures are.
+/// The parts of a message that are countersigned, and the header with its counter signatures.
 #[derive(Drop)]
 pub struct Countersigned<'a> {
     body: &'a ProtectedHeader,
     header: &'a Header,
-    /// The payload or the ciphertext: nothing where it is detached.
+    /// The payload or the ciphertext. It is empty if it is detached.
     content: &'a [u8],
-    /// What the message has besides: its signature or its tag.
+    /// The other fields of the message: its signature or its tag.
     others: &'a [Vec<u8>],
 }
 
@@ -125,8 +127,12 @@ impl<'a> Countersigned<'a> {
         }
     }
 
-    /// What these are over, one behind the other: each counter signature of label 7 (RFC 8152, section 4.5), each
-    /// countersignature of label 11, and the abbreviated one of label 12 where there are other fields (RFC 9338, section 3.3).
+    /// Returns the structures of these countersignatures, one after another:
+    ///
+    /// - each counter signature of label 7 (RFC 8152, section 4.5);
+    /// - each countersignature of label 11 (RFC 9338, section 3.3);
+    /// - the abbreviated countersignature of label 12, if there are other fields (RFC 9338, section
+    ///   3.3).
     fn structures(&self, alloc: Global, external_aad: &[u8]) -> Result<Vec<u8>> {
         let mut all = Vec::new(alloc);
         for signature in &self.header.counter_signatures {
@@ -143,7 +149,7 @@ impl<'a> Countersigned<'a> {
         Ok(all)
     }
 
-    /// Appends what each countersignature of label 11 is over.
+    /// Appends the structure of each countersignature of label 11.
     fn push_version_2(&self, alloc: Global, external_aad: &[u8], all: &mut Vec<u8>) -> Result<()> {
         for signature in &self.header.countersignatures_v2 {
             let one = self.by(alloc, &signature.protected, external_aad, self.others)?;
@@ -152,7 +158,7 @@ impl<'a> Countersigned<'a> {
         Ok(())
     }
 
-    /// What the countersignature with this protected header is over.
+    /// Returns the structure of the countersignature with this protected header.
     fn by(
         &self,
         alloc: Global,
@@ -172,16 +178,17 @@ impl<'a> Countersigned<'a> {
     }
 }
 
-/// What is written of a value that is read as it is.
+/// The bytes that are made from a value.
 pub trait Made<T> {
-    /// The bytes that are written.
+    /// Returns these bytes.
     ///
     /// # Errors
-    /// Why there are none, or that memory ran out.
+    /// - A fault in a value from which they can't be made.
+    /// - `OutOfMemory` if an allocation fails.
     fn made(alloc: Global, value: &T, external_aad: &[u8]) -> Result<Vec<u8>>;
 }
 
-/// The item of the type itself, of which is written what `M` makes.
+/// An item of the type itself, for which the bytes of `M` are written.
 pub struct Of<M> {
     made: PhantomData<M>,
 }
@@ -211,7 +218,7 @@ impl<T: Structured> Made<T> for Structures {
     }
 }
 
-/// What a message's counter signatures are over.
+/// The structures of a message's counter signatures.
 pub struct Countersignatures;
 
 impl<T: Structured> Made<T> for Countersignatures {
@@ -220,7 +227,7 @@ impl<T: Structured> Made<T> for Countersignatures {
     }
 }
 
-/// What goes with the ciphertext of a recipient of an encrypted message (RFC 8152, section 5.3).
+/// The structure of a recipient of an encrypted message (RFC 8152, section 5.3).
 pub struct EncRecipient;
 
 impl Made<CoseRecipient> for EncRecipient {
@@ -229,7 +236,7 @@ impl Made<CoseRecipient> for EncRecipient {
     }
 }
 
-/// As for an encrypted message, for a message with a MAC.
+/// The structure of a recipient of a message with a MAC.
 pub struct MacRecipient;
 
 impl Made<CoseRecipient> for MacRecipient {
@@ -238,7 +245,7 @@ impl Made<CoseRecipient> for MacRecipient {
     }
 }
 
-/// As for an encrypted message, for another recipient.
+/// The structure of a recipient of another recipient.
 pub struct RecRecipient;
 
 impl Made<CoseRecipient> for RecRecipient {

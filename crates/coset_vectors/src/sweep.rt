@@ -1,16 +1,16 @@
-//! Sweeps: lines that each make many rows.
+//! Sweeps: rows that each stand for many inputs.
 
 use crate::answer::answer;
 use crate::form::{Form, Plain};
 use coset::cbor::value::Value;
 use std::alloc::{AllocError, Global};
 
-/// What the inputs of a sweep were returned.
+/// The results of the inputs of a sweep.
 #[derive(Drop)]
 struct Tally {
-    /// How many of them were accepted.
+    /// The number of inputs that were accepted.
     accepted: u32,
-    /// The first that was returned as none may be, if there is one.
+    /// The first input with a wrong result, if there is one.
     wrong: Option<Vec<u8>>,
 }
 
@@ -22,8 +22,8 @@ impl Tally {
         }
     }
 
-    /// Takes one more answer. An accepted input must be written as bytes that are returned by themselves, and no other
-    /// may be refused for memory; `differs` where reading it straight and by way of a value don't agree.
+    /// Takes one more input. An accepted input must be written as bytes whose answer is the same.
+    /// Other inputs must be refused for a fault, and the answer may not be `differs`.
     fn take<F: Form<T>, T: PartialEq + Drop>(
         &mut self,
         alloc: Global,
@@ -42,7 +42,7 @@ impl Tally {
         }
     }
 
-    /// Keeps the input, unless one is kept.
+    /// Records the input, unless one is recorded.
     fn blame(&mut self, alloc: Global, input: &[u8]) -> Result<(), AllocError> {
         if self.wrong.is_none() {
             self.wrong = Some(Vec::from_slice(alloc, input)?);
@@ -50,7 +50,7 @@ impl Tally {
         Ok(())
     }
 
-    /// How many were accepted; or the first that was returned wrongly.
+    /// Returns the number of accepted inputs, or the first one with a wrong result.
     fn told(&self, alloc: Global) -> Result<String, AllocError> {
         match &self.wrong {
             None => format!(in alloc; "{} accepted", self.accepted),
@@ -62,7 +62,7 @@ impl Tally {
     }
 }
 
-/// Every input of at most two bytes.
+/// Returns the result for every input of at most two bytes.
 pub fn every<F: Form<T>, T: PartialEq + Drop>(alloc: Global) -> Result<String, AllocError> {
     let mut tally = Tally::new();
     tally.take::<F, T>(alloc, &[])?;
@@ -73,7 +73,7 @@ pub fn every<F: Form<T>, T: PartialEq + Drop>(alloc: Global) -> Result<String, A
     tally.told(alloc)
 }
 
-/// Every input of two bytes that begins with this one.
+/// Tries every input of two bytes that begins with this byte.
 fn with_a_second<F: Form<T>, T: PartialEq + Drop>(
     alloc: Global,
     first: u8,
@@ -85,11 +85,12 @@ fn with_a_second<F: Form<T>, T: PartialEq + Drop>(
     Ok(())
 }
 
-/// So many times one after the other is the most that a sweep nests.
+/// The most levels of a sweep over nested values.
 const NESTED: u32 = 300;
 
-/// Values that nest: `outer` so many times, and then `inner`, for each number up to 300. Up to some number of times they
-/// are accepted, and written unchanged; from there on each is refused by one text.
+/// Returns the result for nested values: `outer` repeated up to 300 times, and then `inner`. Up to
+/// some number they are accepted and written unchanged. From there on each is refused with the same
+/// error.
 pub fn nested(alloc: Global, outer: &[u8], inner: &[u8]) -> Result<String, AllocError> {
     let mut accepted = 0u32;
     let mut refusal = String::new(alloc);
@@ -107,7 +108,7 @@ pub fn nested(alloc: Global, outer: &[u8], inner: &[u8]) -> Result<String, Alloc
     format!(in alloc; "{accepted} accepted, then {refusal}")
 }
 
-/// `outer` so many times, and then `inner`.
+/// Returns `outer` repeated so many times, followed by `inner`.
 fn repeated(alloc: Global, outer: &[u8], times: u32, inner: &[u8]) -> Result<Vec<u8>, AllocError> {
     let mut bytes = Vec::new(alloc);
     for _ in 0..times {

@@ -1,4 +1,4 @@
--- What the gate returns, from what its calls answer.
+-- The results of the gate, from the results of its calls.
 use mir.Syntax.{w64}
 use mir.Val.{SFits, of_z, to_z}
 use Rattle.std.specs.Prelude.{IsErrAnd}
@@ -18,29 +18,29 @@ use Rattle.cwt_gate.specs.Token.{token}
 use Rattle.cwt_gate.specs.declared.error.GateError.{GateError}
 use Rattle.cwt_gate.specs.declared.error.GateError.TheVariants as gate
 
--- of a message that was read there is something that is signed
+-- A message that was read always has signed bytes.
 abbrev pub AlwaysSigned : Type 0
 AlwaysSigned = (external_aad payload : List ℕ) (v : Item) (m : Sign1View) → sign1.describes v m → sign1_structure m external_aad payload ≡ None → ⊥
 
--- so that there is none is never why a token is refused
+-- So a token is never refused for having no signed bytes.
 unsigned : AlwaysSigned → (b : List ℕ) (m : Sign1View) (e : CoseError) → Describes token b m → HasNoImage (sign1_carried m []) e → IsRefused token b e
 unsigned law b m e d none = λ other. absurd (law [] _ _ m d.2 (none other).1)
 
--- what a test answers of a moment that was handed on
+-- A test has the same result for a time that was converted to a machine integer and back.
 pub moved : (test : ℤ → Bool) (now : ℤ) → SFits w64 now → {b : Bool} → test (to_z w64 (of_z w64 now)) ≡ b → test now ≡ b
 moved test now fits {b} h = subst (λ n. test n ≡ b) (to_z-of_z w64 now fits) h
 
--- what is returned of an error is returned of what it was turned into
+-- If `P` holds for `Err e`, it holds for any result equal to `Err e`.
 pub passed_on : {A X : Type 0} (P : Result A X → Type 0) (r : Result A X) (e : X) → IsErrAnd r (λ x. x ≡ e) → P (Err e) → P r
 passed_on P (Ok x) e is h = absurd is
 passed_on P (Err x) e is h = subst (λ y. P (Err y)) (sym is) h
 
 module _ {F E : Type 0} (g : Verifies F E) (f : F) where
-  -- asked about the message that carries the payload p, the closure answered
+  -- The closure was called for the message with payload `p`, and accepted it.
   pub says_yes : (m : Sign1View) (p : List ℕ) → m.payload ≡ Some p → AsksAbout g f m.signature (sign1_carried m []) (Ok tt) → Says g f m p (Ok tt)
   says_yes m p carried asked = record { carried = carried; tbs = asked.0; is_tbs = asked.1; said = asked.2 }
 
-  -- it refused, or there was no memory for what it is asked about
+  -- The closure refused the message, or the signed bytes could not be made.
   refused : (m : Sign1View) (p : List ℕ) (e : CallError E) → m.payload ≡ Some p → AsksAbout g f m.signature (sign1_carried m []) (Err e)
       → GivesClaims g f m (Err (refusal_of e))
   refused m p (Coset e) carried asked = asked
@@ -51,7 +51,7 @@ module _ {F E : Type 0} (g : Verifies F E) (f : F) where
       → AsksAbout g f m.signature (sign1_carried m []) (Err e) → GivesClaims g f m r
   not_verified m p e r is carried asked = passed_on (GivesClaims g f m) r (refusal_of e) is (refused m p e carried asked)
 
-  -- why a message has no claims is why its token is refused
+  -- If a message has no claims, its token is refused for the same reason.
   pub none_given : AlwaysSigned → (now : ℤ) (b : List ℕ) (m : Sign1View) (e : GateError E) → Describes token b m → GivesClaims g f m (Err e)
       → Judges g f now b (Err e)
   none_given law now b m (gate.Token e) d h = unsigned law b m e d h

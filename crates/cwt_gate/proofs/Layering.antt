@@ -1,4 +1,4 @@
--- Opening layer in layer: one layer, and what is known after so many.
+-- Opening one layer, and the state after several nested layers.
 use Rattle.std.specs.Prelude.{IsErrAnd}
 use Rattle.std.proofs.Common.{◌≡◌, ◌≤◌, ◌<◌, ◌+◌, ◌∙◌, ◌||◌, ℕ, suc, List, [], ◌∷◌, length, Bool, true, false, None, Result, Ok, Err, refl}
 use Rattle.std.proofs.Common.{sym, ap, subst, inl, inr, arith}
@@ -32,7 +32,7 @@ use Rattle.cwt_gate.proofs.Judging.{passed_on}
 
 -- ---- one layer
 
--- of a message that was read there always is the structure that its signature, MAC or ciphertext goes with
+-- A message that was read always has the structure for its signature, MAC or ciphertext.
 pub record HaveStructures : Type 0 where
   pub sign1 : (external_aad payload : List ℕ) → WhenRead sign1 (λ m. sign1_structure m external_aad payload ≡ None → ⊥)
   pub mac0 : WhenRead mac0 (λ m. Authenticates m.protected)
@@ -49,7 +49,7 @@ has_structure laws (Encrypt0, v) (encrypted m) c d = laws.encrypt0 v m d enc.Cos
 has_structure laws (Encrypt0, v) (signed m) c d = absurd d
 has_structure laws (Encrypt0, v) (maced m) c d = absurd d
 
--- what is described of a form is no fault of it
+-- An item that describes a layer has no fault.
 as_sound : (x : Form × Item) (l : LayerView) (e : CoseError) → DescribesAs x l → FaultsAs x e → ⊥
 as_sound (Sign1, v) (signed m) e d f = sign1_laws.sound v m e d f
 as_sound (Sign1, v) (maced m) e d f = absurd d
@@ -61,7 +61,7 @@ as_sound (Encrypt0, v) (encrypted m) e d f = encrypt0_laws.sound v m e d f
 as_sound (Encrypt0, v) (signed m) e d f = absurd d
 as_sound (Encrypt0, v) (maced m) e d f = absurd d
 
--- what is returned of bytes that are one item, v, in whose message, m, is a fault of its form
+-- The result for bytes that are one item `v`, if the message `m` in it has a fault.
 pub unread :
     (plain : Form) (outermost : Bool) (r : Result Layer CoseError) {s : List ℕ} {v u m : Item} {f g : Form} {e : CoseError} → IsOnlyItem s v
     → u ≡ layer_item outermost v → (f, m) ≡ message_in plain u → f ≡ g → UnlessMemory e (FaultsAs (g, m)) → IsErrAnd r (λ x. x ≡ e)
@@ -75,7 +75,7 @@ unread plain outermost r {s = s} {v = v} {m = m} {e = e} only layered is form h 
           (subst (λ w. DescribesAs (message_in plain (layer_item outermost w)) l) (only.1 d.0 d.1) d.2) (fault n)),
     )
 
--- what the tests of a layer's headers say
+-- The results of testing a layer's headers.
 pub allowed_is : (p : PolicyView) (l : LayerView) (form : Form) (h : HeaderView) (b : Bool) → form ≡ form_of l → h ≡ (protected_of l).header
     → allows p form h ≡ b → is_allowed p l ≡ b
 allowed_is p l form h b f e a = subst (λ x. allows p x (protected_of l).header ≡ b) f (subst (λ x. allows p form x ≡ b) e a)
@@ -84,7 +84,7 @@ pub clear_is : (p : PolicyView) (l : LayerView) (g u : HeaderView) (b : Bool) �
     → is_clear p l ≡ b
 clear_is p l g u b d i a = subst (λ x. understands p (protected_of l).header x ≡ b) i (subst (λ x. understands p x u ≡ b) d a)
 
--- the tests of a layer's headers say that the policy admits it
+-- If the tests of a layer's headers pass, the policy admits the layer.
 pub admitted :
     (p : PolicyView) (l : LayerView) (form : Form) (h g u : HeaderView) → form ≡ form_of l → h ≡ (protected_of l).header → g ≡ (protected_of l).header
     → u ≡ unprotected_of l → allows p form h ≡ true → understands p g u ≡ true
@@ -95,7 +95,7 @@ admitted p l form h g u f e d i a b = (
 )
 
 module _ {E : Type 0} (k : KeysView E) (p : PolicyView) where
-  -- why a layer that the policy admits isn't opened
+  -- The reason why a layer that the policy admits isn't opened.
   pub unopened : HaveStructures → (outermost : Bool) (q : List ℕ) (l : LayerView) (e : GateError E) → Describes (layer p.plain outermost) q l → IsAdmitted p l
       → Opens k l (Err e) → RefusesLayer k p outermost q (Gate e)
   unopened laws outermost q l (gate.Token e) d a h =
@@ -107,9 +107,9 @@ module _ {E : Type 0} (k : KeysView E) (p : PolicyView) where
   unopened laws outermost q l gate.Expired d a h = absurd h
   unopened laws outermost q l gate.NotYetValid d a h = absurd h
 
--- ---- layer in layer
+-- ---- nested layers
 
--- n layers of the token b are opened, and this is in the last
+-- `n` layers of the token `b` are opened, and `o` is the content of the last one.
 pub record AreOpened {E : Type 0} (k : KeysView E) (p : PolicyView) (b : List ℕ) (o : Opened) (n : ℕ) : Type 0 where
   pub last : LayerView
   pub around : List LayerView
@@ -155,6 +155,6 @@ module _ {E : Type 0} (k : KeysView E) (p : PolicyView) (b : List ℕ) where
   pub all_opened : (o : Opened) (n : ℕ) → AreOpened k p b o n → begins_layer o.content.items ≡ false → OpensAll k p b (Ok o)
   all_opened o n a none = (a.last ∷ a.around, o.content.items, a.inside, none, (omega (arith, a.few, a.count), a.authentic, refl))
 
-  -- what holds of what is in all layers of a token, where one of them authenticates
+  -- If `R` holds for the content of all layers, and one of the layers authenticates, `Arrives` holds.
   pub arrived : (o : Opened) (R : List ℕ → Type 0) → OpensAll k p b (Ok o) → o.authentic ≡ true → R o.content.items → Arrives k p b R
   arrived o R h a r = (h.0, h.1, h.2, h.3, (h.4.0, h.4.1 ∙ a, subst R (sym h.4.2) r))

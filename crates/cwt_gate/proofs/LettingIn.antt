@@ -1,4 +1,4 @@
--- Claims by what becomes of those whose numbers IANA hasn't assigned.
+-- Claims, by the treatment of those whose numbers IANA hasn't assigned.
 use Rattle.std.specs.Prelude.{IfErr}
 use Rattle.std.proofs.Common.{◌≡◌, ℕ, List, Result, Ok, Err, sym, subst}
 use Rattle.coset.specs.Answers.{DescribesNothing, IsRefused, RefusesSlice}

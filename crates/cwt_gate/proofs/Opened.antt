@@ -1,4 +1,4 @@
--- What a header holds, as the code sees it and as contracts do.
+-- The parts of a header, in the code and in its view.
 use Rattle.std.proofs.Common.{◌≡◌, ◌∙◌, ◌==◌, ℕ, List, [], ◌∷◌, ◌||◌, ◌&&◌, Bool, true, false, true≢false, sym, Option, Some, None, length}
 use Rattle.std.proofs.Common.{map, refl, arith, ap, option_map, is_some}
 use Rattle.std.specs.List.{list_any, list_all}
@@ -14,7 +14,7 @@ use Rattle.cwt_gate.specs.Keys.{first_nonempty}
 pub opened : (h : Header) → fields_in (header_view h) ≡ fields_view h
 opened h = ap fields_in (header-opened h)
 
--- the header of a protected header
+-- The view of a protected header contains the view of its header.
 pub protected_opened : (p : ProtectedHeader) → (protected_view p).header ≡ header_view (out-ProtectedHeader p).header
 protected_opened p = ap (λ (q : ProtectedView). q.header) (protected-opened p)
 
@@ -37,7 +37,7 @@ none-of f (x ∷ xs) = grind (arith, nat_tests)
 is-nonempty : {A : Type 0} (x : A) (xs : List A) → (length (x ∷ xs) == 0) ≡ false
 is-nonempty x xs = grind (arith, nat_tests)
 
--- the first of two lists, unless it is empty
+-- The second of two lists, if the first is empty.
 pub first-empty : (xs ys : List ℕ) → (length xs == 0) ≡ true → first_nonempty xs ys ≡ ys
 first-empty [] ys e = refl
 first-empty (x ∷ xs) ys e = absurd (true≢false (sym e ∙ is-nonempty x xs))

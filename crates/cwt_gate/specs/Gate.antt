@@ -1,4 +1,4 @@
--- What the gate returns.
+-- The results of judging a token by its signature and its times.
 use Rattle.std.specs.Prelude.{◌≡◌, ℕ, ℤ, List, [], true, false, Some, None, Result, Ok, Err}
 use Rattle.std.specs.Borrow.{Bor}
 use Rattle.std.specs.Fn.{Once, FnOnceReturnsAtPair}
@@ -16,36 +16,36 @@ use Rattle.cwt_gate.specs.Token.{token}
 use Rattle.cwt_gate.specs.declared.error.GateError.{GateError}
 use Rattle.cwt_gate.specs.declared.error.GateError.TheVariants.{Token, NoPayload, Caller, Claims, FractionalTime, Expired, NotYetValid}
 
--- what closures are that judge a signature and what it is over
+-- Closures that verify a signature over some bytes.
 abbrev pub Verifies : Type 0 → Type 0 → Type 1
 Verifies F E = Once F (Bor (List ℕ) × (Bor (List ℕ) × Unit {0})) (Result (Unit {0}) E)
 
--- a signature that can't be verified: the closure's own error, or one of ours, which comes before it is asked
+-- The reason for an error in verifying a signature: the closure's own error, or one from before the closure was called.
 abbrev pub refusal_of : {E : Type 0} → CallError E → GateError E
 refusal_of (calls.Coset e) = Token e
 refusal_of (calls.Caller e) = Caller e
 
--- the message m carries the payload p; and asked about its signature and what that is over, where `external_aad` is empty
--- (RFC 8152, section 4.4), f gives this answer
+-- The message `m` has the payload `p`. Called with its signature and the signed bytes, for an empty `external_aad`, `f`
+-- returns `answer` (RFC 8152, section 4.4).
 pub record Says {F E : Type 0} (g : Verifies F E) (f : F) (m : Sign1View) (p : List ℕ) (answer : Result (Unit {0}) E) : Type 0 where
   pub carried : m.payload ≡ Some p
   pub tbs : List ℕ
   pub is_tbs : IsStructure (sign1_carried m []) tbs
   pub said : FnOnceReturnsAtPair g f m.signature tbs answer
 
--- f accepts the message, and its payload describes these claims
+-- `f` accepts the message, and its payload describes these claims.
 abbrev pub Accepts : {F E : Type 0} → Verifies F E → F → Sign1View → ClaimsView → Type 0
 Accepts g f m c = (p : List ℕ) × Says g f m p (Ok tt) × Describes claims p c
 
--- f refuses the message
+-- `f` refuses the message.
 abbrev pub Refuses : {F E : Type 0} → Verifies F E → F → Sign1View → E → Type 0
 Refuses g f m e = (p : List ℕ) × Says g f m p (Err e)
 
--- f accepts the message, and its payload is refused
+-- `f` accepts the message, and its payload is refused.
 abbrev pub CarriesNoClaims : {F E : Type 0} → Verifies F E → F → Sign1View → CoseError → Type 0
 CarriesNoClaims g f m e = (p : List ℕ) × Says g f m p (Ok tt) × IsRefused claims p e
 
--- what is returned of a message: its claims, where f accepts it; or why there are none
+-- The result for a message: its claims if `f` accepts it, or the reason why there are none.
 abbrev pub GivesClaims : {F E : Type 0} → Verifies F E → F → Sign1View → Result ClaimsSet (GateError E) → Type 0
 GivesClaims g f m (Ok x) = Accepts g f m (claims_view x)
 GivesClaims g f m (Err (Token e)) = HasNoImage (sign1_carried m []) e
@@ -54,12 +54,12 @@ GivesClaims g f m (Err (Caller e)) = Refuses g f m e
 GivesClaims g f m (Err (Claims e)) = CarriesNoClaims g f m e
 GivesClaims g f m (Err e) = ⊥
 
--- the token b is a message of which P holds
+-- The token `b` is a message for which `P` holds.
 abbrev pub IsToken : List ℕ → (Sign1View → Type 0) → Type 0
 IsToken b P = (m : Sign1View) × Describes token b m × P m
 
--- What is returned of the token b at a moment: the claims that f accepts and that are valid then; or the first reason
--- that is against it
+-- The result of judging the token `b` at `now`. On success, `f` accepts the message, and the result is its claims,
+-- which are valid then. Otherwise the error is the first reason against the token.
 abbrev pub Judges : {F E : Type 0} → Verifies F E → F → ℤ → List ℕ → Result ClaimsSet (GateError E) → Type 0
 Judges g f now b (Ok x) =
     let c = claims_view x in

@@ -1,4 +1,4 @@
--- What keys are handed of a layer, and what they say of it.
+-- The parts of a layer that keys receive, and the results of the keys.
 use Rattle.std.specs.Prelude.{◌≡◌, ℕ, List, [], ◌∷◌, Result, Ok, Err, Some, None, Vec}
 use Rattle.std.specs.Global.{Global}
 use Rattle.coset.specs.Calls.{IsStructure}
@@ -11,8 +11,8 @@ use Rattle.cwt_gate.specs.declared.error.GateError.TheVariants.{Token, NoPayload
 use Rattle.cwt_gate.specs.declared.form.Form.{Form}
 use Rattle.cwt_gate.specs.declared.keys.Sealed.{Sealed}
 
--- what keys are handed: both headers, of which the protected one has the bytes that it was received as; the signature, the
--- MAC or the ciphertext; and the structure that goes with it
+-- The view of the parts that keys receive: both headers, the signature, MAC or ciphertext, and its structure. The
+-- protected header has the bytes as they were received.
 pub record SealView : Type 0 where
   pub protected : ProtectedView
   pub unprotected : HeaderView
@@ -27,56 +27,57 @@ seal_view s = record {
   structure = s.structure.now;
 }
 
--- these bytes, unless they are none, and then the others
+-- The first list, or the second one if the first is empty.
 abbrev pub first_nonempty : List ℕ → List ℕ → List ℕ
 first_nonempty [] others = others
 first_nonempty (b ∷ bs) others = b ∷ bs
 
--- the identifier of the key: in the protected header, or else in the other (RFC 8152, section 3.1, "kid")
+-- The key identifier of the protected header, or if that is empty, of the unprotected one (RFC 8152, section 3.1,
+-- "kid").
 abbrev pub key_id_of : SealView → List ℕ
 key_id_of s = first_nonempty (fields_in s.protected.header).key_id (fields_in s.unprotected).key_id
 
--- What keys answer: which signatures and which MACs they accept, which plaintexts they make, and which errors they return for
--- a layer of which form
+-- The view of keys: the signatures and MACs that they may accept, the plaintexts that they may return, and the errors
+-- that they may return for layers of each form.
 pub record KeysView (E : Type 0) : Type 1 where
   pub verifies : SealView → Type 0
   pub verifies_tag : SealView → Type 0
   pub decrypts : SealView → List ℕ → Type 0
   pub refuses : Form → SealView → E → Type 0
 
--- keys that accept nothing, and may return any error
+-- Keys that accept nothing, and may return any error.
 abbrev pub accept_nothing : {E : Type 0} → KeysView E
 accept_nothing = record { verifies = λ s. ⊥; verifies_tag = λ s. ⊥; decrypts = λ s p. ⊥; refuses = λ form s e. Unit {0} }
 
--- keys of which nothing is known
+-- Keys of which nothing is known.
 abbrev pub accept_anything : {E : Type 0} → KeysView E
 accept_anything = record { verifies = λ s. Unit {0}; verifies_tag = λ s. Unit {0}; decrypts = λ s p. Unit {0}; refuses = λ form s e. Unit {0} }
 
--- what is handed of the layer l, where it carries c and its structure has the bytes t
+-- The parts that keys receive of the layer `l`, if it carries `c` and its structure has the bytes `t`.
 abbrev pub seal_of : LayerView → List ℕ → List ℕ → SealView
 seal_of (signed m) c t = record { protected = m.protected; unprotected = m.unprotected; proof = m.signature; structure = t }
 seal_of (maced m) c t = record { protected = m.protected; unprotected = m.unprotected; proof = m.tag; structure = t }
 seal_of (encrypted m) c t = record { protected = m.protected; unprotected = m.unprotected; proof = c; structure = t }
 
--- the layer carries c; and of it and of what the keys are handed R holds
+-- The layer carries some content `c`, and `R` holds for `c` and for the parts that keys receive.
 abbrev pub Hands : LayerView → (List ℕ → SealView → Type 0) → Type 0
 Hands l R = (c t : List ℕ) × (carried l ≡ Some c) × IsStructure (structure_of l c) t × R c (seal_of l c t)
 
--- the keys accept what they are handed of a layer which carries c, and p is in it: c itself, or the plaintext that they make
+-- The keys accept the parts `s` of a layer that carries `c`. Its content `p` is `c` itself, or the decrypted plaintext.
 abbrev pub Accept : {E : Type 0} → KeysView E → LayerView → List ℕ → List ℕ → SealView → Type 0
 Accept k (signed m) p c s = k.verifies s × (p ≡ c)
 Accept k (maced m) p c s = k.verifies_tag s × (p ≡ c)
 Accept k (encrypted m) p c s = k.decrypts s p
 
--- p is in the layer l, which the keys accept
+-- The keys accept the layer `l`, and `p` is its content.
 abbrev pub Holds : {E : Type 0} → KeysView E → LayerView → List ℕ → Type 0
 Holds k l p = Hands l (λ c s. Accept k l p c s)
 
--- this is an error that the keys return for the layer l, of its form
+-- The keys may return the error `e` for the layer `l`, by its form.
 abbrev pub Refuses : {E : Type 0} → KeysView E → LayerView → E → Type 0
 Refuses k l e = Hands l (λ c s. k.refuses (form_of l) s e)
 
--- what is returned of a layer: what is in it, where the keys accept it; or why it isn't opened
+-- The result of opening a layer: its content if the keys accept it, or the reason why it isn't opened.
 abbrev pub Opens : {E : Type 0} → KeysView E → LayerView → Result (Vec ℕ Global) (GateError E) → Type 0
 Opens k l (Ok p) = Holds k l p.items
 Opens k l (Err (Token e)) = (c : List ℕ) × (carried l ≡ Some c) × HasNoImage (structure_of l c) e

@@ -13,7 +13,7 @@ use Rattle.cwt_gate.specs.declared.layer.Layer.TheVariants as layers
 use Rattle.cwt_gate.specs.declared.form.Form.{Form}
 use Rattle.cwt_gate.specs.declared.form.Form.TheVariants.{Sign1, Mac0, Encrypt0}
 
--- a layer without its memory
+-- The view of a layer.
 pub data LayerView : Type 0 where
   signed : Sign1View → LayerView
   maced : Mac0View → LayerView
@@ -39,27 +39,27 @@ unprotected_of (signed m) = m.unprotected
 unprotected_of (maced m) = m.unprotected
 unprotected_of (encrypted m) = m.unprotected
 
--- the payload of a message with a signature or a MAC, and the ciphertext of an encrypted one
+-- The payload of a message with a signature or a MAC, or the ciphertext of an encrypted one.
 abbrev pub carried : LayerView → Option (List ℕ)
 carried (signed m) = m.payload
 carried (maced m) = m.payload
 carried (encrypted m) = m.ciphertext
 
--- the structure that its signature, MAC or ciphertext goes with, where it carries c and `external_aad` is empty (RFC 8152,
--- sections 4.4, 6.3 and 5.3)
+-- The structure for the layer's signature, MAC or ciphertext, if it carries `c` and `external_aad` is empty (RFC 8152,
+-- sections 4.4, 6.3 and 5.3).
 abbrev pub structure_of : LayerView → List ℕ → Option Item
 structure_of (signed m) c = sign1_structure m [] c
 structure_of (maced m) c = mac0_structure m [] c
 structure_of (encrypted m) c = encrypt0_structure m []
 
--- ---- which items are layers
+-- ---- shapes
 
--- the form that a tag of this number names (RFC 8152, section 2)
+-- The form that the tag `number` names (RFC 8152, section 2).
 abbrev pub named_form : ℕ → Option Form
 named_form number = if number == 18 then Some Sign1 else (if number == 17 then Some Mac0 else (if number == 16 then Some Encrypt0 else None))
 
--- Of which form the item v is, and the item of its message: what is under the tag of a form is of that form, and any other
--- item is of the form that the application knows it to have (RFC 8392, section 7.2, step 4)
+-- The form of the item `v`, and the item of its message. An item under the tag of a form has that form. Any other item
+-- has the form that the application expects (RFC 8392, section 7.2, step 3).
 abbrev pub by_name : Form → Item → Item → Option Form → Form × Item
 by_name plain v inner None = (plain, v)
 by_name plain v inner (Some form) = (form, inner)
@@ -71,36 +71,36 @@ by_tag plain v (Some t) = by_name plain v t.1 (named_form t.0)
 abbrev pub message_in : Form → Item → Form × Item
 message_in plain v = by_tag plain v (as_tag v)
 
--- the item is under the tag of a form
+-- Returns true if there is a tag, and it names a form.
 abbrev pub names_form : Option (ℕ × Item) → Bool
 names_form None = false
 names_form (Some t) = is_some (named_form t.0)
 
--- what the tag of web tokens encloses, where that is under the tag of a form (RFC 8392, section 6); any other item is itself
+-- Removes the tag of web tokens if the tag of a form follows (RFC 8392, section 6). Any other item stays as it is.
 abbrev pub in_cwt_tag : Item → Option (ℕ × Item) → Item
 in_cwt_tag v None = v
 in_cwt_tag v (Some t) = if t.0 == 61 then (if names_form (as_tag t.1) then t.1 else v) else v
 
--- the item of a layer: the outermost may be under the tag of web tokens
+-- The item of a layer. Only the outermost layer may be under the tag of web tokens.
 abbrev pub layer_item : Bool → Item → Item
 layer_item true v = in_cwt_tag v (as_tag v)
 layer_item false v = v
 
--- the item is the message of a layer of that form
+-- The item is the message of a layer of this form.
 abbrev pub DescribesAs : Form × Item → LayerView → Type 0
 DescribesAs (Sign1, v) (signed m) = sign1.describes v m
 DescribesAs (Mac0, v) (maced m) = mac0.describes v m
 DescribesAs (Encrypt0, v) (encrypted m) = encrypt0.describes v m
 DescribesAs x l = ⊥
 
--- what is wrong with the item of a message of that form
+-- The faults of the item of a message of this form.
 abbrev pub FaultsAs : Form × Item → CoseError → Type 0
 FaultsAs (Sign1, v) e = sign1.faults v e
 FaultsAs (Mac0, v) e = mac0.faults v e
 FaultsAs (Encrypt0, v) e = encrypt0.faults v e
 
--- COSE_Sign1 / COSE_Mac0 / COSE_Encrypt0, plain or under its own tag, and the outermost also under tag 61 on that. It isn't
--- written
+-- COSE_Sign1 / COSE_Mac0 / COSE_Encrypt0, plain or under its own tag. The outermost layer may also be under tag 61 on
+-- top of its own tag. This shape is never written.
 abbrev pub layer : Form → Bool → Shape LayerView
 layer plain outermost = record {
   describes = λ v l. DescribesAs (message_in plain (layer_item outermost v)) l;
@@ -108,7 +108,7 @@ layer plain outermost = record {
   faults = λ v e. FaultsAs (message_in plain (layer_item outermost v)) e;
 }
 
--- the bytes begin as an array or a tag does, whose major types are 4 and 6 (RFC 8949, section 3.1)
+-- Returns true if the bytes begin like an array or a tag, whose major types are 4 and 6 (RFC 8949, section 3.1).
 abbrev pub begins_layer : List ℕ → Bool
 begins_layer [] = false
 begins_layer (b ∷ bs) = b / 32 == 4 || b / 32 == 6

@@ -1,4 +1,4 @@
--- What a verifier asks of a token beside its signature and its times.
+-- A verifier's requirements for a token, in addition to its signature and its times.
 use Rattle.std.specs.Prelude.{◌≡◌, ◌==◌, ◌&&◌, ◌||◌, not, ℕ, ℤ, pos, List, [], ◌∷◌, length, map, option_map, Option, Some, None, Bool, true}
 use Rattle.std.specs.Prelude.{false, is_some, is_none}
 use Rattle.std.specs.Prelude.{Result, Ok, Err}
@@ -25,7 +25,7 @@ use Rattle.cwt_gate.specs.declared.policy.Policy.{Policy}
 use Rattle.cwt_gate.specs.declared.policy.Unassigned.{Unassigned}
 use Rattle.cwt_gate.specs.declared.policy.Unassigned.TheVariants.{Refused, LeftOut}
 
--- a policy without its memory
+-- The view of a policy.
 pub record PolicyView : Type 0 where
   pub signatures : List RegisteredName
   pub macs : List RegisteredName
@@ -58,7 +58,7 @@ policy_view p = record {
   audience = option_map (λ s. s.now) p.audience;
 }
 
--- the policy that allows nothing, and asks that tokens expire
+-- The policy that allows no algorithm, and requires an expiration time.
 abbrev pub strict : PolicyView
 strict = record {
   signatures = [];
@@ -76,28 +76,28 @@ strict = record {
   audience = None;
 }
 
--- there is something, and it passes the test
+-- Returns true if there is a value, and it passes the test.
 abbrev pub is_there_and : {A : Type 0} → (A → Bool) → Option A → Bool
 is_there_and test None = false
 is_there_and test (Some x) = test x
 
--- the label is one of these
+-- Returns true if the label is one of these.
 abbrev pub is_one_of : List RegisteredName → RegisteredName → Bool
 is_one_of labels l = list_any (λ m. claims.same_name m l) labels
 
--- the algorithms that the policy has for layers of this form
+-- The algorithms that the policy allows for layers of this form.
 abbrev pub algorithms_for : PolicyView → Form → List RegisteredName
 algorithms_for p Sign1 = p.signatures
 algorithms_for p Mac0 = p.macs
 algorithms_for p Encrypt0 = p.ciphers
 
--- the header of a layer of this form names an algorithm, which is one of the policy's
+-- Returns true if the header names an algorithm that the policy allows for layers of this form.
 abbrev pub allows : PolicyView → Form → HeaderView → Bool
 allows p form h = is_there_and (is_one_of (algorithms_for p form)) (fields_in h).alg
 
 -- ---- labels that must be understood (RFC 8152, section 3.1, "crit")
 
--- the parameters that are fields of a header, by their numbers, and whether they are there
+-- The numbers of the parameters that are fields of a header, each with true if it is set.
 abbrev pub parameters : HeaderView → List (ℤ × Bool)
 parameters (header_of f ss ts) =
     (pos 1, is_some f.alg)
@@ -107,28 +107,28 @@ parameters (header_of f ss ts) =
     ∷ (pos 5, not (length f.iv == 0))
     ∷ (pos 6, not (length f.partial_iv == 0)) ∷ (pos 7, not (are_none ss)) ∷ (pos 11, not (are_none ts)) ∷ (pos 12, is_some f.countersignature0_v2) ∷ []
 
--- the number that a label is, unless it is a text
+-- The number of a label, or `None` if it is a text.
 abbrev pub number_in : Name → Option ℤ
 number_in (number i) = Some i
 number_in (text_label s) = None
 
--- one of them has this label
+-- Returns true if the label is that of a field of the header, and the field is set.
 abbrev pub is_parameter : HeaderView → Name → Bool
 is_parameter h l = is_there_and (λ i. list_any (λ p. p.1 && int_eq p.0 i) (parameters h)) (number_in l)
 
--- the header has this label
+-- Returns true if the header has this label.
 abbrev pub has_label : HeaderView → Name → Bool
 has_label h l = is_parameter h l || list_any (λ e. same_name e.0 l) (fields_in h).rest
 
--- the policy names the label, and the header has it
+-- Returns true if the policy has the label and the header contains it.
 abbrev pub is_understood : PolicyView → HeaderView → RegisteredName → Bool
 is_understood p h l = is_one_of p.critical l && has_label h (as_name l)
 
--- each label that must be understood is; and they are in the protected header, h, alone
+-- Returns true if each critical label of the protected header `h` is understood, and the unprotected header lists none.
 abbrev pub understands : PolicyView → HeaderView → HeaderView → Bool
 understands p h unprotected = list_all (is_understood p h) (fields_in h).crit && length (fields_in unprotected).crit == 0
 
--- ---- which layers authenticate who sent the token
+-- ---- layers that authenticate the sender
 
 abbrev pub authenticates : Authentication → Form → Bool
 authenticates Signature Sign1 = true
@@ -141,19 +141,19 @@ authenticates AnyLayer form = true
 
 -- ---- claims
 
--- no name is wanted, or the claims have the same
+-- Returns true if no name is wanted, or if the claims have the wanted name.
 abbrev pub is_meant : Option (List ℕ) → Option (List ℕ) → Bool
 is_meant None named = true
 is_meant (Some a) None = false
 is_meant (Some a) (Some b) = pointwise ◌==◌ a b
 
--- claims whose numbers IANA hasn't assigned: none may be there, or they are left out, and handed back by label
--- (RFC 8392, section 3)
+-- The shape of claims by the treatment of those whose numbers are neither assigned nor for private use. They are
+-- refused, or left out and returned by label (RFC 8392, section 3).
 abbrev pub claims_by : Unassigned → Shape (ClaimsView × Others)
 claims_by Refused = record { describes = λ v x. claims.claims.describes v x.0 × (x.1 ≡ []); image = λ x. None; faults = claims.claims.faults }
 claims_by LeftOut = known
 
--- the reasons against claims at a moment, in order, and whether each is true
+-- The reasons against claims at `now`, in order, each with true if it applies.
 abbrev pub reasons : {E : Type 0} → PolicyView → ℤ → ClaimsView → List (Bool × PolicyError E)
 reasons p now c =
     (p.expires && is_none c.expiration_time, NoExpiration)
@@ -165,13 +165,13 @@ reasons p now c =
     ∷ (not (is_meant p.audience c.audience), Audience)
     ∷ []
 
--- the first that is true, where one is
+-- The first element that is paired with true, or `None`.
 abbrev pub first_true : {A : Type 0} → List (Bool × A) → Option A
 first_true [] = None
 first_true ((true, x) ∷ xs) = Some x
 first_true ((false, x) ∷ xs) = first_true xs
 
--- there is none; or the error is the first
+-- The result is success if no reason applies, and otherwise the first reason.
 abbrev pub IsFirst : {E : Type 0} → List (Bool × E) → Result (Unit {0}) E → Type 0
 IsFirst xs (Ok x) = first_true xs ≡ None
 IsFirst xs (Err e) = first_true xs ≡ Some e

@@ -1,4 +1,4 @@
--- What the reasons say.
+-- The texts of the reasons.
 use Rattle.std.specs.Prelude.{ℕ, List, codes, Option, Some}
 use Rattle.std.specs.Fmt.{◌++?◌}
 use Rattle.coset.specs.Errors.{error_text}
@@ -8,7 +8,7 @@ use Rattle.cwt_gate.specs.declared.error.PolicyError.{PolicyError}
 use Rattle.cwt_gate.specs.declared.error.PolicyError.TheVariants.{Gate, Algorithm, Critical, TooDeep, Unauthenticated, NoExpiration}
 use Rattle.cwt_gate.specs.declared.error.PolicyError.TheVariants.{IssuedLater, TooOld, Issuer, Audience}
 
--- the text of a reason; of the caller's own error it is that error's text, as `text` has it
+-- The text of a reason. For the caller's own error, `text` gives it.
 abbrev pub gate_error_text : {E : Type 0} → (E → Option (List ℕ)) → GateError E → Option (List ℕ)
 gate_error_text text (Token e) = Some (codes "not a token: ") ++? error_text e
 gate_error_text text NoPayload = Some (codes "no payload")
@@ -18,7 +18,7 @@ gate_error_text text FractionalTime = Some (codes "a time is no whole number of 
 gate_error_text text Expired = Some (codes "expired")
 gate_error_text text NotYetValid = Some (codes "not yet valid")
 
--- the same with a policy
+-- The text of a reason of `judge_with`.
 abbrev pub policy_error_text : {E : Type 0} → (E → Option (List ℕ)) → PolicyError E → Option (List ℕ)
 policy_error_text text (Gate e) = gate_error_text text e
 policy_error_text text Algorithm = Some (codes "algorithm not allowed")

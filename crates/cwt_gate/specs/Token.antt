@@ -6,26 +6,26 @@ use Rattle.coset.specs.Shape.{Shape}
 use Rattle.coset.specs.Sign1.{Sign1View, sign1, sign1_laws, sign1_view}
 use Rattle.cwt_gate.specs.declared.token.Token as declared
 
--- the item is under the tag of this number
+-- Returns true if the item is under the tag `number`.
 abbrev pub is_under : ℕ → Item → Bool
 is_under number (tag t v) = t == number
 is_under number v = false
 
--- what a tag encloses; any other item is itself
+-- The content of a tag, or any other item itself.
 abbrev pub untagged : Item → Item
 untagged (tag t v) = v
 untagged v = v
 
--- the item is under the tag of web tokens, and then under that of messages with one signature
+-- Returns true if the item is under the tag of web tokens, and then under that of messages with one signature.
 abbrev pub is_wrapped : Item → Bool
 is_wrapped v = is_under 61 v && is_under 18 (untagged v)
 
--- The item of the message in a token: under both tags, under the tag of messages with one signature alone, or the item
--- itself, whatever other tag it is under
+-- The item of the message in a token. It is under both tags, or under the tag of messages with one signature alone. Any
+-- other item is itself the message, even under another tag.
 abbrev pub message_in : Item → Item
 message_in v = if is_under 18 v then untagged v else (if is_wrapped v then untagged (untagged v) else v)
 
--- COSE_Sign1 / #6.18(COSE_Sign1) / #6.61(#6.18(COSE_Sign1)), written without a tag
+-- COSE_Sign1 / #6.18(COSE_Sign1) / #6.61(#6.18(COSE_Sign1)). Writing adds no tag.
 abbrev pub token : Shape Sign1View
 token = record {
   describes = λ v m. sign1.describes (message_in v) m;

@@ -1,4 +1,5 @@
-//! The claims in the innermost layer of a token, and what the policy asks of them (RFC 8392, section 3).
+//! The claims in the innermost layer of a token, and the policy's requirements for them (RFC 8392,
+//! section 3).
 
 ghost use Rattle.std.specs.Prelude.{◌≡◌};
 ghost use Rattle.coset.specs.Answers.{ReadsSlice, RefusesSlice};
@@ -13,10 +14,12 @@ use coset::cwt::{ClaimsSet, KnownClaims};
 use coset::{CborSerializable, Result};
 use std::alloc::Global;
 
-/// Reads claims. What becomes of those whose numbers IANA hasn't assigned is as the policy says.
+/// Reads claims. Treats those whose numbers are neither assigned nor for private use as
+/// `unassigned` says.
 ///
 /// # Errors
-/// `OutOfMemory`; or why the bytes are no claims.
+/// - `OutOfMemory` if an allocation fails.
+/// - A fault in the bytes, if they are not claims.
 pub(crate) fn read_claims(
     alloc: Global,
     unassigned: Unassigned,
@@ -34,10 +37,10 @@ pub(crate) fn read_claims(
     }
 }
 
-/// Lets claims in that are valid at `now`, and that are as the policy asks.
+/// Accepts claims that are valid at `now` and meet the policy.
 ///
 /// # Errors
-/// The first reason against them.
+/// The first reason against the claims.
 pub(crate) fn let_in<E: Drop>(
     policy: &Policy<'_>,
     now: i64,

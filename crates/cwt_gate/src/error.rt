@@ -1,4 +1,4 @@
-//! Why a token is not let in.
+//! The reasons why a token is refused.
 
 ghost use Rattle.std.specs.Prelude.{◌≡◌};
 ghost use Rattle.cwt_gate.specs.Gate.{refusal_of};
@@ -9,27 +9,28 @@ use coset::{CallError, CoseError};
 use std::error::Error;
 use std::fmt;
 
-/// Why a token is not let in. Of several reasons it is the first in this order.
+/// The reason why a token is refused. If several reasons apply, it is the first in this order.
 #[derive(Debug, Drop)]
 pub enum GateError<E> {
-    /// The bytes are no message with one signature, plain, under its tag, or under the tag of web tokens and then its own;
-    /// or memory ran out before the closure was called.
+    /// The bytes aren't a message with one signature, or an allocation failed before the closure
+    /// was called. The message may be plain, under its tag, or under the tag of web tokens and then
+    /// its own.
     Token(CoseError),
-    /// The message carries no payload.
+    /// The message has no payload.
     NoPayload,
     /// The closure refused the signature.
     Caller(E),
-    /// The payload isn't a claims set; or memory ran out after the closure was called.
+    /// The payload isn't a claims set, or an allocation failed after the closure was called.
     Claims(CoseError),
-    /// When the token expires, or from when on it is valid, is no whole number of seconds.
+    /// The expiration time or the not-before time is a float instead of an integer.
     FractionalTime,
-    /// The token has expired: this is the moment that it names, or a later one (RFC 8392, section 3.1.4).
+    /// The token has expired: `now` is at or after its expiration time (RFC 8392, section 3.1.4).
     Expired,
-    /// The token isn't valid yet: this is a moment before the one that it names (RFC 8392, section 3.1.5).
+    /// The token isn't valid yet: `now` is before its not-before time (RFC 8392, section 3.1.5).
     NotYetValid,
 }
 
-/// The reason in words. Of the closure's own error it is that error's text.
+/// Writes the reason in words. For the closure's own error, it writes the text of that error.
 impl<E: fmt::Display> fmt::Display for GateError<E> {
     ghost output = { gate_error_text E.output };
 
@@ -48,7 +49,8 @@ impl<E: fmt::Display> fmt::Display for GateError<E> {
 
 impl<E: Error> Error for GateError<E> {}
 
-/// A signature that can't be verified: by the closure, or for what comes before it is asked.
+/// Converts an error in verifying a signature. An error of the closure is `Caller`, and an earlier
+/// one is `Token`.
 impl<E: Drop> From<CallError<E>> for GateError<E> {
     ghost from_gives = { λ error refusal. refusal ≡ refusal_of error };
 
@@ -60,36 +62,44 @@ impl<E: Drop> From<CallError<E>> for GateError<E> {
     }
 }
 
-/// Why a token is not let in by [`judge_with`](crate::judge_with). Of several reasons it is the first of these: of each layer,
-/// from the outermost in, `Token`, `Algorithm`, `Critical`, `NoPayload`, `Caller`; then `TooDeep`, `Unauthenticated`, `Claims`,
-/// `NoExpiration`, `Expired`, `NotYetValid`, `IssuedLater`, `TooOld`, `Issuer` and `Audience`.
+/// The reason why [`judge_with`](crate::judge_with) refuses a token. If several reasons apply, it
+/// is the first in this order.
+///
+/// For each layer, from the outermost in: `Token`, `Algorithm`, `Critical`, `NoPayload`, `Caller`.
+/// Then `TooDeep`, `Unauthenticated`, `Claims`, `NoExpiration`, `Expired`, `NotYetValid`,
+/// `IssuedLater`, `TooOld`, `Issuer` and `Audience`.
 #[derive(Debug, Drop)]
 pub enum PolicyError<E> {
-    /// A reason that [`judge`](crate::judge) has too: `Token`, `NoPayload` and `Caller` of a layer, the others of the claims; never
-    /// `FractionalTime`, since fractions are compared as they are.
+    /// A reason that [`judge`](crate::judge) has too. `Token`, `NoPayload` and `Caller` are about a
+    /// layer, and the others are about the claims. Never `FractionalTime`, because fractions are
+    /// compared as they are.
     Gate(GateError<E>),
-    /// The protected header of a layer names no algorithm, or one that the policy doesn't have for its form.
+    /// The protected header of a layer has no algorithm, or none that the policy allows for its
+    /// form.
     Algorithm,
-    /// A label that must be understood isn't one of the policy's, or isn't in the protected header; or the unprotected
-    /// header names such labels (RFC 8152, section 3.1).
+    /// A critical label isn't in the policy, or isn't in the protected header; or the unprotected
+    /// header lists critical labels (RFC 8152, section 3.1).
     Critical,
-    /// More than four layers are within one another.
+    /// The token has more than four nested layers.
     TooDeep,
-    /// No layer is of a form that authenticates, as the policy asks.
+    /// No layer has a form that authenticates the token under the policy.
     Unauthenticated,
-    /// The policy asks that tokens expire, and this one doesn't (RFC 8392, section 3.1.4).
+    /// The policy requires an expiration time, and the token has none (RFC 8392, section 3.1.4).
     NoExpiration,
-    /// The policy asks that tokens were issued before now, and this one is issued later (RFC 8392, section 3.1.6).
+    /// The policy refuses tokens that are issued later than now, and this one is (RFC 8392, section
+    /// 3.1.6).
     IssuedLater,
-    /// The policy has a greatest age, and the token has reached it, or doesn't say when it was issued (RFC 8392, section 3.1.6).
+    /// The policy has a greatest age, and the token has reached it or has no time of issue (RFC
+    /// 8392, section 3.1.6).
     TooOld,
-    /// The token is of another issuer, or of none, where the policy has one (RFC 8392, section 3.1.1).
+    /// The policy names an issuer, and the token has another one or none (RFC 8392, section 3.1.1).
     Issuer,
-    /// The token is for another audience, or for none, where the policy has one (RFC 8392, section 3.1.3).
+    /// The policy names an audience, and the token has another one or none (RFC 8392, section
+    /// 3.1.3).
     Audience,
 }
 
-/// The reason in words, as that of [`GateError`].
+/// Writes the reason in words, like [`GateError`].
 impl<E: fmt::Display> fmt::Display for PolicyError<E> {
     ghost output = { policy_error_text E.output };
 
@@ -111,7 +121,7 @@ impl<E: fmt::Display> fmt::Display for PolicyError<E> {
 
 impl<E: Error> Error for PolicyError<E> {}
 
-/// A reason of the gate.
+/// Wraps a reason of the gate.
 impl<E: Drop> From<GateError<E>> for PolicyError<E> {
     ghost from_gives = { λ error refusal. refusal ≡ Gate error };
 

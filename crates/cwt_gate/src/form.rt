@@ -1,4 +1,4 @@
-//! The forms that layers of a token have (RFC 8392, section 6).
+//! The forms of a token's layers (RFC 8392, section 6).
 
 ghost use Rattle.std.specs.Prelude.{◌≡◌};
 ghost use Rattle.cwt_gate.specs.Layers.{named_form};
@@ -23,7 +23,7 @@ pub enum Form {
     Encrypt0,
 }
 
-/// The form that a tag of this number names, where it is one's.
+/// Returns the form that the tag `number` names, or `None` if it names none.
 pub(crate) fn named_form(number: u64) -> Option<Form>
     ensures { result ≡ named_form number }
 {

@@ -1,4 +1,4 @@
-//! The gate.
+//! The functions that judge tokens.
 
 ghost use Rattle.cwt_gate.specs.Door.{JudgesWith};
 ghost use Rattle.cwt_gate.specs.Gate.{Judges};
@@ -16,17 +16,20 @@ use coset::cwt::{ClaimsSet, KnownClaims};
 use coset::laws::signed_when_read;
 use std::alloc::Global;
 
-/// The claims of a token that is valid at `now`, in seconds since 1970 began in UTC, once `verify` accepted its signature.
+/// Returns the claims of a token that is valid at `now`, if `verify` accepts its signature.
 ///
-/// The token is a message with one signature (`COSE_Sign1`), plain, under its tag, or under the tag of web tokens and then
-/// its own (RFC 8392, section 6). `verify` is given the signature and the bytes that it is over, for an empty
-/// `external_aad`. It is called once, unless the token is refused before; only then is the payload looked at.
-/// When the token was issued (`iat`) isn't judged, nor which algorithm it names, nor for whom it is: [`judge_with`] asks
+/// `now` is in seconds since 1970 began in UTC. The token is a message with one signature
+/// (`COSE_Sign1`). It is plain, under its tag, or under the tag of web tokens and then its own (RFC
+/// 8392, section 6).
+///
+/// `verify` receives the signature and the signed bytes, for an empty `external_aad`. It is called
+/// once, unless the token is refused before. The payload is read only after that. The function
+/// doesn't check the time of issue (`iat`), the algorithm or the audience; [`judge_with`] checks
 /// more.
 ///
 /// # Errors
-/// The first that applies, in the order of [`GateError`]. Out of memory is `Token` until `verify` was called, and `Claims`
-/// from then on.
+/// The first error that applies, in the order of [`GateError`]. If an allocation fails, the error
+/// is `Token` until `verify` was called, and `Claims` from then on.
 pub fn judge<F, E>(
     alloc: Global,
     token: &[u8],
@@ -57,20 +60,26 @@ where
     Ok(claims)
 }
 
-/// The claims of a token that is valid at `now`, in seconds since 1970 began in UTC, once `keys` accepted each of its layers,
-/// where token and claims are as the policy asks (RFC 8392, section 7.2).
+/// Returns the claims of a token that is valid at `now`, if `keys` and `policy` accept it (RFC
+/// 8392, section 7.2).
 ///
-/// A layer is a message with a signature (`COSE_Sign1`), with a MAC (`COSE_Mac0`), or encrypted (`COSE_Encrypt0`), plain or
-/// under its tag, and the outermost also under the tag of web tokens on that (RFC 8392, section 6). What is in a layer, the
-/// payload that it carries or the plaintext that the keys make, is another layer where it begins as an array or a tag does, at
-/// most four in all, and the claims otherwise. `keys` is handed each layer once, from the outermost in, only where its
-/// algorithm and its critical labels are as the policy asks. Only what they accepted is looked into.
+/// `now` is in seconds since 1970 began in UTC. A layer is a message with a signature
+/// (`COSE_Sign1`), with a MAC (`COSE_Mac0`), or encrypted (`COSE_Encrypt0`). It is plain or under
+/// its tag. The outermost layer may also be under the tag of web tokens on top of its own (RFC
+/// 8392, section 6).
 ///
-/// Claims that the policy leaves out are `others` of what is returned.
+/// The content of a layer is its payload, or the plaintext that the keys make. If the content
+/// begins like an array or a tag, it is read as another layer, and otherwise as the claims. A token
+/// has at most four layers. The keys must accept each layer. They receive it once, from the
+/// outermost in, and only if the policy accepts its algorithm and its critical labels. Only content
+/// that the keys accepted is read.
+///
+/// Claims that the policy leaves out are in `others` of the result.
 ///
 /// # Errors
-/// The first that applies, in the order of [`PolicyError`]. Out of memory is `Token` until all layers are opened, and `Claims`
-/// from then on. A moment that is an infinity or no number refuses the token, where the policy looks at it.
+/// The first error that applies, in the order of [`PolicyError`]. If an allocation fails, the error
+/// is `Token` until all layers are opened, and `Claims` from then on. An infinity or NaN as a time
+/// refuses the token, if the policy looks at that time.
 pub fn judge_with<K: Keys>(
     alloc: Global,
     policy: &Policy<'_>,

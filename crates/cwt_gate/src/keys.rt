@@ -1,4 +1,4 @@
-//! The keys of who judges a token. Rattle has no ciphers: a caller has its own behind this trait.
+//! The keys of a verifier. Rattle has no ciphers, so a caller implements this trait with its own.
 
 ghost use Rattle.std.specs.Prelude.{◌≡◌, IfOk, IfErr};
 ghost use Rattle.cwt_gate.specs.Keys.{KeysView, key_id_of, seal_view};
@@ -8,23 +8,28 @@ use crate::form::Form;
 use coset::{Header, ProtectedHeader};
 use std::alloc::Global;
 
-/// What keys are handed of a layer of a token.
+/// The parts of a token's layer, as keys receive them.
 #[derive(Clone, Copy, Debug)]
 pub struct Sealed<'a> {
-    /// The header that is covered, with the bytes that it was received as (`original_data`).
+    /// The protected header, with the bytes as they were received (`original_data`).
     pub protected: &'a ProtectedHeader,
-    /// The header that isn't covered. What it says may help to find a key, and is said by whoever sent the token.
+    /// The unprotected header. Its values may help to find a key, but whoever sent the token chose
+    /// them.
     pub unprotected: &'a Header,
     /// The signature, the MAC, or the ciphertext.
     pub proof: &'a [u8],
-    /// The bytes that it goes with, for an empty `external_aad`: what was signed (`Sig_structure`, RFC 8152, section 4.4), what
-    /// the MAC is of (`MAC_structure`, section 6.3), or the additional authenticated data (`Enc_structure`, section 5.3).
+    /// The structure for an empty `external_aad`. For a signature it is `Sig_structure` (RFC 8152,
+    /// section 4.4), and for a MAC `MAC_structure` (section 6.3). For a ciphertext it is
+    /// `Enc_structure` (section 5.3), the additional authenticated data.
     pub structure: &'a [u8],
 }
 
 impl<'a> Sealed<'a> {
-    /// The identifier of the key that the headers name: that of the protected one, or else that of the other; empty where
-    /// neither has one (RFC 8152, section 3.1). It helps to find a key, and is no proof of who sent the token.
+    /// Returns the key identifier of the protected header, or if it has none, that of the
+    /// unprotected one (RFC 8152, section 3.1).
+    ///
+    /// The result is empty if neither header has an identifier. It helps to find a key, but it
+    /// doesn't prove who sent the token.
     pub fn key_id(&self) -> &'a [u8]
         ensures { result.now ≡ key_id_of (seal_view self.now) }
     {
@@ -36,25 +41,27 @@ impl<'a> Sealed<'a> {
     }
 }
 
-/// The keys that a verifier has. Each method finds the key by what it is handed, as by the identifier in a header, and uses it.
+/// The keys of a verifier. Each method finds a key for the layer, such as by the identifier in a
+/// header, and uses it.
 ///
-/// An implementer says in `view` what the keys accept, and writes the methods for the forms that it has keys for. The others
-/// refuse.
+/// An implementer states in `view` which layers the keys may accept, and which errors they may
+/// return. It writes the methods for the forms for which it has keys. The other methods refuse
+/// every layer.
 pub trait Keys {
-    /// Why a key isn't found, or doesn't accept what it is handed.
+    /// The reason why no key is found, or why the key doesn't accept a layer.
     type Error: Drop;
 
-    /// What contracts see of the keys: what they accept, and which errors they return.
+    /// The view of the keys: the layers that they may accept, and the errors that they may return.
     ghost view: { Self → KeysView Self.Error };
 
-    /// The error for a layer of this form that there is no key for.
+    /// Returns the error for a layer of this form if there is no key for it.
     fn no_key(&self, form: Form, sealed: &Sealed<'_>) -> Self::Error
         ensures { (view self.now).refuses form (seal_view sealed.now) result };
 
-    /// Accepts the signature of a message with one (`COSE_Sign1`).
+    /// Verifies the signature of a message with one signature (`COSE_Sign1`).
     ///
     /// # Errors
-    /// One for which `refuses` of `view` holds, of this form and of what is handed.
+    /// Any error that these keys may return for this layer (`refuses` of `view`).
     fn verify(&self, sealed: &Sealed<'_>) -> Result<(), Self::Error>
         ensures verified { IfOk result (λ _. (view self.now).verifies (seal_view sealed.now)) }
         ensures refused { IfErr result (λ e.
@@ -63,10 +70,10 @@ pub trait Keys {
         Err(self.no_key(Form::Sign1, sealed))
     }
 
-    /// Accepts the tag of a message with a MAC (`COSE_Mac0`).
+    /// Verifies the tag of a message with a MAC (`COSE_Mac0`).
     ///
     /// # Errors
-    /// One for which `refuses` of `view` holds, of this form and of what is handed.
+    /// Any error that these keys may return for this layer (`refuses` of `view`).
     fn verify_tag(&self, sealed: &Sealed<'_>) -> Result<(), Self::Error>
         ensures verified { IfOk result (λ _. (view self.now).verifies_tag (seal_view sealed.now)) }
         ensures refused { IfErr result (λ e.
@@ -75,10 +82,10 @@ pub trait Keys {
         Err(self.no_key(Form::Mac0, sealed))
     }
 
-    /// The plaintext of an encrypted message (`COSE_Encrypt0`).
+    /// Returns the plaintext of an encrypted message (`COSE_Encrypt0`).
     ///
     /// # Errors
-    /// One for which `refuses` of `view` holds, of this form and of what is handed.
+    /// Any error that these keys may return for this layer (`refuses` of `view`).
     fn decrypt(&self, _alloc: Global, sealed: &Sealed<'_>) -> Result<Vec<u8>, Self::Error>
         ensures decrypted { IfOk result (λ p.
             (view self.now).decrypts (seal_view sealed.now) p.items) }

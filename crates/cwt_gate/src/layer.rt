@@ -36,7 +36,7 @@ pub(crate) enum Layer {
     Encrypt0(CoseEncrypt0),
 }
 
-/// Whether the item is under the tag of a form.
+/// Returns true if the item is under the tag of a form.
 fn names_form(item: Pull<'_>) -> bool
     ensures { result ≡ names_form (as_tag (pull_item item.entry)) }
 {
@@ -46,7 +46,7 @@ fn names_form(item: Pull<'_>) -> bool
     }
 }
 
-/// What the tag of web tokens encloses, where that is under the tag of a form; any other item is itself.
+/// Removes the tag of web tokens if the tag of a form follows; any other item is returned as it is.
 fn in_cwt_tag(item: Pull<'_>) -> Pull<'_>
     ensures { pull_item result
         ≡ in_cwt_tag (pull_item item.entry) (as_tag (pull_item item.entry)) }
@@ -64,14 +64,15 @@ fn in_cwt_tag(item: Pull<'_>) -> Pull<'_>
     }
 }
 
-/// The item of a layer: the outermost may be under the tag of web tokens.
+/// Returns the item of a layer. Only the outermost layer may be under the tag of web tokens.
 fn layer_item(outermost: bool, item: Pull<'_>) -> Pull<'_>
     ensures { pull_item result ≡ layer_item outermost (pull_item item.entry) }
 {
     if outermost { in_cwt_tag(item) } else { item }
 }
 
-/// The form that the item's tag names, and the item of the message; an item without such a tag is of the form `plain`.
+/// Returns the form that the item's tag names, and the item of the message. An item without such a
+/// tag is itself the message, of the form `plain`.
 fn message_in(plain: Form, item: Pull<'_>) -> (Form, Pull<'_>)
     ensures { (result.0, pull_item result.1) ≡ message_in plain (pull_item item.entry) }
 {
@@ -85,10 +86,11 @@ fn message_in(plain: Form, item: Pull<'_>) -> (Form, Pull<'_>)
 }
 
 impl Layer {
-    /// Reads the layer that the bytes are.
+    /// Reads a layer from its bytes.
     ///
     /// # Errors
-    /// `OutOfMemory`; or why the bytes are no layer.
+    /// - `OutOfMemory` if an allocation fails.
+    /// - A fault in the bytes, if they are not a layer.
     pub(crate) fn read(alloc: Global, plain: Form, outermost: bool, bytes: &[u8]) -> Result<Layer>
         ensures read { ReadsSlice (layer plain outermost) layer_view bytes.now result }
         ensures refused { RefusesSlice (layer plain outermost) bytes.now result }
@@ -102,7 +104,7 @@ impl Layer {
         }
     }
 
-    /// Its form.
+    /// Returns the form of the layer.
     pub(crate) fn form(&self) -> Form
         ensures { result ≡ form_of (layer_view self.now) }
     {
@@ -113,7 +115,7 @@ impl Layer {
         }
     }
 
-    /// The header that is covered.
+    /// Returns the protected header.
     pub(crate) fn protected(&self) -> &Header
         ensures { header_view result.now ≡ (protected_of (layer_view self.now)).header }
     {
@@ -124,7 +126,7 @@ impl Layer {
         }
     }
 
-    /// The header that isn't covered.
+    /// Returns the unprotected header.
     pub(crate) fn unprotected(&self) -> &Header
         ensures { header_view result.now ≡ unprotected_of (layer_view self.now) }
     {
@@ -135,10 +137,13 @@ impl Layer {
         }
     }
 
-    /// What is in the layer, once the keys accept it: its payload, or the plaintext that they make of its ciphertext.
+    /// Returns the content of the layer, if the keys accept it: its payload, or the plaintext of
+    /// its ciphertext.
     ///
     /// # Errors
-    /// `NoPayload`; `Token`, out of memory before the keys are called; or `Caller`.
+    /// - `NoPayload` if the layer has no payload, or no ciphertext.
+    /// - `Token` if the structure can't be made, for example because an allocation fails.
+    /// - `Caller` if the keys refuse the layer.
     pub(crate) fn open<K: Keys>(
         self,
         alloc: Global,
@@ -154,7 +159,7 @@ impl Layer {
     }
 }
 
-/// The payload of a message, once the keys accept its signature.
+/// Returns the payload of a message, if the keys accept its signature.
 fn open_signed<K: Keys>(
     alloc: Global,
     keys: &K,
@@ -181,7 +186,7 @@ fn open_signed<K: Keys>(
     }
 }
 
-/// The payload of a message, once the keys accept its MAC.
+/// Returns the payload of a message, if the keys accept its MAC.
 fn open_maced<K: Keys>(
     alloc: Global,
     keys: &K,
@@ -208,7 +213,7 @@ fn open_maced<K: Keys>(
     }
 }
 
-/// The plaintext that the keys make of a message's ciphertext.
+/// Returns the plaintext of a message, if the keys decrypt its ciphertext.
 fn open_encrypted<K: Keys>(
     alloc: Global,
     keys: &K,

@@ -12,19 +12,19 @@ use crate::policy::Policy;
 use coset::laws::{signed_when_read, structure_when_read};
 use std::alloc::Global;
 
-/// At most so many layers are opened.
+/// The greatest number of layers that are opened.
 const MOST: usize = 4;
 
-/// What is in a layer that was opened, or in all.
+/// The content of an opened layer, or of all opened layers of a token.
 #[derive(Drop)]
 pub(crate) struct Opened {
-    /// The bytes.
+    /// The bytes of the innermost opened layer's content.
     pub content: Vec<u8>,
-    /// Whether the layer, or one of them, is of a form that authenticates, as the policy asks.
+    /// True if the layer, or one of the layers, has a form that authenticates under the policy.
     pub authentic: bool,
 }
 
-/// Whether the bytes begin as an array or a tag does, and so as a layer and not as claims.
+/// Returns true if the bytes begin like an array or a tag, and so like a layer and not like claims.
 fn begins_layer(bytes: &[u8]) -> bool
     ensures { result ≡ begins_layer bytes.now }
 {
@@ -34,10 +34,10 @@ fn begins_layer(bytes: &[u8]) -> bool
     }
 }
 
-/// Opens one layer, which the policy admits.
+/// Opens one layer, if the policy admits it.
 ///
 /// # Errors
-/// The first of `Token`, `Algorithm`, `Critical`, `NoPayload` and `Caller` that is true of it.
+/// The first of `Token`, `Algorithm`, `Critical`, `NoPayload` and `Caller` that applies.
 fn open_one<K: Keys>(
     alloc: Global,
     policy: &Policy<'_>,
@@ -67,10 +67,11 @@ fn open_one<K: Keys>(
     })
 }
 
-/// Opens the layers of a token, as long as there is one more.
+/// Opens the layers of a token, until the content is no further layer.
 ///
 /// # Errors
-/// The first of [`open_one`]'s that is true of a layer, from the outermost in; or `TooDeep`.
+/// - The first error of [`open_one`] that applies, from the outermost layer in.
+/// - `TooDeep` if there are more than four layers.
 pub(crate) fn open_all<K: Keys>(
     alloc: Global,
     policy: &Policy<'_>,

@@ -1,6 +1,8 @@
-//! A gate for web tokens (RFC 8392): [`judge`] lets in the claims of a token whose signature the caller's closure accepts,
-//! at a moment at which they are valid; [`judge_with`] those of a token with signatures, MACs and encryption in any order, by
-//! the caller's [`Keys`], which also meets a [`Policy`]. It is built on the public contracts of `coset`.
+//! A gate for web tokens (RFC 8392), built on the public contracts of `coset`.
+//!
+//! [`judge`] returns the claims of a token if the caller's closure accepts its signature and the
+//! claims are valid at a given time. [`judge_with`] also takes tokens with MACs and encryption,
+//! nested in any order. It judges them by the caller's [`Keys`] and a [`Policy`].
 #![tactic(auto)]
 
 mod claims;

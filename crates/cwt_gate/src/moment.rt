@@ -1,4 +1,4 @@
-//! What claims say of a moment (RFC 8392, sections 3.1.4 and 3.1.5).
+//! Checks of the times in claims (RFC 8392, sections 3.1.4 and 3.1.5).
 
 ghost use Rattle.std.specs.Prelude.{◌≡◌, option_map};
 ghost use Rattle.coset.specs.Timestamp.{timestamp_view};
@@ -7,21 +7,21 @@ ghost use Rattle.cwt_gate.specs.Moment.{has_come, has_expired, has_fraction, is_
 
 use coset::cwt::{ClaimsSet, Timestamp};
 
-/// Whether a moment is named in other than whole seconds.
+/// Returns true if there is a time, and it is a float.
 fn is_fractional(named: &Option<Timestamp>) -> bool
     ensures { result ≡ is_fractional (option_map timestamp_view named.now) }
 {
     matches!(named, Some(Timestamp::FractionalSeconds(_)))
 }
 
-/// Whether one of the moments that are judged is named so.
+/// Returns true if the expiration time or the not-before time is a float.
 pub(crate) fn has_fraction(claims: &ClaimsSet) -> bool
     ensures { result ≡ has_fraction (claims_view claims.now) }
 {
     is_fractional(&claims.expiration_time) || is_fractional(&claims.not_before)
 }
 
-/// Whether the moment has come at so many seconds; `otherwise`, where it is no number of seconds.
+/// Returns true if `moment` has come at `seconds`. For an infinity or NaN, returns `otherwise`.
 fn has_come(otherwise: bool, seconds: i128, moment: &Timestamp) -> bool
     ensures { result ≡ has_come otherwise seconds (timestamp_view moment.now) }
 {
@@ -31,7 +31,8 @@ fn has_come(otherwise: bool, seconds: i128, moment: &Timestamp) -> bool
     }
 }
 
-/// Whether `now` is at least the moment of expiration and the leeway together.
+/// Returns true if `now` is at least the expiration time plus the leeway. An infinity or NaN has
+/// always expired.
 pub(crate) fn has_expired(leeway: u64, now: i64, expiration_time: &Option<Timestamp>) -> bool
     ensures { result ≡ has_expired leeway now (option_map timestamp_view expiration_time.now) }
 {
@@ -41,7 +42,8 @@ pub(crate) fn has_expired(leeway: u64, now: i64, expiration_time: &Option<Timest
     }
 }
 
-/// Whether `now` and the leeway together are before the first moment at which the claims are valid.
+/// Returns true if `now` plus the leeway is before the not-before time. An infinity or NaN is
+/// always early.
 pub(crate) fn is_early(leeway: u64, now: i64, not_before: &Option<Timestamp>) -> bool
     ensures { result ≡ is_early leeway now (option_map timestamp_view not_before.now) }
 {
@@ -51,8 +53,10 @@ pub(crate) fn is_early(leeway: u64, now: i64, not_before: &Option<Timestamp>) ->
     }
 }
 
-/// Whether claims that were issued then have reached the greatest age, where there is one: `now` is at least that moment, the
-/// age and the leeway together. Claims that don't say when they were issued have.
+/// Returns true if claims with this time of issue have reached the greatest age, if there is one.
+///
+/// They have reached it if `now` is at least the time of issue plus the age and the leeway. Claims
+/// without a time of issue count as too old, and so do an infinity and NaN.
 pub(crate) fn is_too_old(
     max_age: Option<u64>,
     leeway: u64,

@@ -1,4 +1,4 @@
-//! What a verifier asks of a token beside its signature and its times.
+//! A verifier's requirements for a token, in addition to its signature and its times.
 
 ghost use Rattle.std.specs.Prelude.{◌≡◌, map, option_map, string_bytes};
 ghost use Rattle.coset.specs.LabelViews.{algorithm_view, entry_view};
@@ -12,68 +12,78 @@ use coset::iana::{EnumI64, HeaderParameter};
 use coset::laws::orders_tell_apart;
 use coset::{Algorithm, Header, Label, RegisteredLabelWithPrivate};
 
-/// A label that must be understood.
+/// A critical label, which must be understood.
 type Critical = RegisteredLabelWithPrivate<HeaderParameter>;
 
-/// Which layers authenticate who sent a token.
+/// The kinds of layers that authenticate the sender of a token.
 #[derive(Clone, Copy, Debug, PartialEq, Eq)]
 pub enum Authentication {
-    /// One with a signature.
+    /// A layer with a signature.
     Signature,
-    /// One with a signature or a MAC.
+    /// A layer with a signature or a MAC.
     SignatureOrMac,
-    /// Any: also an encrypted one, by whoever shares its key (RFC 8152, section 5.3).
+    /// Any layer. An encrypted layer authenticates those who share its key (RFC 8152, section 5.3).
     AnyLayer,
 }
 
-/// What becomes of claims whose numbers IANA hasn't assigned, and that aren't for private use.
+/// The treatment of claims whose numbers are neither assigned by IANA nor for private use.
 #[derive(Clone, Copy, Debug, PartialEq, Eq)]
 pub enum Unassigned {
-    /// A token that has one is refused.
+    /// A token with such a claim is refused.
     Refused,
-    /// They are left out of the claims, and handed back by their labels: claims that aren't understood are ignored (RFC 8392,
-    /// section 3).
+    /// Such claims are left out and returned separately, by their labels. Claims that aren't
+    /// understood are ignored (RFC 8392, section 3).
     LeftOut,
 }
 
-/// What a verifier asks of a token beside what its keys accept. A list that is empty allows nothing: no algorithm, or no
-/// critical label. [`Policy::strict`] is the safe choice for all fields that aren't named:
+/// A verifier's requirements for a token, in addition to acceptance by its keys.
+///
+/// An empty list allows nothing: no algorithm, or no critical label. [`Policy::strict`] is the safe
+/// choice for each field that isn't named:
 /// `Policy { signatures: &[algorithm], ..Policy::strict() }`.
 #[derive(Clone, Copy, Debug)]
 pub struct Policy<'a> {
-    /// The algorithms of layers with a signature. The protected header of each must name one of them; one in the unprotected
-    /// header counts for nothing. A number that IANA assigned is `Assigned`, never `PrivateUse`.
+    /// The allowed algorithms of layers with a signature. The protected header of each layer must
+    /// name one of them. An algorithm in the unprotected header doesn't count. A number that IANA
+    /// assigned is `Assigned`, never `PrivateUse`.
     pub signatures: &'a [Algorithm],
-    /// The same of layers with a MAC.
+    /// The allowed algorithms of layers with a MAC, in the same way.
     pub macs: &'a [Algorithm],
-    /// The same of encrypted layers.
+    /// The allowed algorithms of encrypted layers, in the same way.
     pub ciphers: &'a [Algorithm],
-    /// The labels that the caller understands, of those that a header may call critical (RFC 8152, section 3.1).
+    /// The labels that the caller understands, out of those that a header may list as critical (RFC
+    /// 8152, section 3.1).
     pub critical: &'a [RegisteredLabelWithPrivate<HeaderParameter>],
-    /// The form of a layer that has no tag: who sends such tokens and who takes them know it (RFC 8392, section 7.2, step 4).
+    /// The form of a layer without a tag. Sender and verifier must agree on it (RFC 8392, section
+    /// 7.2, step 3).
     pub plain: Form,
-    /// Which layers authenticate who sent the token: there must be one.
+    /// The layers that authenticate the sender. A token must have at least one of them.
     pub authenticated_by: Authentication,
-    /// What becomes of claims whose numbers IANA hasn't assigned.
+    /// The treatment of claims whose numbers are neither assigned by IANA nor for private use.
     pub unassigned: Unassigned,
-    /// Whether a token must expire (`exp`).
+    /// True if a token must have an expiration time (`exp`).
     pub expires: bool,
-    /// Whether a token that was issued later than now is refused (`iat`).
+    /// True if a token is refused when it was issued later than now (`iat`).
     pub issued: bool,
-    /// The age, in seconds since it was issued (`iat`), at which a token is refused, and one that doesn't say when it was issued.
+    /// The age in seconds since the time of issue (`iat`) at which a token is refused. A token
+    /// without a time of issue is then refused too.
     pub max_age: Option<u64>,
-    /// How many seconds the clocks of issuer and verifier may differ: a token is valid so much longer, and so much earlier.
+    /// The number of seconds by which the clocks of issuer and verifier may differ. A token is
+    /// valid that much longer, and that much earlier.
     pub leeway: u64,
-    /// The issuer that the claims must name (`iss`), where there is one.
+    /// The issuer that the claims must name (`iss`), if there is one.
     pub issuer: Option<&'a str>,
-    /// The audience that the claims must name (`aud`), where there is one.
+    /// The audience that the claims must name (`aud`), if there is one.
     pub audience: Option<&'a str>,
 }
 
 impl<'a> Policy<'a> {
-    /// The policy that lets nothing in, since it has no algorithm: no critical label is understood, a layer without a tag has a
-    /// signature, a signature or a MAC authenticates, claims whose numbers aren't assigned are refused, a token must expire and
-    /// not be issued later than now, and clocks don't differ. There is no greatest age, no issuer and no audience.
+    /// Returns a policy that accepts no token, because it allows no algorithm.
+    ///
+    /// No critical label is understood, a layer without a tag has a signature, and a signature or a
+    /// MAC authenticates. Claims whose numbers are neither assigned nor for private use are
+    /// refused. A token must have an expiration time, and must not be issued later than now. The
+    /// clocks don't differ. There is no greatest age, no issuer and no audience.
     pub fn strict() -> Policy<'a>
         ensures { policy_view result ≡ strict }
     {
@@ -96,7 +106,7 @@ impl<'a> Policy<'a> {
 }
 
 impl Policy<'_> {
-    /// The algorithms of layers of this form.
+    /// Returns the allowed algorithms of layers of this form.
     fn algorithms(&self, form: Form) -> &[Algorithm]
         ensures { map algorithm_view result.now ≡ algorithms_for (policy_view self.now) form }
     {
@@ -107,7 +117,8 @@ impl Policy<'_> {
         }
     }
 
-    /// Whether the header of a layer of this form names an algorithm, and the policy has it.
+    /// Returns true if the header names an algorithm that the policy allows for layers of this
+    /// form.
     pub(crate) fn allows(&self, form: Form, header: &Header) -> bool
         ensures { result ≡ allows (policy_view self.now) form (header_view header.now) }
     {
@@ -117,7 +128,7 @@ impl Policy<'_> {
         }
     }
 
-    /// Whether a layer of this form authenticates.
+    /// Returns true if a layer of this form authenticates.
     pub(crate) fn authenticates(&self, form: Form) -> bool
         ensures { result ≡ authenticates (policy_view self.now).authenticated_by form }
     {
@@ -129,7 +140,7 @@ impl Policy<'_> {
         }
     }
 
-    /// Whether the policy names the label, and the header has it.
+    /// Returns true if the policy has the label and the header contains it.
     fn is_understood(&self, header: &Header, label: &Critical) -> bool
         ensures { result ≡ is_understood (policy_view self.now) (header_view header.now)
             (critical_view label.now) }
@@ -137,7 +148,8 @@ impl Policy<'_> {
         self.critical.contains(label) && has_label(header, label)
     }
 
-    /// Whether each label that must be understood is, and all of them are in the protected header.
+    /// Returns true if each critical label of the protected header `header` is understood, and the
+    /// unprotected header lists none.
     pub(crate) fn understands(&self, header: &Header, unprotected: &Header) -> bool
         ensures { result ≡ understands (policy_view self.now) (header_view header.now)
             (header_view unprotected.now) }
@@ -150,7 +162,7 @@ impl Policy<'_> {
     }
 }
 
-/// Whether no name is wanted, or the claims have the same.
+/// Returns true if no name is wanted, or if the claims have the wanted name.
 pub(crate) fn is_meant(wanted: &Option<&str>, named: &Option<String>) -> bool
     ensures { result ≡ is_meant (option_map (λ s. s.now) wanted.now)
         (option_map string_bytes named.now) }
@@ -162,14 +174,14 @@ pub(crate) fn is_meant(wanted: &Option<&str>, named: &Option<String>) -> bool
     }
 }
 
-/// Whether the header has the label.
+/// Returns true if the header has the label.
 fn has_label(header: &Header, label: &Critical) -> bool
     ensures { result ≡ has_label (header_view header.now) (as_name (critical_view label.now)) }
 {
     is_parameter(header, label) || header.rest.iter().any(|pair| is_labelled(pair, label))
 }
 
-/// The number that the label is, unless it is a text.
+/// Returns the number of the label, or `None` if it is a text.
 fn number_of(label: &Critical) -> Option<i64>
     ensures { result ≡ number_in (as_name (critical_view label.now)) }
 {
@@ -180,7 +192,8 @@ fn number_of(label: &Critical) -> Option<i64>
     }
 }
 
-/// The parameters that are fields of the header, by their numbers, and whether they are there.
+/// Returns the numbers of the parameters that are fields of the header, each with true if it is
+/// set.
 fn parameters(header: &Header) -> [(i64, bool); 9]
     ensures { result ≡ parameters (header_view header.now) }
 {
@@ -197,7 +210,7 @@ fn parameters(header: &Header) -> [(i64, bool); 9]
     ]
 }
 
-/// Whether the label is that of a parameter which is a field of the header, and there.
+/// Returns true if the label is that of a field of the header, and the field is set.
 fn is_parameter(header: &Header, label: &Critical) -> bool
     ensures { result ≡ is_parameter (header_view header.now) (as_name (critical_view label.now)) }
 {
@@ -209,7 +222,7 @@ fn is_parameter(header: &Header, label: &Critical) -> bool
         .any(|(number, is_there)| *is_there && *number == label)
 }
 
-/// Whether the pair has this label.
+/// Returns true if the pair has this label.
 fn is_labelled(pair: &(Label, Value), label: &Critical) -> bool
     ensures { result ≡ same_name (entry_view pair.now).0
         (as_name (critical_view label.now)) }

@@ -1,4 +1,5 @@
-//! Tokens as they arrive: messages with one signature under at most two tags (RFC 8392, section 6).
+//! Tokens as they are received: messages with one signature under at most two tags (RFC 8392,
+//! section 6).
 
 ghost use Rattle.std.specs.Prelude.{◌≡◌};
 ghost use Rattle.coset.specs.Answers.{ReadsSlice, RefusesSlice};
@@ -16,7 +17,7 @@ const COSE_SIGN1: u64 = 18;
 /// The tag of web tokens (RFC 8392, section 6).
 const CWT: u64 = 61;
 
-/// A token: the message in it.
+/// A token, which contains one message.
 ///
 /// ```cddl
 /// token = COSE_Sign1 / #6.18(COSE_Sign1) / #6.61(#6.18(COSE_Sign1))
@@ -24,7 +25,7 @@ const CWT: u64 = 61;
 #[derive(Debug, Drop)]
 pub struct Token(pub CoseSign1);
 
-/// Whether the value is under the tag of this number.
+/// Returns true if the value is under the tag `number`.
 fn is_under(number: u64, value: &Value) -> bool
     ensures { result ≡ is_under number (value_item value.now) }
 {
@@ -34,7 +35,7 @@ fn is_under(number: u64, value: &Value) -> bool
     }
 }
 
-/// What a tag encloses; any other value is itself.
+/// Returns the content of a tag, or any other value itself.
 fn untagged(value: Value) -> Value
     ensures { value_item result ≡ untagged (value_item value) }
 {
@@ -44,7 +45,8 @@ fn untagged(value: Value) -> Value
     }
 }
 
-/// Whether the value is a message's under the tag of web tokens and then its own.
+/// Returns true if the value is under the tag of web tokens, and then under the tag of
+/// `COSE_Sign1`.
 fn is_wrapped(value: &Value) -> bool
     ensures { result ≡ is_wrapped (value_item value.now) }
 {
@@ -54,7 +56,7 @@ fn is_wrapped(value: &Value) -> bool
     }
 }
 
-/// What is to be read as the message.
+/// Returns the value that is read as the message.
 fn message_in(value: Value) -> Value
     ensures { value_item result ≡ message_in (value_item value) }
 {
@@ -93,10 +95,11 @@ impl AsCborValue for Token {
 
 impl CborSerializable for Token {}
 
-/// The message that the token is.
+/// Reads the message in a token.
 ///
 /// # Errors
-/// `OutOfMemory`; or why the bytes are no token.
+/// - `OutOfMemory` if an allocation fails.
+/// - A fault in the bytes, if they are not a token.
 pub fn read_token(alloc: Global, token: &[u8]) -> Result<CoseSign1>
     ensures read { ReadsSlice token_shape sign1_view token.now result }
     ensures refused { RefusesSlice token_shape token.now result }

@@ -8,10 +8,14 @@ use coset::cwt::ClaimsSet;
 use coset::{CborSerializable, CoseSign1};
 use std::alloc::Global;
 
-/// The claims of a message. The payload is looked at only once the closure accepted the signature.
+/// Returns the claims of a message. The payload is read only after `verify` accepted the signature.
 ///
 /// # Errors
-/// `NoPayload`; `Token`, out of memory before the closure was called; `Caller`; or `Claims`.
+/// - `NoPayload` if the message has no payload.
+/// - `Token` if the signed bytes can't be made, for example because an allocation fails.
+/// - `Caller` if `verify` refuses the signature.
+/// - `Claims` if the payload isn't a claims set, or if an allocation fails after `verify` was
+///   called.
 pub(crate) fn verified_claims<F, E>(
     alloc: Global,
     message: &CoseSign1,

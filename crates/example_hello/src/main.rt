@@ -1,16 +1,16 @@
-//! Signs a message, writes it, reads it again and verifies it. The cryptography is yours: `sign` and `verify` are where
-//! it goes, and keep nobody out.
+//! Signs a message, writes it, reads it again and verifies it. The cryptography is yours: it
+//! replaces `sign` and `verify`, which protect nothing here.
 #![tactic(auto)]
 
 use coset::{CallError, CborSerializable, CoseSign1, CoseSign1Builder, HeaderBuilder, iana};
 use std::alloc::Global;
 use std::io;
 
-/// Why the key says no.
+/// The error of signing and of verifying.
 #[derive(Clone, Copy, Debug)]
 struct Refused;
 
-/// A signature of these bytes: here their first one.
+/// Returns a signature of `tbs`: here its first byte.
 fn sign(alloc: Global, tbs: &[u8]) -> Result<Vec<u8>, Refused> {
     match tbs.first() {
         Some(byte) => Vec::from_slice(alloc, &[*byte]).ok().ok_or(Refused),
@@ -18,7 +18,7 @@ fn sign(alloc: Global, tbs: &[u8]) -> Result<Vec<u8>, Refused> {
     }
 }
 
-/// Whether it is a signature of these bytes.
+/// Checks that `signature` is a signature of `tbs`.
 fn verify(signature: &[u8], tbs: &[u8]) -> Result<(), Refused> {
     match tbs.first() {
         Some(byte) if signature == [*byte].as_slice() => Ok(()),
@@ -26,7 +26,7 @@ fn verify(signature: &[u8], tbs: &[u8]) -> Result<(), Refused> {
     }
 }
 
-/// A message that says hello, signed and written.
+/// Returns the encoding of a signed message that says hello.
 fn sent(alloc: Global) -> Result<Vec<u8>, CallError<Refused>> {
     let protected = HeaderBuilder::new(alloc)
         .algorithm(iana::Algorithm::ES256)
@@ -39,7 +39,7 @@ fn sent(alloc: Global) -> Result<Vec<u8>, CallError<Refused>> {
     Ok(message.to_vec(alloc)?)
 }
 
-/// The payload of a message that is read and verified.
+/// Reads a message, verifies it and returns its payload.
 fn received(alloc: Global, bytes: &[u8]) -> Result<Option<Vec<u8>>, CallError<Refused>> {
     let message = CoseSign1::from_slice(alloc, bytes)?;
     message.verify_signature(alloc, b"", move |signature: &[u8], tbs: &[u8]| {

@@ -1,5 +1,5 @@
-//! Prints the message with one signature that standard input spells in hexadecimal, line by line; or why it is none, and
-//! where.
+//! Reads a message with one signature in hexadecimal from standard input, and prints it line by
+//! line. If the input isn't such a message, prints the error and its place.
 #![tactic(auto)]
 
 use std::alloc::{AllocError, Global};
@@ -7,7 +7,8 @@ use std::io;
 use std::io::Read;
 use tool_explain::{Kind, annotated, explain, fault};
 
-/// The message with its bytes, in diagnostic notation (RFC 8949, section 8); or what is wrong, and where.
+/// Returns the message with its bytes in diagnostic notation (RFC 8949, section 8), or the error
+/// and its place.
 fn answer(alloc: Global, bytes: &[u8]) -> Result<String, AllocError> {
     let Some(refusal) = fault(alloc, Kind::Sign1, bytes)? else {
         let explained = explain(alloc, Kind::Sign1, bytes, None)?;

@@ -1,11 +1,11 @@
--- A parcel: a number, who receives it, a note that may be missing, and marks.
+-- A parcel: a number, a receiver, an optional note, and marks.
 use Rattle.std.specs.Prelude.{ℕ, ℤ, List, Option, map, option_map, refl}
 use Rattle.coset_codec.specs.Shape.{Shape, mapped, array_of, ◌then◌, end, int64, bstr, or_nil, list_of}
 use Rattle.coset_codec.specs.ShapeLaws.{Lawful, bytes_no_nil, mapped_laws, array_of_laws, then_laws, end_laws, int64_laws, bstr_laws, or_nil_laws, list_of_laws}
 use Rattle.example_types.specs.Reading.{mark_view}
 use Rattle.example_types.specs.declared.parcel.Parcel.{Parcel}
 
--- a parcel without its memory
+-- The view of a parcel.
 pub record View : Type 0 where
   pub number : ℤ
   pub receiver : List ℕ

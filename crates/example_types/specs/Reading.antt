@@ -1,15 +1,15 @@
--- A reading: a number, bytes that may be missing, and marks.
+-- A reading: a number, an optional payload, and marks.
 use Rattle.std.specs.Prelude.{ℕ, ℤ, List, Option, map, option_map, refl}
 use Rattle.coset_codec.specs.Shape.{Shape, mapped, array_of, ◌then◌, end, int64, bstr, or_nil, list_of}
 use Rattle.coset_codec.specs.ShapeLaws.{Lawful, bytes_no_nil, mapped_laws, array_of_laws, then_laws, end_laws, int64_laws, bstr_laws, or_nil_laws, list_of_laws}
 use Rattle.example_types.specs.declared.reading.Mark.{Mark}
 use Rattle.example_types.specs.declared.reading.Reading.{Reading}
 
--- a mark is its number
+-- The view of a mark: its number.
 abbrev pub mark_view : Mark → ℤ
 mark_view m = m.0
 
--- a reading without its memory
+-- The view of a reading.
 pub record View : Type 0 where
   pub number : ℤ
   pub payload : Option (List ℕ)

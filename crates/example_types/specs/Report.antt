@@ -1,11 +1,11 @@
--- A report: who sends it, and readings.
+-- A report: a sender, and readings.
 use Rattle.std.specs.Prelude.{ℕ, List, map, refl}
 use Rattle.coset_codec.specs.Shape.{Shape, mapped, array_of, ◌then◌, end, bstr, list_of}
 use Rattle.coset_codec.specs.ShapeLaws.{Lawful, mapped_laws, array_of_laws, then_laws, end_laws, bstr_laws, list_of_laws}
 use Rattle.example_types.specs.Reading.{reading, reading_laws, View as ReadingView, view as reading_view}
 use Rattle.example_types.specs.declared.report.Report.{Report}
 
--- a report without its memory
+-- The view of a report.
 pub record View : Type 0 where
   pub sender : List ℕ
   pub readings : List ReadingView

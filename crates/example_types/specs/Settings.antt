@@ -1,4 +1,4 @@
--- Settings: a map of a level, a name and a limit that may be missing, and whatever else.
+-- Settings: a map with a level, an optional name, an optional limit, and other pairs.
 use Rattle.std.specs.Prelude.{◌≢◌, ℕ, ℤ, pos, List, Option, Some, None, true, map, option_map, unwrap_or, refl}
 use Rattle.std.specs.Ordering.{int_eq}
 use Rattle.std.specs.Cmp.{signed_Decides}
@@ -15,14 +15,14 @@ use Rattle.example_types.specs.declared.settings.Name.{Name}
 use Rattle.example_types.specs.declared.settings.Settings.{Settings}
 use Rattle.example_types.specs.declared.settings.PartialSettings.{PartialSettings}
 
--- a label is its number
+-- The view of a label: its number.
 abbrev pub name_view : Name → ℤ
 name_view n = n.0
 
 abbrev pub entry_view : Name × Value → ℤ × Item
 entry_view e = (name_view e.0, value_item e.1)
 
--- settings without their memory
+-- The view of settings.
 pub record View : Type 0 where
   pub level : ℤ
   pub name : Option (List ℕ)
@@ -32,7 +32,7 @@ pub record View : Type 0 where
 abbrev pub view : Settings → View
 view s = record { level = s.level; name = option_map (λ b. b.items) s.name; limit = s.limit; rest = map entry_view s.rest.items }
 
--- every integer of 64 bits is a label
+-- Every 64-bit integer is a label.
 abbrev pub names : Names ℤ
 names = record { shape = int64; same = int_eq }
 
@@ -59,7 +59,7 @@ HasLevel p = p.0.0 ≢ None
 abbrev pub settings : Shape View
 settings = mapped of_parts parts (such_that IsUnexpected HasLevel (labelled names fields))
 
--- the laws
+-- The laws.
 
 pub names_laws : LawfulNames ℤ names
 names_laws = record { shape = int64_laws; same_is = λ l m h. (signed_Decides l m).0 h; same_self = λ l. (signed_Decides l l).1 refl }

@@ -1,5 +1,5 @@
-//! Types of a caller's own: how a type is given a shape, and read and written by the traits. An example, and a test of
-//! what the traits promise.
+//! A caller's own types: how a type gets a shape, and how the traits read and write it. This crate
+//! is an example, and a test of the traits' promises.
 #![tactic(auto)]
 
 pub mod parcel;

@@ -12,7 +12,7 @@ use coset_codec::write::{Array, Encode, encode_four};
 use coset_codec::{Codec, Result};
 use std::alloc::Global;
 
-/// A parcel: a number, who receives it, a note that may be missing, and marks.
+/// A parcel: a number, a receiver, an optional note, and marks.
 #[derive(Debug, Drop, PartialEq, Eq)]
 pub struct Parcel {
     pub number: i64,

@@ -10,7 +10,7 @@ use coset_codec::write::{Array, Encode, encode_three};
 use coset_codec::{Codec, Result, TaggedCodec};
 use std::alloc::Global;
 
-/// A number of 64 bits with a sign.
+/// A signed 64-bit number.
 #[derive(Clone, Copy, Debug, PartialEq, Eq)]
 pub struct Mark(pub i64);
 
@@ -36,12 +36,12 @@ impl Codec for Mark {
     }
 }
 
-/// A reading: a number, bytes that may be missing, and marks.
+/// A reading: a number, an optional payload, and marks.
 #[derive(Debug, Drop, PartialEq, Eq)]
 pub struct Reading {
-    /// Its number.
+    /// The number of the reading.
     pub number: i64,
-    /// What came with it.
+    /// The bytes that came with the reading.
     pub payload: Option<Vec<u8>>,
     /// The marks, in order.
     pub marks: Vec<Mark>,

@@ -1,5 +1,6 @@
-//! A report: an array of two elements, the second of which holds another type's values. Its traits are written out one by
-//! one, as of a type that is no [`Codec`](coset_codec::Codec).
+//! A report: an array of two elements, of which the second contains values of another type. The
+//! traits of a report are implemented one by one, as for a type without
+//! [`Codec`](coset_codec::Codec).
 //!
 //! ```cddl
 //! report = [ sender : bstr, readings : [* reading] ]
@@ -20,16 +21,17 @@ use coset_codec::{
 };
 use std::alloc::Global;
 
-/// A report: who sends it, and readings.
+/// A report: a sender, and readings.
 #[derive(Debug, Drop, PartialEq, Eq)]
 pub struct Report {
-    /// Who sends it.
+    /// The sender of the report.
     pub sender: Vec<u8>,
     /// The readings, in order.
     pub readings: Vec<Reading>,
 }
 
-/// Reads the elements from the first to the last, and names the fault of the last that has one.
+/// Reads the elements in order. A wrong number of elements is reported before the fault of the last
+/// element that has one.
 fn read_report(alloc: Global, input: &mut Decoder<'_>) -> Result<Report>
     ensures forward { ReadsForward (state input.old) (state input.new) result
         (λ v. Reads report view v result) }
@@ -86,7 +88,7 @@ impl FromPull for Report {
     }
 }
 
-/// A report is read and written by the default bodies, by way of a value; under its tag too.
+/// The default methods read and write a report by way of a value, also under its tag.
 impl CborSerializable for Report {}
 
 impl TaggedCborSerializable for Report {

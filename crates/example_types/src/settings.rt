@@ -18,7 +18,7 @@ use coset_codec::write::{Encode, write_field, write_optional, write_pairs_head, 
 use coset_codec::{Codec, CoseError, Result, TaggedCodec, has_repeats};
 use std::alloc::Global;
 
-/// A label: a number of 64 bits with a sign.
+/// A label: a signed 64-bit number.
 #[derive(Clone, Copy, Debug, PartialEq, Eq, PartialOrd, Ord)]
 pub struct Name(pub i64);
 
@@ -44,7 +44,8 @@ impl Codec for Name {
     }
 }
 
-/// Settings: a level, a name and a limit that may be missing, and all else that the map holds, in order.
+/// Settings: a level, an optional name, an optional limit, and all other pairs of the map, in
+/// order.
 #[derive(Debug, Drop, PartialEq, Eq)]
 pub struct Settings {
     /// Label 1.
@@ -53,11 +54,11 @@ pub struct Settings {
     pub name: Option<Vec<u8>>,
     /// Label 4.
     pub limit: Option<i64>,
-    /// The pairs of other labels.
+    /// The pairs with other labels.
     pub rest: Vec<(Name, Value)>,
 }
 
-/// Settings of which some pairs were read.
+/// Partly read settings.
 #[derive(Drop)]
 struct PartialSettings {
     level: Option<i64>,

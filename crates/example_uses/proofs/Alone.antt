@@ -1,4 +1,4 @@
--- Messages for who knows the key: with a MAC, and encrypted.
+-- Messages with a MAC, and encrypted messages, for receivers that know the key.
 use Rattle.std.proofs.Common.{◌≡◌, ◌∙◌, ℕ, ℤ, List, [], ◌∷◌, Some, None, Ok, Err, Vec, ap, inr, refl, subst}
 use Rattle.std.specs.Prelude.{IfSome}
 use Rattle.std.specs.Global.{Global}
@@ -25,17 +25,17 @@ use Rattle.example_uses.proofs.Unwrapping.{MadeOf}
 
 -- ---- making a MAC
 
--- there is something that is authenticated
+-- A structure exists.
 has_tagged : (n : ℤ) (external_aad payload : List ℕ) → mac0_structure (untagged (assigned n) payload) external_aad payload ≡ None → ⊥
 unfolding partial_header algorithm
 has_tagged n external_aad payload e = absurd (cc)
 
--- and such a message is always written
+-- The message always has an encoding.
 pub mac0-has : (n : ℤ) (payload t : List ℕ) → mac0.image (with_tag t (untagged (assigned n) payload)) ≡ None → ⊥
 unfolding layered_header layered_protected partial_header algorithm
 mac0-has n payload t e = absurd (cc)
 
--- what the closure made of its structure
+-- The MAC that the closure made from the structure.
 pub tagged :
     {F E : Type 0} (g : Maker F E) (f : F) (a : RegisteredName) (external_aad payload : List ℕ) (empty built : Mac0View) → empty ≡ untagged a payload
     → IfSome empty.payload (λ p. Made g f (mac0_structure empty external_aad p) (λ t. built ≡ with_tag t.items empty))
@@ -50,7 +50,7 @@ pub is_mac_alone :
 is_mac_alone g f a x p b empty built is made w =
     let m = tagged g f a x p empty built is made in (m.1.items, subst (λ n. IsWritten mac0 n b) m.4 w, (m.0, m.1, m.2, m.3, refl))
 
--- nothing is made where the closure refuses, or memory runs out
+-- No message is made if the closure refuses, or an allocation fails.
 pub no_mac_alone :
     {F E : Type 0} (g : Maker F E) (f : F) (n : ℤ) (external_aad payload : List ℕ) (empty : Mac0View) → empty ≡ untagged (assigned n) payload
     → (e : CallError E) → IfSome empty.payload (λ p. NotMade g f (mac0_structure empty external_aad p) e)
@@ -59,7 +59,7 @@ no_mac_alone g f n x p empty is (Coset e) tried =
     let t = subst (λ u. IfSome u.payload (λ q. NotMade g f (mac0_structure u x q) (Coset e))) is tried in only_memory e (λ other. has_tagged n x p (t other).1)
 no_mac_alone g f n x p empty is (Caller e) tried = subst (λ u. IfSome u.payload (λ q. NotMade g f (mac0_structure u x q) (Caller e))) is tried
 
--- ---- verifying one
+-- ---- verifying a message
 
 pub not_verified_alone :
     {F E : Type 0} (g : Asker F (Unit {0}) E) (f : F) → WhenRead mac0 (λ m. Authenticates m.protected) → (external_aad b : List ℕ) (absent : E)
@@ -71,12 +71,12 @@ not_verified_alone g f law x b absent m p d carried (Caller e) asked = (m, d, in
 
 -- ---- encrypting
 
--- something goes with the ciphertext
+-- A structure exists.
 has_sealed : (n : ℤ) (iv external_aad : List ℕ) → encrypt0_structure (unsealed (assigned n) iv) external_aad ≡ None → ⊥
 unfolding partial_header algorithm
 has_sealed n iv external_aad e = absurd (cc)
 
--- and such a message is always written
+-- The message always has an encoding.
 pub encrypt0-has : (n : ℤ) (iv c : List ℕ) → encrypt0.image (with_ciphertext c (unsealed (assigned n) iv)) ≡ None → ⊥
 unfolding layered_header layered_protected partial_header algorithm
 encrypt0-has n [] c e = absurd (cc)

@@ -1,4 +1,4 @@
--- A message whose payload is detached.
+-- Messages with a detached payload.
 use Rattle.std.proofs.Common.{◌≡◌, ◌∙◌, ℕ, ℤ, List, Bool, true, false, Option, Some, None, Err, Vec, Global, ap, inl, is_some, option_map, refl, subst}
 use Rattle.std.proofs.Common.{sym, true≢false}
 use Rattle.std.specs.Prelude.{◌≢◌}
@@ -19,7 +19,7 @@ use Rattle.example_uses.proofs.Calls.{Made, NotMade, NotSaid}
 use Rattle.example_uses.proofs.NamedAlgorithm.{has_signed}
 use Rattle.example_uses.proofs.Spellings.{only_memory}
 
--- ---- making one
+-- ---- making a message
 
 pub signed_apart :
     {F E : Type 0} (g : Maker F E) (f : F) (a : RegisteredName) (external_aad payload b : List ℕ) (unsigned built : Sign1View) → unsigned ≡ apart a
@@ -29,7 +29,7 @@ signed_apart g f a x p b unsigned built is m w =
     let s = m.1.items in
     (s, subst (λ n. IsWritten sign1 n b) (m.4 ∙ ap (with_signature s) is) w, (m.0, m.1, subst (λ n. IsStructure (sign1_structure n x p) m.0) is m.2, m.3, refl))
 
--- nothing is made where the closure refuses, or memory runs out
+-- No message is made if the closure refuses, or an allocation fails.
 pub not_signed_apart :
     {F E : Type 0} (g : Maker F E) (f : F) (n : ℤ) (external_aad payload : List ℕ) (unsigned : Sign1View) → unsigned ≡ apart (assigned n)
     → (e : CallError E) → NotMade g f (sign1_structure unsigned external_aad payload) e → SignsApart g f (assigned n) external_aad payload (Err e)
@@ -37,14 +37,14 @@ not_signed_apart g f n x p unsigned is (Coset e) tried =
     only_memory e (λ other. has_signed n p x (subst (λ m. sign1_structure m x p ≡ None) is (tried other).1))
 not_signed_apart g f n x p unsigned is (Caller e) tried = (tried.0, subst (λ m. IsStructure (sign1_structure m x p) tried.0) is tried.1, tried.2)
 
--- such a message is always written
+-- The message always has an encoding.
 pub apart-has : (n : ℤ) (s : List ℕ) → sign1.image (with_signature s (apart (assigned n))) ≡ None → ⊥
 unfolding layered_header layered_protected partial_header algorithm
 apart-has n s e = absurd (cc)
 
--- ---- verifying one
+-- ---- verifying a message
 
--- whether bytes are there, as they are seen
+-- An optional vector that is present has a view that is present.
 pub carries : (o : Option (Vec ℕ Global)) {b : Bool} → b ≡ is_some o → b ≡ true → option_map (λ x. x.items) o ≢ None
 carries None is there none = true≢false (sym there ∙ is)
 carries (Some x) is there none = absurd (cc)

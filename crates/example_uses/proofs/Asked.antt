@@ -1,5 +1,5 @@
--- What keys say that are asked through closures. A clause on a call of a closure is taken apart here: OK says of the
--- calls that succeed, ERR of those that are refused.
+-- The results of keys that are called through closures. A clause about a call of a closure is taken apart here. OK
+-- holds of calls that succeed, ERR of calls that are refused.
 use Rattle.std.proofs.Common.{◌≡◌, ◌↔◌, ◌∙◌, Bool, not, ℕ, List, None, Some, Option, Result, Ok, Err, Vec, Global, ap, false, inl, is_some, option_map, refl}
 use Rattle.std.proofs.Common.{sym, subst, true, true≢false}
 use Rattle.std.specs.Prelude.{IfErr, IfOk, IfSome, IsOk}
@@ -25,7 +25,7 @@ use Rattle.example_uses.specs.declared.cipher.Refused.{Refused}
 use Rattle.example_uses.specs.declared.cipher.Refused.TheVariants.{Rejected}
 use Rattle.example_uses.proofs.Spellings.{LeastIsShortest, ShortestIsInRange, has_structure, is_accepted, only_memory}
 
--- a call at references to s and t; and to t
+-- A call with references to s and t, and one with a reference to t.
 abbrev At : (Bor (List ℕ) → Bor (List ℕ) → Type 0) → List ℕ → List ℕ → Type 0
 At P s t = (p : Bor (List ℕ)) × (q : Bor (List ℕ)) × P p q × (p.now ≡ s) × (q.now ≡ t)
 
@@ -39,14 +39,14 @@ at Q says s t h = subst (λ x. Q x t) h.3 (subst (λ y. Q h.0.now y) h.4 (says h
 at_one : {P : Bor (List ℕ) → Type 0} (Q : List ℕ → Type 0) → ((p : Bor (List ℕ)) → P p → Q p.now) → (t : List ℕ) → AtOne P t → Q t
 at_one Q says t h = subst Q h.2 (says h.0 h.1)
 
--- asked about s and the bytes of a structure, the closure refused; or there was no structure
+-- The closure refused s and the bytes of a structure, or there is no structure.
 abbrev pub Denied : (Bor (List ℕ) → Bor (List ℕ) → Refused → Type 0) → List ℕ → Option Item → CallError Refused → Type 0
 Denied ERR s o (Caller r) = (b : List ℕ) × IsStructure o b × At (λ p q. ERR p q r) s b
 Denied ERR s o (Coset e) = HasNoImage o e
 
 -- ---- a key that verifies
 
--- its answer is a yes exactly where it accepts, and else says that it doesn't
+-- The result is `Ok` exactly if the key accepts. Otherwise it is the error `Rejected`.
 pub record Judges (accepts : List ℕ → List ℕ → Type 0) (s t : List ℕ) (r : Result (Unit {0}) Refused) : Type 0 where
   pub accepted : IsOk r ↔ accepts t s
   pub refused : IfErr r (λ e. e ≡ Rejected)
@@ -58,14 +58,14 @@ pub accepted :
 accepted accepts s o asked says = (asked.0, asked.1, (at (λ x y. Judges accepts x y (Ok tt)) says s asked.0 asked.2).accepted.0 refl)
 
 module _ (ERR : Bor (List ℕ) → Bor (List ℕ) → Refused → Type 0) (accepts : List ℕ → List ℕ → Type 0) where
-  -- each refusal of the closure is the key's
+  -- Each refusal of the closure is one of the key.
   abbrev pub Refuses : Type 0
   Refuses = (p q : Bor (List ℕ)) (r : Refused) → ERR p q r → Judges accepts p.now q.now (Err r)
 
   judged : Refuses → (s t : List ℕ) (r : Refused) → At (λ p q. ERR p q r) s t → Judges accepts s t (Err r)
   judged says s t r h = at (λ x y. Judges accepts x y (Err r)) (λ p q k. says p q r k) s t h
 
-  -- why a message that was read isn't verified
+  -- Why a message that was read isn't verified.
   pub not_verified :
       ((external_aad payload : List ℕ) → WhenRead sign1 (λ m. sign1_structure m external_aad payload ≡ None → ⊥))
       → (external_aad b : List ℕ) (m : Sign1View) (e : CallError Refused) → Describes sign1 b m → Denied ERR m.signature (sign1_carried m external_aad) e
@@ -75,7 +75,7 @@ module _ (ERR : Bor (List ℕ) → Bor (List ℕ) → Refused → Type 0) (accep
       let no = judged says m.signature asked.0 r asked.2 in
       (m, asked.0, d, asked.1, (λ h. true≢false (sym (no.accepted.1 h))), no.refused)
 
-  -- and one that was sent is refused for memory alone
+  -- A message that was sent is refused only with `OutOfMemory`.
   pub memory_alone :
       ShortestIsInRange → LeastIsShortest → {a payload b : List ℕ} (sent : IsSent accepts a payload b) (n : Sign1View) → CarriesSame n sent.message
       → (e : CallError Refused) → Denied ERR n.signature (sign1_carried n a) e → Refuses → e ≡ Coset OutOfMemory
@@ -90,7 +90,7 @@ pub record Signs (signs : List ℕ → List ℕ → Type 0) (refuses : List ℕ 
   pub refused : IfErr r (λ e. refuses t e)
 
 module _ (signs : List ℕ → List ℕ → Type 0) (refuses : List ℕ → Refused → Type 0) where
-  -- the signature that was made, and of what
+  -- The signature that was made, and the bytes that it signs.
   pub made :
       {OK : Bor (List ℕ) → Vec ℕ Global → Type 0} (o : Option Item) (stores : Vec ℕ Global → Type 0)
       → ((b : List ℕ) × (s : Vec ℕ Global) × IsStructure o b × AtOne (λ p. OK p s) b × stores s)
@@ -98,12 +98,12 @@ module _ (signs : List ℕ → List ℕ → Type 0) (refuses : List ℕ → Refu
       → (s : Vec ℕ Global) × stores s × ((t : List ℕ) × IsStructure o t × signs t s.items)
   made o stores h says = (h.1, h.4, (h.0, h.2, (at_one (λ x. Signs signs refuses x (Ok h.1)) (λ p k. says p h.1 k) h.0 h.3).signed))
 
-  -- the closure refused, or there was nothing to sign
+  -- The closure refused, or there is no structure.
   abbrev pub DeniedOne : (Bor (List ℕ) → Refused → Type 0) → Option Item → CallError Refused → Type 0
   DeniedOne ERR o (Caller r) = (b : List ℕ) × IsStructure o b × AtOne (λ p. ERR p r) b
   DeniedOne ERR o (Coset e) = HasNoImage o e
 
-  -- why a message isn't signed
+  -- Why a message isn't signed.
   pub not_signed :
       {ERR : Bor (List ℕ) → Refused → Type 0} (external_aad : List ℕ) (h : HeaderView) (payload : List ℕ) (m : Sign1View) → m ≡ unsigned h payload
       → (e : CallError Refused)
@@ -123,7 +123,7 @@ pub record Opens (decrypts : List ℕ → List ℕ → List ℕ → Type 0) (ref
   pub decrypted : IfOk r (λ p. decrypts c t p.items)
   pub refused : IfErr r (λ e. refuses c t e)
 
--- bytes that may be there, as they are seen
+-- An optional vector that is absent has a view that is absent.
 pub missing : (o : Option (Vec ℕ Global)) (b : Bool) → is_some o ≡ not b → b ≡ true → option_map (λ x. x.items) o ≡ None
 missing None b h e = refl
 missing (Some x) b h e = absurd (true≢false (h ∙ ap not e))
@@ -132,12 +132,12 @@ pub there : (o : Option (Vec ℕ Global)) (b : Bool) → is_some o ≡ not b →
 there None b h e none = true≢false (sym (h ∙ ap not e))
 there (Some x) b h e none = absurd (cc)
 
--- there is something that goes with the ciphertext of a message that was read
+-- A message that was read always has a structure.
 abbrev pub EncryptsWhenRead : Type 0
 EncryptsWhenRead = WhenRead encrypt0 (λ m. Encrypts m.protected)
 
 module _ (decrypts : List ℕ → List ℕ → List ℕ → Type 0) (refuses : List ℕ → List ℕ → Refused → Type 0) where
-  -- the plaintext that was made, of which ciphertext, and what went with it
+  -- The plaintext that was made, with its ciphertext and structure.
   opened :
       (OK : Bor (List ℕ) → Bor (List ℕ) → Type 0) (o : Option (List ℕ)) (structure : Option Item) (x : Vec ℕ Global) → (o ≡ None → ⊥)
       → IfSome o (λ c. (b : List ℕ) × IsStructure structure b × At OK c b) → ((p q : Bor (List ℕ)) → OK p q → Opens decrypts refuses p.now q.now (Ok x))
@@ -161,7 +161,7 @@ module _ (decrypts : List ℕ → List ℕ → List ℕ → Type 0) (refuses : L
   no_data ERR None structure e there asked = absurd (there refl)
   no_data ERR (Some c) structure e there asked = asked
 
-  -- what is returned of a message that was read and carries a ciphertext
+  -- The result for a message that was read and has a ciphertext.
   pub is_decrypted :
       {OK : Bor (List ℕ) → Bor (List ℕ) → Type 0} (external_aad b : List ℕ) (m : Encrypt0View) (x : Vec ℕ Global) → Describes encrypt0 b m
       → (m.ciphertext ≡ None → ⊥)
@@ -181,7 +181,7 @@ module _ (decrypts : List ℕ → List ℕ → List ℕ → Type 0) (refuses : L
       λ other. absurd (law d.0 m d.2 CoseEncrypt0 a (no_data ERR m.ciphertext (encrypt0_structure m a) e there asked other).1)
   not_decrypted ERR law a b m (Caller r) d there asked says = (m, d, not_opened ERR m.ciphertext (encrypt0_structure m a) r there asked says)
 
--- nor is one that carries none
+-- The error for a message without a ciphertext.
 pub none_decrypted :
     (refuses : List ℕ → List ℕ → Refused → Type 0) (external_aad b : List ℕ) (m : Encrypt0View) → Describes encrypt0 b m → m.ciphertext ≡ None
     → IsNotDecrypted refuses external_aad b (Caller Rejected)

@@ -1,4 +1,4 @@
--- Attestation tokens: what the gate returns of them is passed on, and submodules are found.
+-- Attestation tokens: the gate's results are passed on, and submodules are found.
 use Rattle.std.specs.Prelude.{IsErrAnd}
 use Rattle.std.specs.List.{find}
 use Rattle.std.proofs.Common.{◌≡◌, ◌∙◌, ℕ, ℤ, List, [], ◌∷◌, Option, Some, Result, Ok, Err, ap, cond, option_map, refl, subst, sym}
@@ -18,7 +18,7 @@ use Rattle.example_uses.specs.declared.attestation.NotAttested.{NotAttested}
 use Rattle.example_uses.specs.declared.attestation.NotAttested.TheVariants.{Refused}
 use Rattle.example_uses.proofs.Found.{cond-map}
 
--- why the gate refuses a token is why it is no attestation
+-- The gate's reason against a token is the reason why it is no attestation.
 pub refused :
     {E : Type 0} (k : KeysView E) (nonce : List ℕ) (now : ℤ) (b : List ℕ) (r : Result KnownClaims (NotAttested E)) (e : PolicyError E)
     → IsErrAnd r (λ x. x ≡ Refused e) → JudgesWith k attestation_policy now b (Err e)
@@ -26,14 +26,14 @@ pub refused :
 refused k nonce now b (Ok x) e is h = absurd is
 refused k nonce now b (Err x) e is h = subst (λ y. JudgesAttestation k nonce now b (Err y)) (sym is) h
 
--- where there is no memory for a copy of the submodule
+-- An allocation for a copy of the submodule failed.
 pub no_memory :
     (name : List ℕ) (c : ClaimsView) (v : Item) (r : Result (Option ClaimsSet) CoseError) → IsErrAnd r (λ x. x ≡ OutOfMemory)
     → submodule_of name c ≡ Some v → ReadsSubmodule name c r
 no_memory name c v (Ok x) is found = absurd is
 no_memory name c v (Err e) is found = (v, found, λ n. absurd (n is))
 
--- what is under a text is found as the code looks for it
+-- The value under a text is the one that the code's `find` returns.
 pub held-find :
     (name : List ℕ) (ps : List (Value × Value))
     → held_under name (value_pairs ps) ≡ option_map (λ p. value_item p.1) (find (λ p. is_text name (value_item p.0)) ps)

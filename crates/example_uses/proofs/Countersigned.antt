@@ -1,4 +1,4 @@
--- Countersignatures in a message, and what they are over.
+-- Countersignatures in a message, and their structures.
 use Rattle.std.proofs.Common.{◌≡◌, ◌∙◌, ℕ, List, [], ◌∷◌, Option, Some, None, Err, map, option_map, ap, inl, inr, refl, subst, sym}
 use Rattle.std.specs.Borrow.{Bor}
 use Rattle.coset_codec.specs.Answers.{Describes}
@@ -26,9 +26,9 @@ pub listed : (ss : List SignatureView) → each_of (signatures_of ss) ≡ ss
 listed [] = refl
 listed (s ∷ ss) = ap (λ ts. s ∷ ts) (listed ss)
 
--- ---- what they are over
+-- ---- their structures
 
--- each countersignature in a message that was read is over something
+-- Each countersignature in a message that was read has a structure.
 abbrev pub AlwaysCountersigned : Type 0
 AlwaysCountersigned = WhenRead sign1 (λ m. EachCountersigns m.protected m.unprotected)
 
@@ -40,30 +40,30 @@ has_countersigned law b m d key_id c found x p =
     let own = of_found (is_by key_id) (λ s. countersigning.Countersigns m.protected s.protected) (each_of (countersignatures_in m.unprotected)) c each found in
     own.second_version x p (m.signature ∷ [])
 
--- what is made of parts that are the message's and the countersignature's
+-- The structure of parts that are those of the message and of the countersignature.
 pub same_structure :
     (m : Sign1View) (c : SignatureView) (external_aad : List ℕ) (body own : ProtectedView) (given p : List ℕ) (others : List (List ℕ))
     → body ≡ m.protected → own ≡ c.protected → given ≡ p → others ≡ m.signature ∷ []
     → countersigned_item body (Some own) external_aad given others ≡ countersigned m c external_aad p
 same_structure m c x body own given p others b o g r = λ i. countersigned_item (b i) (Some (o i)) x (g i) (r i)
 
--- ---- making one
+-- ---- making a countersignature
 
--- what the closure made is kept as a countersignature with the headers of c
+-- The result if the closure made no countersignature with the headers of c.
 pub not_countersigned :
     {F E : Type 0} (g : Maker F E) (f : F) (m : Sign1View) (c : SignatureView) (external_aad b : List ℕ) → Describes sign1 b m → (e : CallError E)
     → MakesCountersignature g f m c external_aad (Err e) → Countersigns g f c external_aad b (Err e)
 not_countersigned g f m c x b d (Coset e) none = inr (m, [], d, inl none)
 not_countersigned g f m c x b d (Caller e) refused = (m, d, refused)
 
--- ---- verifying one
+-- ---- verifying a countersignature
 
--- those that are in a header
+-- The countersignatures in a header.
 pub held : (h : Header) → each_of (countersignatures_in (header_view h)) ≡ map countersignature_view (out-Header h).countersignatures_v2.items
 held h =
     ap (λ x. each_of (countersignatures_in x)) (header-opened h) ∙ listed (map countersignature_view (out-Header h).countersignatures_v2.items)
 
--- the first of them that names the key
+-- The first of them that names the key.
 pub sought :
     (key_id : List ℕ) (h : Header) (o : Option (Bor CoseCountersignature)) (given : List CoseCountersignature)
     → given ≡ (out-Header h).countersignatures_v2.items

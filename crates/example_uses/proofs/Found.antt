@@ -1,4 +1,4 @@
--- The first of a list that passes a test, in a list that was mapped.
+-- The first element of a list that passes a test, and of a mapped list.
 use Rattle.std.proofs.Common.{◌≡◌, List, [], ◌∷◌, Option, Some, None, Bool, true, false, refl, ap, ◌∙◌}
 use Rattle.std.specs.Prelude.{map, option_map, cond}
 use Rattle.std.specs.List.{find}
@@ -12,7 +12,7 @@ pub find-map : {A B : Type 0} (f : A → B) (p : B → Bool) (xs : List A) → f
 find-map f p [] = refl
 find-map f p (x ∷ xs) = ap (cond (p (f x)) (Some (f x))) (find-map f p xs) ∙ cond-map f (p (f x)) x (find (λ y. p (f y)) xs)
 
--- what is seen of what is lent
+-- The view of a borrowed value.
 pub view_lent : {A B : Type 0} (f : A → B) (r : Option (Bor A)) → option_map (λ x. f x.now) r ≡ option_map f (option_map (λ x. x.now) r)
 view_lent f None = refl
 view_lent f (Some x) = refl

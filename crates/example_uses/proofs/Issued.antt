@@ -1,4 +1,4 @@
--- Why a message that is to be sent isn't, and a token of claims.
+-- Why a message isn't sent, and a token of claims isn't issued.
 use Rattle.std.proofs.Common.{◌≡◌, ℕ, ℤ, List, [], ◌∷◌, ◌++◌, Option, Some, None, Result, Ok, Err, true, option_map, refl, subst, inl, inr}
 use Rattle.std.specs.Prelude.{IfErr}
 use Rattle.coset_value.specs.Item.{Item, Items, array, bytes, dict, item}
@@ -23,14 +23,14 @@ use Rattle.example_uses.specs.declared.cipher.Refused.{Refused}
 use Rattle.example_uses.proofs.NamedAlgorithm.{IsAlgorithm, has_signed, is_read}
 use Rattle.example_uses.proofs.Spellings.{only_memory}
 
--- ---- a message without an item
+-- ---- a message without an image
 
 unwritten : {A : Type 0} (f : List ℕ → A) (o : Option (List ℕ)) (vs : Items) → option_map array (both item (option_map bytes o) (Some vs)) ≡ None
     → option_map f o ≡ None
 unwritten f None vs e = refl
 unwritten f (Some b) vs e = absurd (cc)
 
--- nothing is signed of a message that isn't written
+-- A message without an image has no structure either.
 pub unsigned_unwritten : (h : HeaderView) (payload s external_aad : List ℕ) → sign1.image (with_signature s (unsigned h payload)) ≡ None
     → sign1_carried (unsigned h payload) external_aad ≡ None
 unfolding layered_protected layered_header partial_header
@@ -87,7 +87,7 @@ claims-have c e = entries-have c.rest (fields.image (parts_of c).0) (fields-have
 
 -- ---- a token
 
--- why a message whose header names an algorithm isn't sent
+-- Why a message isn't sent, if its header names an algorithm.
 not_issued :
     (refuses : List ℕ → Refused → Type 0) (external_aad payload : List ℕ) (n : ℤ) → IsAlgorithm n → (c : ClaimsView) → IsWritten claims c payload
     → (e : CallError Refused)

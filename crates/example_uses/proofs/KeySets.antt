@@ -22,7 +22,7 @@ use Rattle.coset_key.specs.Keys.{KeyView, key}
 use Rattle.example_uses.specs.KeySets.{IsHeldOf}
 use Rattle.example_uses.proofs.Spellings.{only_memory}
 
--- each is a key that was read
+-- Each key was read.
 abbrev pub AreRead : List KeyView → Type 0
 AreRead ks = (k : KeyView) → Contains ks k → (v : Item) × key.describes v k × (depth v ≤ 255)
 
@@ -32,7 +32,7 @@ first k ks r = r k (0, omega arith, refl)
 others : (k : KeyView) (ks : List KeyView) → AreRead (k ∷ ks) → AreRead ks
 others k ks r = λ x m. r x (Contains-append_right (k ∷ []) ks x m)
 
--- what is held of the keys of two sets is the same exactly where they agree one by one
+-- The stored bytes of two sets are the same exactly if their keys agree one by one.
 pub each_apart :
     (o : CborOrdering) → CanonicalApart o → (ks ls : List KeyView) (bs cs : List (List ℕ)) → AreRead ks → AreRead ls
     → EachWith (IsHeldOf o) ks bs → EachWith (IsHeldOf o) ls cs → (bs ≡ cs) ↔ EachWith AgreeButForOrder ks ls
@@ -54,7 +54,7 @@ each_apart o apart (k ∷ ks) (l ∷ ls) (b ∷ bs) [] r s h j = absurd j
 each_apart o apart [] ls (b ∷ bs) cs r s h j = absurd h
 each_apart o apart (k ∷ ks) ls [] cs r s h j = absurd h
 
--- a relation of what is seen of the elements
+-- A relation of the views of elements.
 pub each-mapped :
     {A B C D : Type 0} (R : C → D → Type 0) (f : A → C) (g : B → D) (xs : List A) (ys : List B) → EachWith (λ x y. R (f x) (g y)) xs ys
     → EachWith R (map f xs) (map g ys)
@@ -63,7 +63,7 @@ each-mapped R f g (x ∷ xs) (y ∷ ys) h = (h.0, each-mapped R f g xs ys h.1)
 each-mapped R f g [] (y ∷ ys) h = absurd h
 each-mapped R f g (x ∷ xs) [] h = absurd h
 
--- an element of a list is seen among what is seen of all
+-- The view of an element is among the views of the list.
 pub is_among : {A B : Type 0} (f : A → B) (ys zs xs : List A) (x : A) → ys ++ x ∷ zs ≡ xs → Contains (map f xs) (f x)
 is_among f ys zs xs x e = subst (λ us. Contains (map f us) (f x)) e (stands ys)
   where
@@ -71,18 +71,18 @@ is_among f ys zs xs x e = subst (λ us. Contains (map f us) (f x)) e (stands ys)
     stands [] = (0, omega arith, refl)
     stands (u ∷ us) = Contains-append_right (f u ∷ []) (map f (us ++ x ∷ zs)) (f x) (stands us)
 
--- a loop over a list that is at its end
+-- A loop over a list has reached the end.
 pub all_yielded : {A : Type 0} (ys old all : List A) → ys ++ old ≡ all → length old ≡ 0 → ys ≡ all
 all_yielded ys [] all parts none = sym (append-nil ys) ∙ parts
 all_yielded ys (x ∷ old) all parts none = absurd (omega (arith, none))
 
--- what was read is refused to be written for memory alone
+-- A key that was read fails to be written only with `OutOfMemory`.
 pub written_unless_memory :
     (x : KeyView) (r : Result (Vec ℕ Global) CoseError) → ReadsAgain key x → Writes (key.image x) (λ b. b.items) r → IfErr r (λ e. e ≡ OutOfMemory)
 written_unless_memory x (Ok b) a w = tt
 written_unless_memory x (Err e) a w = only_memory e (λ n. some-none a.1 (w n).1)
 
--- a key of those that were read is refused for memory alone, and that is passed on
+-- A key of these fails only with `OutOfMemory`, and the error is passed on.
 module _ {A : Type 0} (view : A → KeyView) (ks : List A) (read : AreRead (map view ks)) where
   pub refused_for_memory :
       {T : Type 0} (ys old new : List A) (x : A) (r : Result T CoseError) (e : CoseError) (stands : CoseError → Type 0) → ys ++ old ≡ ks → old ≡ x ∷ new
@@ -93,7 +93,7 @@ module _ {A : Type 0} (view : A → KeyView) (ks : List A) (read : AreRead (map 
       let d = read (view x) (is_among view ys new ks x q) in
       λ n. absurd (n (is ∙ only d.0 d.1 (omega (arith, d.2))))
 
--- `==` of what two stores hold
+-- `==` of the bytes of two stores.
 pub are_same :
     (one other : List (Vec ℕ Global)) (b : Bool) → b ≡ pointwise (λ c d. bytes_eq c.items d.items) one other
     → Decides b (map (λ c. c.items) one ≡ map (λ c. c.items) other)

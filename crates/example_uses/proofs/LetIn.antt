@@ -1,4 +1,4 @@
--- What is known of a token that is let in.
+-- Facts about a token that is let in.
 use Rattle.std.specs.Prelude.{IfOk, not}
 use Rattle.std.specs.Cmp.Lexicographic.{bytes_decides}
 use Rattle.std.proofs.Common.{◌≡◌, ◌∷◌, ℕ, ℤ, List, [], Bool, Option, Some, None, Result, Ok, Err, ap, refl, sym, true, false, true≢false}
@@ -10,7 +10,7 @@ use Rattle.cwt_gate.specs.Policy.{first_true, is_meant, reasons}
 use Rattle.cwt_gate.specs.declared.error.PolicyError.{PolicyError}
 use Rattle.example_uses.specs.LetIn.{IsLetIn, policy_of}
 
--- none is true
+-- No test is true.
 abbrev AreFalse : {A : Type 0} → List (Bool × A) → Type 0
 AreFalse [] = Unit {0}
 AreFalse ((b, x) ∷ xs) = (b ≡ false) × AreFalse xs
@@ -24,12 +24,12 @@ not-false : (b : Bool) → not b ≡ false → b ≡ true
 not-false true e = refl
 not-false false e = absurd (true≢false e)
 
--- who asks for an audience is named by the claims
+-- If the policy has an audience, the claims name it.
 meant : (a : List ℕ) (named : Option (List ℕ)) → is_meant (Some a) named ≡ true → named ≡ Some a
 meant a None e = absurd (true≢false (sym e))
 meant a (Some b) e = ap Some (sym ((bytes_decides a b).0 e))
 
--- what the gate lets in, by this policy
+-- The claims that the gate lets in by this policy.
 pub known :
     {E : Type 0} (k : KeysView E) (audience : List ℕ) (now : ℤ) (b : List ℕ) (r : Result KnownClaims (PolicyError E))
     → JudgesWith k (policy_of audience) now b r

@@ -1,5 +1,4 @@
--- A message whose protected header names an algorithm that IANA assigned, and nothing else: it is signed, written, and read
--- again.
+-- A message whose protected header has an assigned algorithm, and nothing else. It is signed, written, and read again.
 use Rattle.std.proofs.Common.{◌≡◌, ◌≤◌, ℕ, ℤ, pos, List, [], ◌∷◌, Some, None, true, refl, subst, arith, inl}
 use Rattle.std.specs.Prelude.{FitsSigned, is_some}
 use Rattle.std.specs.Int.{w64}
@@ -25,7 +24,7 @@ use Rattle.coset_core.specs.Headers.{HeaderView, empty_header, header, layered_h
 use Rattle.coset_sign.specs.Sign1.{Sign1View, sign1, sign1_carried, with_signature}
 use Rattle.example_uses.specs.Refusals.{unsigned}
 
--- the number of an algorithm
+-- The number of an algorithm.
 pub record IsAlgorithm (n : ℤ) : Type 0 where
   pub known : is_some (first_numbered algorithms.number ALGORITHMS n) ≡ true
   pub fits : FitsSigned w64 n
@@ -97,14 +96,14 @@ empty_described = (
 
 -- ---- the message
 
--- the bytes that represent its protected header
+-- The bytes that represent the protected header.
 abbrev naming_bytes : ℤ → List ℕ
 naming_bytes n = least_encoding (naming_item n)
 
 abbrev message_item : ℤ → List ℕ → List ℕ → Item
 message_item n payload s = array (item (bytes (naming_bytes n)) (item (dict no_pairs) (item (bytes payload) (item (bytes s) no_items))))
 
--- the message that is read
+-- The message that is read.
 abbrev received : ℤ → List ℕ → List ℕ → Sign1View
 received n payload s = record {
   protected = record { original = Some (naming_bytes n); header = naming n };
@@ -131,7 +130,7 @@ protected_described n is = (naming_bytes n, refl, refl, (naming_item n, bytes_ar
 message_described : (n : ℤ) → IsAlgorithm n → (payload s : List ℕ) → sign1.describes (message_item n payload s) (received n payload s)
 message_described n is payload s = (_, refl, (protected_described n is, (empty_described, ((refl, refl), (refl, tt)))))
 
--- what is written of it is read
+-- The encoding of the message is read as that message.
 pub is_read : (n : ℤ) → IsAlgorithm n → (payload s b : List ℕ) → IsWritten sign1 (with_signature s (unsigned (naming n) payload)) b
     → Describes sign1 b (received n payload s)
 is_read n is payload s b w =
@@ -142,7 +141,7 @@ is_read n is payload s b w =
       subst (λ v. sign1.describes v (received n payload s)) same (message_described n is payload s),
     )
 
--- there is something that is signed
+-- A structure exists.
 pub has_signed : (n : ℤ) (payload external_aad : List ℕ) → sign1_carried (unsigned (naming n) payload) external_aad ≡ None → ⊥
 unfolding partial_header algorithm
 has_signed n payload external_aad e = absurd (cc)

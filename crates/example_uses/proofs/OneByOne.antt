@@ -1,4 +1,4 @@
--- Items read one after the other.
+-- Reading items one after another.
 use Rattle.std.proofs.Common.{◌≡◌, ◌∙◌, map, ℕ, List, [], ◌∷◌, ◌++◌, append_assoc, append-nil, ap, length, refl, subst, sym, arith}
 use Rattle.std.proofs.lemmas.List.{map-append}
 use Rattle.coset_value.specs.Item.{Item}
@@ -7,7 +7,7 @@ use Rattle.coset_value.specs.declared.value.Value.{Value}
 use Rattle.coset_cbor.specs.Grammar.{IsItem}
 use Rattle.example_uses.specs.Sequence.{IsSequence}
 
--- some items are read, and what is left follows them: whatever sequence that is, all is one
+-- Some items were read. Whatever sequence the remaining bytes are, all bytes together are one.
 abbrev pub GoesOn : List ℕ → List Item → List ℕ → Type 0
 GoesOn all vs left = (ws : List Item) → IsSequence ws left → IsSequence (vs ++ ws) all
 

@@ -1,4 +1,4 @@
--- What a header holds, as the code sees it and as contracts do; and tests of lists that were mapped.
+-- Parts of a header, in the code and in contracts; and tests of mapped lists.
 use Rattle.std.proofs.Common.{◌≡◌, List, [], ◌∷◌, ◌||◌, ◌&&◌, Bool, map, refl, ap}
 use Rattle.std.specs.List.{list_any, list_all}
 use Rattle.coset_core.specs.FieldViews.{fields_view}

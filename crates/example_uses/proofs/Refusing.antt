@@ -1,4 +1,4 @@
--- Errors that are passed on, and calls that refuse for memory alone.
+-- Errors that are passed on, and calls that fail only with `OutOfMemory`.
 use Rattle.std.proofs.Common.{◌≡◌, ℕ, List, Option, None, Result, Ok, Err, inl, inr, sym, subst}
 use Rattle.std.specs.Prelude.{IfErr, IsErrAnd}
 use Rattle.std.specs.Borrow.{Bor}
@@ -14,29 +14,29 @@ use Rattle.example_uses.specs.Exchange.{IsVerified}
 use Rattle.example_uses.specs.Refusals.{AreNotVerified, HoldsNoClaims, IsNotVerified}
 use Rattle.example_uses.specs.declared.cipher.Refused.{Refused}
 
--- what holds of an error holds of it where it is skipped on
+-- A property of an error holds after the error is passed on.
 pub passed : {T E : Type 0} (P : E → Type 0) (e : E) (r : Result T E) → IsErrAnd r (λ x. x ≡ e) → P e → IfErr r P
 passed P e (Ok x) is h = absurd is
 passed P e (Err x) is h = subst P (sym is) h
 
--- and of a result that it is
+-- So does a property of a result that is the error.
 pub passed_as : {T E : Type 0} (P : Result T E → Type 0) (e : E) (r : Result T E) → IsErrAnd r (λ x. x ≡ e) → P (Err e) → P r
 passed_as P e (Ok x) is h = absurd is
 passed_as P e (Err x) is h = subst (λ y. P (Err y)) (sym is) h
 
--- what always has an item is written, unless memory runs out
+-- A value that always has an image is written, unless an allocation fails.
 pub written : {V : Type 0} (P : CoseError → Type 0) (o : Option Item) (bytes_of : V → List ℕ) (r : Result V CoseError) → (o ≡ None → ⊥) → Writes o bytes_of r
     → IfErr r (λ e. UnlessMemory e P)
 written P o bytes_of (Ok b) has w = tt
 written P o bytes_of (Err e) has w = λ other. absurd (has (w other).1)
 
--- claims of what isn't verified aren't either
+-- If a message isn't verified, it has no verified claims.
 pub none_verified : (accepts : List ℕ → List ℕ → Type 0) (external_aad b : List ℕ) (e : CallError Refused) → IsNotVerified accepts external_aad b e
     → AreNotVerified accepts external_aad b e
 none_verified accepts a b (Coset e) h = inl h
 none_verified accepts a b (Caller r) h = h
 
--- nor are those of a message that is verified and carries no payload
+-- A verified message without a payload has no verified claims either.
 pub no_payload :
     (accepts : List ℕ → List ℕ → Type 0) (external_aad b : List ℕ) (m : Sign1View) (got want : Bor (List ℕ)) → IsVerified accepts external_aad b m
     → m.payload ≡ None

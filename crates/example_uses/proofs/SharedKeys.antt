@@ -1,4 +1,4 @@
--- A message with a MAC by a key that is shared.
+-- Messages with a MAC by a shared key.
 use Rattle.std.proofs.Common.{◌≡◌, ℕ, ℤ, List, [], ◌∷◌, Some, None, Err, inr, refl, subst, true}
 use Rattle.std.specs.List.{list_any}
 use Rattle.std.specs.Prelude.{IfSome}
@@ -20,9 +20,9 @@ use Rattle.example_uses.specs.SharedKey.{IsMacFor, MacsFor, VerifiesFor, is_dire
 use Rattle.example_uses.proofs.Calls.{Made, NotMade, NotSaid}
 use Rattle.example_uses.proofs.Spellings.{only_memory}
 
--- ---- making one
+-- ---- making a message
 
--- what the closure made of its structure
+-- The MAC that the closure made from the structure.
 pub tagged :
     {F E : Type 0} (g : Maker F E) (f : F) (a : RegisteredName) (key_id external_aad payload : List ℕ) (untagged built : MacView)
     → untagged ≡ shared_with a key_id payload
@@ -39,18 +39,18 @@ pub is_mac_for :
 is_mac_for g f a k x p b untagged built is made w =
     let m = tagged g f a k x p untagged built is made in (m.1.items, subst (λ n. IsWritten mac n b) m.4 w, (m.0, m.1, m.2, m.3, refl))
 
--- there is something that is authenticated
+-- A structure exists.
 has_tagged : (n : ℤ) (key_id external_aad payload : List ℕ) → mac_structure_of (shared_with (assigned n) key_id payload) external_aad payload ≡ None → ⊥
 unfolding partial_header algorithm
 has_tagged n key_id external_aad payload e = absurd (cc)
 
--- and such a message is always written
+-- The message always has an encoding.
 pub mac-has : (n : ℤ) (key_id payload t : List ℕ) → mac.image (with_tag t (shared_with (assigned n) key_id payload)) ≡ None → ⊥
 unfolding layered_header layered_protected partial_header algorithm recipient
 mac-has n [] payload t e = absurd (cc)
 mac-has n (c ∷ key_id) payload t e = absurd (cc)
 
--- nothing is made where the closure refuses, or memory runs out
+-- No message is made if the closure refuses, or an allocation fails.
 pub no_mac_for :
     {F E : Type 0} (g : Maker F E) (f : F) (n : ℤ) (key_id external_aad payload : List ℕ) (untagged : MacView)
     → untagged ≡ shared_with (assigned n) key_id payload → (e : CallError E)
@@ -62,7 +62,7 @@ no_mac_for g f n k x p untagged is (Coset e) tried =
 no_mac_for g f n k x p untagged is (Caller e) tried =
     subst (λ u. IfSome u.payload (λ q. NotMade g f (mac_structure_of u x q) (Caller e))) is tried
 
--- ---- verifying one
+-- ---- verifying a message
 
 pub not_verified_for :
     {F E : Type 0} (g : Asker F (Unit {0}) E) (f : F) → WhenRead mac Macs → (key_id external_aad b : List ℕ) (absent : E) (m : MacView) (p : List ℕ)

@@ -1,4 +1,4 @@
--- A message that two sign, and the signature that names a key.
+-- Messages with two signers, and the signature that names a key.
 use Rattle.std.proofs.Common.{◌≡◌, ◌∙◌, ◌+◌, ◌<◌, ℕ, suc, List, [], ◌∷◌, Bool, true, false, cond, Some, None, Err, map, length}
 use Rattle.std.proofs.Common.{ap, arith, inl, inr, refl, subst}
 use Rattle.std.specs.List.{find, position_from, slice_get}
@@ -40,7 +40,7 @@ module _ {F H E : Type 0} (g : Maker F E) (f : F) (k : Maker H E) (h : H) (exter
         (n.0, n.1, subst (λ o. IsStructure (signer_carried o second external_aad) n.0) one n.2, n.3, refl),
       )
 
-  -- the first refuses, or there is nothing for it to sign
+  -- The first signer refuses, or has no structure.
   pub first_refused :
       (unsigned : SignView) → unsigned ≡ signed_by payload [] → (e : CallError E) → NotMade g f (signer_carried unsigned first external_aad) e
       → SignsByTwo g f k h external_aad payload first second (Err e)
@@ -48,7 +48,7 @@ module _ {F H E : Type 0} (g : Maker F E) (f : F) (k : Maker H E) (h : H) (exter
   first_refused unsigned is (Caller e) tried =
       inl (tried.0, subst (λ m. IsStructure (signer_carried m first external_aad) tried.0) is tried.1, tried.2)
 
-  -- the second does
+  -- The second signer does.
   pub second_refused :
       (unsigned once : SignView) (s : List ℕ) → unsigned ≡ signed_by payload [] → once ≡ and_signature (signed_with s first) unsigned
       → (e : CallError E) → NotMade k h (signer_carried once second external_aad) e → SignsByTwo g f k h external_aad payload first second (Err e)
@@ -59,7 +59,7 @@ module _ {F H E : Type 0} (g : Maker F E) (f : F) (k : Maker H E) (h : H) (exter
       let one : once ≡ signed_by payload (signed_with s first ∷ []) = made ∙ ap (and_signature (signed_with s first)) is in
       inr (tried.0, subst (λ m. IsStructure (signer_carried m second external_aad) tried.0) one tried.1, tried.2)
 
--- the message that both signed
+-- The message with both signatures.
 pub both_signed :
     (payload s t : List ℕ) (first second : SignatureView) (unsigned once twice : SignView) → unsigned ≡ signed_by payload []
     → once ≡ and_signature (signed_with s first) unsigned → twice ≡ and_signature (signed_with t second) once
@@ -67,7 +67,7 @@ pub both_signed :
 both_signed payload s t first second unsigned once twice is one two =
     two ∙ ap (λ m. and_signature (signed_with t second) m) (one ∙ ap (and_signature (signed_with s first)) is)
 
--- ---- the first of a list that passes a test, and its number
+-- ---- the first element of a list that passes a test, and its index
 
 module _ {A : Type 0} (test : A → Bool) where
   abbrev IsAt : List A → ℕ → ℕ → Type 0
@@ -105,7 +105,7 @@ module _ {A : Type 0} (test : A → Bool) where
   of_first P true y ys x first later e = subst P (some-one refl e) first
   of_first P false y ys x first later e = later e
 
-  -- what holds of each holds of the one that is found
+  -- A property of every element holds of the one that is found.
   pub of_found : (P : A → Type 0) (xs : List A) (x : A) → EachHas P xs → find test xs ≡ Some x → P x
   of_found P [] x each e = absurd (cc)
   of_found P (y ∷ ys) x each e = of_first P (test y) y ys x each.0 (of_found P ys x each.1) e
@@ -114,7 +114,7 @@ pub position-map : {A B : Type 0} (f : A → B) (test : B → Bool) (i : ℕ) (x
 position-map f test i [] = refl
 position-map f test i (x ∷ xs) = ap (cond (test (f x)) (Some i)) (position-map f test (i + 1) xs)
 
--- a number at which there is something
+-- An index of an element is less than the length.
 pub within : {A B : Type 0} (f : A → B) (xs : List A) (i : ℕ) (y : B) → slice_get (map f xs) i ≡ Some y → i < length xs
 within f xs i y e =
     let inside = slice_get_within (map f xs) i y e in

@@ -1,4 +1,4 @@
--- A token that was sent, and arrives in another spelling.
+-- A token that arrives in another spelling than the one that was sent.
 use Rattle.std.proofs.Common.{◌≡◌, ℕ, List, [], Option, Some, None, Result, Ok, Err, refl, sym, ap, subst, ◌∙◌}
 use Rattle.std.specs.Prelude.{IfErr, IsErrAnd}
 use Rattle.coset_value.specs.Item.{Item}
@@ -25,7 +25,7 @@ use Rattle.example_uses.specs.Exchange.{Arrives, CarriesSame, IsSent, IsSpelling
 use Rattle.example_uses.specs.declared.exchange.Lost.TheVariants.{NotVerified}
 use Rattle.example_uses.specs.declared.cipher.Refused.{Refused}
 
--- an error of which nothing else can be is that memory is out
+-- If an error can be nothing other than `OutOfMemory`, it is `OutOfMemory`.
 pub only_memory : (e : CoseError) → ((e ≡ OutOfMemory → ⊥) → ⊥) → e ≡ OutOfMemory
 only_memory (DecodeFailed x) h = absurd (h (λ q. cc))
 only_memory DuplicateMapKey h = absurd (h (λ q. cc))
@@ -37,13 +37,13 @@ only_memory UnregisteredIanaValue h = absurd (h (λ q. cc))
 only_memory UnregisteredIanaNonPrivateValue h = absurd (h (λ q. cc))
 only_memory OutOfMemory h = refl
 
--- an error that is passed on as our own
+-- Such an error of the library is passed on.
 pub passed_on : {T E : Type 0} (e : CoseError) (r : Result T (CallError E)) → IsErrAnd r (λ x. x ≡ Coset e) → ((e ≡ OutOfMemory → ⊥) → ⊥)
     → IfErr r (λ x. x ≡ Coset OutOfMemory)
 passed_on e (Ok x) is h = absurd is
 passed_on e (Err x) is h = is ∙ ap Coset (only_memory e h)
 
--- what is signed and carried stays the same
+-- The structure and the payload stay the same.
 abbrev pub SignedAsWritten : Type 0
 SignedAsWritten = (v : Item) (m n : Sign1View) → sign1.image m ≡ Some v → sign1.describes v n → SignsSame n.protected m.protected
 
@@ -53,7 +53,7 @@ CarriedAsWritten = (v : Item) (m n : Sign1View) → sign1.image m ≡ Some v →
 abbrev pub ShortestIsEncoding : Type 0
 ShortestIsEncoding = (v : Item) (b : List ℕ) → IsShortest b v → IsEncoding v b
 
--- the item that was written is the one that was read
+-- The item that was written is the one that is read.
 same_item :
     {A : Type 0} (shape : Shape A) → OneItem → ShortestIsEncoding → (b t : List ℕ) (m n : A) (w : IsWritten shape m b) → IsSpelling b t → Describes shape t n
     → shape.describes w.0 n
@@ -77,7 +77,7 @@ carries_same one encoding signs carries b t m n w s d =
       structure = λ a. signs w.0 m n w.1 read CoseSign1 None a (or_empty n.payload) ∙ ap (λ p. sign1_structure m a (or_empty p)) both.0;
     }
 
--- there is one structure, and its shortest encoding is one
+-- There is one structure, and its shortest encoding is unique.
 abbrev pub ShortestIsInRange : Type 0
 ShortestIsInRange = (v : Item) (b : List ℕ) → IsShortest b v → IsInRange v
 
@@ -89,12 +89,12 @@ same_bytes in_range least o p b c e h k =
     let same : h.0 ≡ k.0 = some-one h.1 (e ∙ k.1) in
     least h.0 b (in_range h.0 b h.2) h.2 ∙ (ap least_encoding same ∙ sym (least k.0 c (in_range k.0 c k.2) k.2))
 
--- of what was sent there is a structure
+-- A message that was sent has a structure.
 pub has_structure : {accepts : List ℕ → List ℕ → Type 0} {a payload b : List ℕ} (s : IsSent accepts a payload b) (n : Sign1View) → CarriesSame n s.message
     → sign1_carried n a ≡ None → ⊥
 has_structure {a = a} s n same e = some-none s.signed.1.1 (sym (same.structure a) ∙ e)
 
--- the signature that was sent is accepted of what arrives
+-- The signature that was sent is accepted for the message that arrives.
 pub is_accepted :
     ShortestIsInRange → LeastIsShortest → {accepts : List ℕ → List ℕ → Type 0} {a payload b : List ℕ} (s : IsSent accepts a payload b) (n : Sign1View)
     → CarriesSame n s.message
@@ -104,7 +104,7 @@ is_accepted in_range least {accepts} {a} s n same t h =
     (sym (same.structure a)) s.signed.1 h in
     subst (λ x. accepts t x) (sym same.signature) (subst (λ x. accepts x s.message.signature) same_tbs s.signed.2)
 
--- what one key signed is sent to another that accepts it
+-- A message signed with one key is sent for every key that accepts its signatures.
 pub sent_to : {signs accepts : List ℕ → List ℕ → Type 0} {a payload b : List ℕ} → ((t s : List ℕ) → signs t s → accepts t s) → IsSent signs a payload b
     → IsSent accepts a payload b
 sent_to matches s =
@@ -117,7 +117,7 @@ sent_to matches s =
           (s.signed.0, s.signed.1, matches s.signed.0 s.message.signature s.signed.2);
     }
 
--- what arrives of the bytes that were sent
+-- The bytes that arrive, for the bytes that were sent.
 pub arrived_of : (sent b c : List ℕ) → b ≡ sent → Respells b c → Respells sent c
 arrived_of sent b c e s = subst (λ x. Respells x c) e s
 

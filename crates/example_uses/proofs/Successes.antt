@@ -1,4 +1,4 @@
--- What was read, without the errors, one more at a time.
+-- The values that were read, without the errors, after one more result.
 use Rattle.std.proofs.Common.{◌≡◌, ◌++◌, ◌∙◌, List, [], ◌∷◌, Result, Ok, Err, ap, refl, sym}
 use Rattle.example_uses.specs.Readable.{successes}
 
@@ -13,11 +13,11 @@ module _ {T E : Type 0} where
   and_failure (Ok y ∷ rs) e = ap (λ ys. y ∷ ys) (and_failure rs e)
   and_failure (Err f ∷ rs) e = and_failure rs e
 
-  -- a key more
+  -- One more key.
   pub one_more : (rs : List (Result T E)) (x : T) (old new : List T) → successes rs ≡ old → new ≡ old ++ x ∷ [] → successes (rs ++ Ok x ∷ []) ≡ new
   one_more rs x old new h e = and_success rs x ∙ (ap (λ ys. ys ++ x ∷ []) h ∙ sym e)
 
-  -- an error more
+  -- One more error.
   pub none_more : (rs : List (Result T E)) (r : Result T E) (old : List T) → successes rs ≡ old → ((x : T) → r ≡ Ok x → ⊥)
       → successes (rs ++ r ∷ []) ≡ old
   none_more rs (Ok x) old h never = absurd (never x refl)

@@ -1,4 +1,4 @@
--- An encrypted message and the key that is wrapped for its recipient.
+-- Encrypted messages, and the key that is wrapped for their recipient.
 use Rattle.std.proofs.Common.{◌≡◌, ◌∙◌, ℕ, ℤ, List, [], Option, Some, None, Result, Ok, Err, Vec, ap, inl, inr, refl, subst}
 use Rattle.std.specs.Fn.{FnOnceReturnsAtPair}
 use Rattle.std.specs.Global.{Global}
@@ -26,13 +26,13 @@ use Rattle.example_uses.proofs.Calls.{NotSaid}
 use Rattle.example_uses.proofs.Signing.{of_found}
 use Rattle.example_uses.proofs.Spellings.{only_memory}
 
--- what a closure made of bytes and a structure, and that it is kept so
+-- The closure made something from bytes and a structure, and it is stored.
 abbrev pub MadeOf : {F E : Type 0} → Asker F (Vec ℕ Global) E → F → List ℕ → Option Item → (Vec ℕ Global → Type 0) → Type 0
 MadeOf g f s o stores = (t : List ℕ) × (made : Vec ℕ Global) × IsStructure o t × FnOnceReturnsAtPair g f s t (Ok made) × stores made
 
 -- ---- wrapping a key
 
--- the header of the recipient is empty, so there always is a structure
+-- The protected header of the recipient is empty, so there always is a structure.
 has_wrapped : (a : RegisteredName) (key_id : List ℕ) → wrap_structure (wrapping a key_id) ≡ None → ⊥
 has_wrapped a key_id e = absurd (cc)
 
@@ -55,7 +55,7 @@ not_wrapped g f a k key empty is (Caller e) asked = (asked.0, subst (λ r. IsStr
 
 -- ---- encrypting
 
--- something goes with the ciphertext
+-- A structure exists.
 has_sealed : (n : ℤ) (iv : List ℕ) (r : RecipientView) (external_aad : List ℕ) → encrypt_structure_of (message_to (assigned n) iv r) external_aad ≡ None → ⊥
 unfolding partial_header algorithm
 has_sealed n iv r external_aad e = absurd (cc)
@@ -81,7 +81,7 @@ not_sealed g f n iv r x p empty is (Caller e) asked = (asked.0, subst (λ m. IsS
 
 -- ---- the content key
 
--- what is returned of the first recipient that names the key, which carries w
+-- The result for the first recipient that names the key and has the ciphertext w.
 pub key_given :
     {F E : Type 0} (g : Asker F (Vec ℕ Global) E) (f : F) (absent : E) (key_id : List ℕ) (m : EncryptView) (r : RecipientView) (w : List ℕ)
     (answer : Result (Vec ℕ Global) (CallError E)) → recipient_by key_id m.recipients ≡ Some r → r.ciphertext ≡ Some w
@@ -92,7 +92,7 @@ key_given g f absent key_id m r w (Err (Caller e)) found carried h = inr (r, w, 
 
 -- ---- decrypting
 
--- of a message that was read something goes with the ciphertext of each recipient, and with its own
+-- In a message that was read, each recipient's ciphertext has a structure, and so has the message's own.
 module _ (law : WhenRead encrypt EncryptsAll) (b : List ℕ) (m : EncryptView) (read : Describes encrypt b m) where
   has_key : (key_id : List ℕ) (r : RecipientView) → recipient_by key_id m.recipients ≡ Some r → wrap_structure r ≡ None → ⊥
   has_key key_id r found none =

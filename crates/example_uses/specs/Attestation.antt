@@ -25,44 +25,44 @@ use Rattle.example_uses.specs.declared.attestation.NotAttested.TheVariants.{Refu
 
 -- ---- claims by their registered names
 
--- the value of the claim of this name
+-- The value of the claim of this name.
 abbrev pub claim_of : CwtClaimName → ClaimsView → Option Item
 claim_of name c = lookup (same_name (assigned (claim_names.number name))) c.rest
 
--- the claim's bytes, where it is a byte string
+-- The claim's bytes, if it is a byte string.
 abbrev pub bytes_of : CwtClaimName → ClaimsView → Option (List ℕ)
 bytes_of name c = option_and_then as_bytes (claim_of name c)
 
--- its number, where it is an integer
+-- The claim's number, if it is an integer.
 abbrev pub integer_of : CwtClaimName → ClaimsView → Option ℤ
 integer_of name c = option_and_then as_integer (claim_of name c)
 
--- its UTF-8 bytes, where it is a text
+-- The claim's UTF-8 bytes, if it is a text.
 abbrev pub text_of : CwtClaimName → ClaimsView → Option (List ℕ)
 text_of name c = option_and_then as_text (claim_of name c)
 
--- the one nonce is this
+-- The claims have this nonce, and no other.
 abbrev pub IsFresh : List ℕ → ClaimsView → Type 0
 IsFresh nonce c = bytes_of Nonce c ≡ Some nonce
 
 -- ---- submodules (RFC 9711, section 4.2.18)
 
--- the item is this text
+-- The item is this text.
 abbrev pub is_text : List ℕ → Item → Bool
 is_text name (text s) = pointwise ◌==◌ s name
 is_text name v = false
 
--- what is under this text, in the first pair that has it
+-- The value of the first pair with this text as its key.
 abbrev pub held_under : List ℕ → Pairs → Option Item
 held_under name no_pairs = None
 held_under name (pair k v ps) = if is_text name k then Some v else held_under name ps
 
--- the submodule of this name
+-- The submodule of this name.
 abbrev pub submodule_of : List ℕ → ClaimsView → Option Item
 submodule_of name c = option_and_then (held_under name) (option_and_then as_map (claim_of SubmodulesSection c))
 
--- what is returned of the submodule of this name: its claims, or that there is none; or, out of memory aside, why it is no
--- claims set
+-- The result for the submodule of this name: its claims, or `None` if there is no such submodule. Unless it is
+-- `OutOfMemory`, an error names a fault that the submodule has as a claims set.
 abbrev pub ReadsSubmodule : List ℕ → ClaimsView → Result (Option ClaimsSet) CoseError → Type 0
 ReadsSubmodule name c (Ok None) = submodule_of name c ≡ None
 ReadsSubmodule name c (Ok (Some x)) = (v : Item) × (submodule_of name c ≡ Some v) × claims.describes v (claims_view x)
@@ -70,8 +70,8 @@ ReadsSubmodule name c (Err e) = (v : Item) × (submodule_of name c ≡ Some v) �
 
 -- ---- the token
 
--- the strict policy, with these algorithms, and a leeway of one minute; tokens needn't expire, and claims that no registry has
--- are left out
+-- The strict policy with these algorithms and a leeway of one minute. Tokens may lack an expiration, and claims that no
+-- registry has are left out.
 abbrev pub attestation_policy : PolicyView
 attestation_policy = record strict {
   signatures = assigned (algorithms.number ES256) ∷ [];
@@ -81,8 +81,8 @@ attestation_policy = record strict {
   leeway = 60;
 }
 
--- What is returned of the token b at a moment: claims that the gate lets in, with this nonce; or the gate's reason against it,
--- or that it lets in claims with another nonce, or none
+-- The result for the token b at a moment. The gate lets in claims with this nonce, or the gate refuses the token, or
+-- the gate lets in claims with another nonce, several, or none.
 abbrev pub JudgesAttestation : {E : Type 0} → KeysView E → List ℕ → ℤ → List ℕ → Result KnownClaims (NotAttested E) → Type 0
 JudgesAttestation k nonce now b (Ok x) = JudgesWith k attestation_policy now b (Ok x) × IsFresh nonce (claims_view x.claims)
 JudgesAttestation k nonce now b (Err (Refused e)) = JudgesWith k attestation_policy now b (Err e)

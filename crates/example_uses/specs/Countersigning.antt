@@ -21,28 +21,28 @@ use Rattle.coset_sign.specs.declared.sign1.CoseSign1.{CoseSign1}
 use Rattle.example_uses.specs.Asked.{Asker, Declines, Maker, Makes, Says}
 use Rattle.example_uses.specs.Signers.{signature_by}
 
--- what a countersignature of the message is over, where p is its payload: of its other fields the signature (RFC 9338,
--- section 3.3)
+-- The structure of a countersignature of the message with the payload p. The message's signature is its other field
+-- (RFC 9338, section 3.3).
 abbrev pub countersigned : Sign1View → SignatureView → List ℕ → List ℕ → Option Item
 countersigned m c external_aad p = countersigned_item m.protected (Some c.protected) external_aad p (m.signature ∷ [])
 
 -- ---- making one
 
--- f made s of what a countersignature with the headers of c is over
+-- f made s from the structure of a countersignature with the headers of c.
 abbrev pub IsCountersignedBy : {F E : Type 0} → Maker F E → F → Sign1View → SignatureView → List ℕ → List ℕ → Type 0
 IsCountersignedBy g f m c external_aad s = (p : List ℕ) × (m.payload ≡ Some p) × Makes g f (countersigned m c external_aad p) s
 
--- f made nothing of it, and e says why
+-- f refused that structure with the error e.
 abbrev pub IsNotCountersignedBy : {F E : Type 0} → Maker F E → F → Sign1View → SignatureView → List ℕ → E → Type 0
 IsNotCountersignedBy g f m c external_aad e = (p : List ℕ) × (m.payload ≡ Some p) × Declines g f (countersigned m c external_aad p) e
 
--- why nothing is countersigned: the message carries no payload; or, out of memory aside, a header repeats a label
+-- Why there is no structure. The message has no payload, or a header repeats a label, or e is `OutOfMemory`.
 abbrev pub HasNoneToCountersign : Sign1View → SignatureView → List ℕ → CoseError → Type 0
 HasNoneToCountersign m c external_aad e =
     ((m.payload ≡ None) × IsUnexpected e) ⊎ ((p : List ℕ) × (m.payload ≡ Some p) × HasNoImage (countersigned m c external_aad p) e)
 
--- what is returned of making a countersignature with the headers of c: one with what f made; the error of f; or why there is
--- none
+-- The result of making a countersignature with the headers of c. It has the bytes that f made. The error is the one of
+-- f, or says why there is no structure.
 abbrev pub MakesCountersignature :
     {F E : Type 0} → Maker F E → F → Sign1View → SignatureView → List ℕ → Result CoseCountersignature (CallError E) → Type 0
 MakesCountersignature g f m c external_aad (Ok made) =
@@ -50,12 +50,12 @@ MakesCountersignature g f m c external_aad (Ok made) =
 MakesCountersignature g f m c external_aad (Err (Caller e)) = IsNotCountersignedBy g f m c external_aad e
 MakesCountersignature g f m c external_aad (Err (Coset e)) = HasNoneToCountersign m c external_aad e
 
--- the message with one more countersignature in its unprotected header
+-- The message with one more countersignature in its unprotected header.
 abbrev pub and_countersignature : SignatureView → Sign1View → Sign1View
 and_countersignature c m = record m { unprotected = and_countersignature_v2 c m.unprotected }
 
--- what is returned of countersigning the message b: it, with one more countersignature, which f made; the error of f; why b
--- is no message with one signature; or why nothing is countersigned, or written
+-- The result of countersigning the message b: the message with one more countersignature, which f made. The error may
+-- be the one of f. Otherwise b is no message with one signature, or there is no structure or no encoding.
 abbrev pub Countersigns : {F E : Type 0} → Maker F E → F → SignatureView → List ℕ → List ℕ → Result (Vec ℕ Global) (CallError E) → Type 0
 Countersigns g f c external_aad b (Ok made) =
     (m : Sign1View)
@@ -73,11 +73,11 @@ Countersigns g f c external_aad b (Err (Coset e)) =
 
 -- ---- verifying one
 
--- the first in the message's unprotected header whose headers name this key
+-- The first countersignature in the message's unprotected header whose headers name this key.
 abbrev pub countersignature_by : List ℕ → Sign1View → Option SignatureView
 countersignature_by key_id m = signature_by key_id (each_of (countersignatures_in m.unprotected))
 
--- asked about that one, and what it is over, f gives this answer
+-- f returns this result for that countersignature and its structure.
 abbrev pub AnswersCountersigned : {F E : Type 0} → Asker F (Unit {0}) E → F → List ℕ → List ℕ → Sign1View → Result (Unit {0}) E → Type 0
 AnswersCountersigned g f key_id external_aad m answer =
     (c : SignatureView)
@@ -86,8 +86,9 @@ AnswersCountersigned g f key_id external_aad m answer =
     × (m.payload ≡ Some p)
     × Says g f c.signature (countersigned m c external_aad p) answer
 
--- what is returned of verifying a countersignature of the message b: the message, of which f accepts it; that none names the
--- key; the error of f; why b is no message with one signature; or that it carries no payload
+-- The result of verifying a countersignature of the message b: the message, if f accepts the countersignature. The
+-- error is `absent` if none names the key, or the one of f. Otherwise b is no message with one signature, or has no
+-- payload.
 abbrev pub VerifiesCountersigned : {F E : Type 0} → Asker F (Unit {0}) E → F → List ℕ → List ℕ → E → List ℕ → Result CoseSign1 (CallError E) → Type 0
 VerifiesCountersigned g f key_id external_aad absent b (Ok m) =
     Describes sign1 b (sign1_view m) × AnswersCountersigned g f key_id external_aad (sign1_view m) (Ok tt)

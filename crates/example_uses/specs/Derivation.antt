@@ -1,16 +1,16 @@
--- What a key is derived for (RFC 8152, section 11.2).
+-- Contexts of key derivations (RFC 8152, section 11.2).
 use Rattle.std.specs.Prelude.{ℕ, List, Some}
 use Rattle.coset_label.specs.Names.{RegisteredName}
 use Rattle.coset_core.specs.Headers.{ProtectedView}
 use Rattle.coset_claims.specs.Context.{ContextView, empty_context}
 use Rattle.coset_claims.specs.Party.{PartyView, empty_party}
 
--- a party of which is said who it is, and nothing else
+-- A party with an identity and nothing else.
 abbrev pub party_named : List ℕ → PartyView
 party_named identity = record empty_party { identity = Some identity }
 
--- the context of a key of so many bits for the algorithm a, between a sender, who is party U, and a receiver, who is party V;
--- p is the protected header of the recipient, and other what else is known
+-- The context for a key of so many bits for the algorithm a. The sender is party U, the receiver party V, p is the
+-- recipient's protected header, and `other` is further public data.
 abbrev pub derivation : RegisteredName → ℕ → List ℕ → List ℕ → ProtectedView → List ℕ → ContextView
 derivation a bits sender receiver p other = record empty_context {
   algorithm_id = a;

@@ -15,27 +15,27 @@ use Rattle.coset_sign.specs.Sign1.{Sign1View, empty_sign1, sign1, sign1_view, si
 use Rattle.coset_sign.specs.declared.sign1.CoseSign1.{CoseSign1}
 use Rattle.example_uses.specs.Asked.{Asker, Declines, Maker, Makes, Says}
 
--- a message that carries no payload, with this algorithm in its protected header, before it is signed
+-- A message without a payload and with this algorithm in its protected header, before it is signed.
 abbrev pub apart : RegisteredName → Sign1View
 apart a = record empty_sign1 { protected = unread (with_algorithm a empty_header) }
 
--- the bytes are such a message, with what f made of its structure over the payload
+-- The bytes are such a message. Its signature is what f made from its structure over the payload.
 abbrev pub IsSignedApart : {F E : Type 0} → Maker F E → F → RegisteredName → List ℕ → List ℕ → List ℕ → Type 0
 IsSignedApart g f a external_aad payload b =
     (s : List ℕ) × IsWritten sign1 (with_signature s (apart a)) b × Makes g f (sign1_structure (apart a) external_aad payload) s
 
--- what is returned of making one: the bytes; the error of f; or that memory ran out
+-- The result of making such a message: its bytes, the error of f, or `OutOfMemory`.
 abbrev pub SignsApart : {F E : Type 0} → Maker F E → F → RegisteredName → List ℕ → List ℕ → Result (Vec ℕ Global) (CallError E) → Type 0
 SignsApart g f a external_aad payload (Ok b) = IsSignedApart g f a external_aad payload b.items
 SignsApart g f a external_aad payload (Err (Caller e)) = Declines g f (sign1_structure (apart a) external_aad payload) e
 SignsApart g f a external_aad payload (Err (Coset e)) = e ≡ OutOfMemory
 
--- the message carries no payload; and asked about its signature and its structure over this one, f gives this answer
+-- The message has no payload, and f returns this result for its signature and its structure over the given payload.
 abbrev pub AnswersApart : {F E : Type 0} → Asker F (Unit {0}) E → F → List ℕ → List ℕ → Sign1View → Result (Unit {0}) E → Type 0
 AnswersApart g f external_aad payload m answer = (m.payload ≡ None) × Says g f m.signature (sign1_structure m external_aad payload) answer
 
--- what is returned of verifying one, b: the message, which f accepts; the error of f; or that b is no message with one
--- signature, or is one that carries a payload
+-- The result of verifying b: the message, if f accepts it, or the error of f. Otherwise b is no message with one
+-- signature, or has a payload.
 abbrev pub VerifiesApart : {F E : Type 0} → Asker F (Unit {0}) E → F → List ℕ → List ℕ → List ℕ → Result CoseSign1 (CallError E) → Type 0
 VerifiesApart g f external_aad payload b (Ok m) = Describes sign1 b (sign1_view m) × AnswersApart g f external_aad payload (sign1_view m) (Ok tt)
 VerifiesApart g f external_aad payload b (Err (Caller e)) = (m : Sign1View) × Describes sign1 b m × AnswersApart g f external_aad payload m (Err e)

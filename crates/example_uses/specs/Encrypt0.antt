@@ -1,4 +1,4 @@
--- Encrypted messages, for who knows the key (RFC 8152, section 5.2).
+-- Encrypted messages for receivers that know the key (RFC 8152, section 5.2).
 use Rattle.std.specs.Prelude.{◌≡◌, ℕ, List, Result, Ok, Err, Vec}
 use Rattle.std.specs.Global.{Global}
 use Rattle.coset_codec.specs.ReadAgain.{IsWritten}
@@ -12,11 +12,12 @@ use Rattle.coset_core.specs.Messages.{unread}
 use Rattle.coset_msg.specs.Encrypt0.{Encrypt0View, empty_encrypt0, encrypt0, encrypt0_structure, with_ciphertext}
 use Rattle.example_uses.specs.Asked.{Asker, MakesOf, Says}
 
--- a message with this algorithm in its protected header and this initialization vector in the other, before it is encrypted
+-- A message with this algorithm in its protected and this initialization vector in its unprotected header, not
+-- encrypted.
 abbrev pub unsealed : RegisteredName → List ℕ → Encrypt0View
 unsealed a iv = record empty_encrypt0 { protected = unread (with_algorithm a empty_header); unprotected = with_iv iv empty_header }
 
--- what is returned of encrypting one: its bytes, with what f made of the plaintext; the error of f; or that memory ran out
+-- The result of encrypting it: its bytes with what f made from the plaintext, the error of f, or `OutOfMemory`.
 abbrev pub EncryptsAlone :
     {F E : Type 0} → Asker F (Vec ℕ Global) E → F → RegisteredName → List ℕ → List ℕ → List ℕ → Result (Vec ℕ Global) (CallError E) → Type 0
 EncryptsAlone g f a iv external_aad plaintext (Ok b) =

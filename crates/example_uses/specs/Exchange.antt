@@ -1,4 +1,4 @@
--- A message on its way from who signs it to who verifies it.
+-- A message on its way from the signer to the verifier.
 use Rattle.std.specs.Prelude.{◌≡◌, ℕ, List, Some}
 use Rattle.coset_value.specs.Item.{Item}
 use Rattle.coset_cbor.specs.Grammar.{IsItem}
@@ -9,24 +9,24 @@ use Rattle.coset_claims.specs.Claims.{ClaimsView, claims}
 use Rattle.coset_core.specs.Calls.{IsStructure}
 use Rattle.coset_sign.specs.Sign1.{Sign1View, sign1, sign1_carried}
 
--- the bytes are encodings of one item (RFC 8949, section 3)
+-- The bytes are encodings of the same item (RFC 8949, section 3).
 abbrev pub IsSpelling : List ℕ → List ℕ → Type 0
 IsSpelling a b = (v : Item) × IsItem a v × IsItem b v
 
--- b is an encoding of the item that a is one of, where there is one
+-- If a encodes an item, b encodes the same item.
 abbrev pub Respells : List ℕ → List ℕ → Type 0
 Respells a b = (v : Item) → IsItem a v → IsItem b v
 
--- R holds of a message that is written, and of what is read of it, in whatever spelling it arrives
+-- R relates a message that is written to the one that is read, in whatever spelling it arrives.
 abbrev pub Arrives : {A : Type 0} → Shape A → (A → A → Type 0) → Type 0
 Arrives {A} s R = (b t : List ℕ) (m n : A) → IsWritten s m b → IsSpelling b t → Describes s t n → R m n
 
--- P holds of each message that is read
+-- P holds of every message that is read.
 abbrev pub IsReceived : {A : Type 0} → Shape A → (A → Type 0) → Type 0
 IsReceived {A} s P = (b : List ℕ) (m : A) → Describes s b m → P m
 
--- The bytes that a message with one signature is written as, and that read as a message: it carries this payload, and its
--- signature is one of its structure over `external_aad` (RFC 8152, section 4.4). `signs t s`: s is a signature of the bytes t
+-- The bytes are the encoding of a message with one signature, and are read as a message. It has this payload, and its
+-- signature is one of its structure with `external_aad` (RFC 8152, section 4.4). `signs t s`: s is a signature of t.
 pub record IsSent (signs : List ℕ → List ℕ → Type 0) (external_aad payload b : List ℕ) : Type 0 where
   pub message : Sign1View
   pub written : IsWritten sign1 message b
@@ -34,22 +34,22 @@ pub record IsSent (signs : List ℕ → List ℕ → Type 0) (external_aad paylo
   pub carried : message.payload ≡ Some payload
   pub signed : (t : List ℕ) × IsStructure (sign1_carried message external_aad) t × signs t message.signature
 
--- n carries what m does, and over whatever `external_aad` the same is signed
+-- n has the payload and the signature of m, and its structure is the same with every `external_aad`.
 pub record CarriesSame (n m : Sign1View) : Type 0 where
   pub payload : n.payload ≡ m.payload
   pub signature : n.signature ≡ m.signature
   pub structure : (external_aad : List ℕ) → sign1_carried n external_aad ≡ sign1_carried m external_aad
 
--- the bytes are a message whose signature is of its structure over `external_aad`
+-- The bytes are a message whose signature is accepted for its structure with `external_aad`.
 pub record IsVerified (accepts : List ℕ → List ℕ → Type 0) (external_aad b : List ℕ) (n : Sign1View) : Type 0 where
   pub read : Describes sign1 b n
   pub signed : (t : List ℕ) × IsStructure (sign1_carried n external_aad) t × accepts t n.signature
 
--- a token of these claims, which are its payload (RFC 8392, section 7.1)
+-- A token whose payload is these claims (RFC 8392, section 7.1).
 abbrev pub IsIssued : (List ℕ → List ℕ → Type 0) → List ℕ → ClaimsView → List ℕ → Type 0
 IsIssued signs external_aad c b = (payload : List ℕ) × IsWritten claims c payload × IsSent signs external_aad payload b
 
--- the claims that the payload of a verified token is
+-- The claims in the payload of a verified token.
 pub record AreVerified (accepts : List ℕ → List ℕ → Type 0) (external_aad b : List ℕ) (c : ClaimsView) : Type 0 where
   pub message : Sign1View
   pub verified : IsVerified accepts external_aad b message

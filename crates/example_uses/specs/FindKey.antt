@@ -7,11 +7,12 @@ use Rattle.coset_label.specs.declared.ordering.CborOrdering.{CborOrdering}
 use Rattle.coset_key.specs.Canonical.{IsCanonicalOf}
 use Rattle.coset_key.specs.Keys.{KeyView, key_set}
 
--- the first of the keys that has this identifier
+-- The first key with this identifier.
 abbrev pub first_with : List ℕ → List KeyView → Option KeyView
 first_with key_id = find (λ k. pointwise ◌==◌ k.key_id key_id)
 
--- the bytes are a set of keys; of its keys the first with this identifier was found, and is c with its params in order
+-- The bytes are a set of keys, and the result is its first key with this identifier. c is that key with its parameters
+-- in order.
 abbrev pub IsKeyOf : CborOrdering → List ℕ → List ℕ → Option KeyView → Type 0
 IsKeyOf o bytes key_id None = (s : List KeyView) × Describes key_set bytes s × (first_with key_id s ≡ None)
 IsKeyOf o bytes key_id (Some c) = (s : List KeyView) × (k : KeyView) × Describes key_set bytes s × (first_with key_id s ≡ Some k) × IsCanonicalOf o k c

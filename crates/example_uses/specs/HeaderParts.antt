@@ -1,4 +1,4 @@
--- What a header holds beside its fields, and what it names.
+-- Facts in a header other than its algorithm.
 use Rattle.std.specs.Prelude.{◌==◌, ◌||◌, ℕ, List, Bool, Option, Some, None}
 use Rattle.std.specs.Cmp.Lexicographic.{pointwise}
 use Rattle.coset_value.specs.Item.{Item, bytes, array, item}
@@ -7,20 +7,20 @@ use Rattle.coset_claims.specs.Claims.{same_name}
 use Rattle.coset_core.specs.Headers.{HeaderView, ProtectedView, fields_in}
 use Rattle.cwt_gate.specs.Policy.{is_there_and}
 
--- the end entity's certificate of COSE_X509 = bstr / [2*certs: bstr] (RFC 9360, section 2)
+-- The end entity's certificate of COSE_X509 = bstr / [2*certs: bstr] (RFC 9360, section 2).
 abbrev pub leaf : Item → Option (List ℕ)
 leaf (bytes b) = Some b
 leaf (array (item (bytes b) vs)) = Some b
 leaf v = None
 
--- the header names this algorithm
+-- The header names this algorithm.
 abbrev pub has_algorithm : RegisteredName → HeaderView → Bool
 has_algorithm a h = is_there_and (λ b. same_name b a) (fields_in h).alg
 
--- the header names this key
+-- The header names this key.
 abbrev pub names_key : List ℕ → HeaderView → Bool
 names_key key_id h = pointwise ◌==◌ (fields_in h).key_id key_id
 
--- one of the two headers names this key: its identifier may be in either (RFC 8152, section 3.1)
+-- One of the two headers names this key (`kid`, RFC 8152, section 3.1).
 abbrev pub one_names_key : List ℕ → ProtectedView → HeaderView → Bool
 one_names_key key_id p u = names_key key_id p.header || names_key key_id u

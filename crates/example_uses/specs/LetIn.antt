@@ -10,7 +10,7 @@ use Rattle.cwt_gate.specs.Keys.{KeysView}
 use Rattle.cwt_gate.specs.Layers.{LayerView}
 use Rattle.cwt_gate.specs.Policy.{PolicyView, strict}
 
--- the strict policy, with these algorithms, this audience, and a leeway of one minute
+-- The strict policy with these algorithms, this audience, and a leeway of one minute.
 abbrev pub policy_of : List ℕ → PolicyView
 policy_of audience = record strict {
   signatures = assigned (algorithms.number ES256) ∷ [];
@@ -20,8 +20,8 @@ policy_of audience = record strict {
   audience = Some audience;
 }
 
--- the claims c are what is in these layers of the token b, each of which the keys accept, and one has a signature or a MAC;
--- they are for this audience, and expire
+-- The claims c are inside these layers of the token b. The keys accept each layer, and one has a signature or a MAC.
+-- The claims are for this audience, and expire.
 pub record IsLetIn {E : Type 0} (k : KeysView E) (audience b : List ℕ) (c : ClaimsView) : Type 0 where
   pub layers : List LayerView
   pub content : List ℕ

@@ -1,4 +1,4 @@
--- Messages with a MAC, for who knows the key (RFC 8152, section 6.2).
+-- Messages with a MAC for receivers that know the key (RFC 8152, section 6.2).
 use Rattle.std.specs.Prelude.{◌≡◌, ◌⊎◌, ℕ, List, Some, None, Result, Ok, Err, Vec}
 use Rattle.std.specs.Global.{Global}
 use Rattle.coset_codec.specs.Answers.{Describes, IsRefused}
@@ -14,29 +14,29 @@ use Rattle.coset_msg.specs.Mac0.{Mac0View, empty_mac0, mac0, mac0_view, mac0_str
 use Rattle.coset_msg.specs.declared.mac0.CoseMac0.{CoseMac0}
 use Rattle.example_uses.specs.Asked.{Asker, Declines, Maker, Makes, Says}
 
--- a message with this algorithm in its protected header and this payload, before it has a MAC
+-- A message with this algorithm in its protected header and this payload, before it has a MAC.
 abbrev pub untagged : RegisteredName → List ℕ → Mac0View
 untagged a payload = record empty_mac0 { protected = unread (with_algorithm a empty_header); payload = Some payload }
 
--- the bytes are such a message, with the MAC that f made of its structure
+-- The bytes are such a message, with the MAC that f made from its structure.
 abbrev pub IsMacAlone : {F E : Type 0} → Maker F E → F → RegisteredName → List ℕ → List ℕ → List ℕ → Type 0
 IsMacAlone g f a external_aad payload b =
     (t : List ℕ)
     × IsWritten mac0 (with_tag t (untagged a payload)) b
     × Makes g f (mac0_structure (untagged a payload) external_aad payload) t
 
--- what is returned of making one: the bytes; the error of f; or that memory ran out
+-- The result of making such a message: its bytes, the error of f, or `OutOfMemory`.
 abbrev pub MacsAlone : {F E : Type 0} → Maker F E → F → RegisteredName → List ℕ → List ℕ → Result (Vec ℕ Global) (CallError E) → Type 0
 MacsAlone g f a external_aad payload (Ok b) = IsMacAlone g f a external_aad payload b.items
 MacsAlone g f a external_aad payload (Err (Caller e)) = Declines g f (mac0_structure (untagged a payload) external_aad payload) e
 MacsAlone g f a external_aad payload (Err (Coset e)) = e ≡ OutOfMemory
 
--- the message carries a payload; and asked about its MAC and what that is over, f gives this answer
+-- The message has a payload, and f returns this result for its MAC and its structure.
 abbrev pub AnswersAlone : {F E : Type 0} → Asker F (Unit {0}) E → F → List ℕ → Mac0View → Result (Unit {0}) E → Type 0
 AnswersAlone g f external_aad m answer = (p : List ℕ) × (m.payload ≡ Some p) × Says g f m.tag (mac0_structure m external_aad p) answer
 
--- what is returned of verifying a message, b: the message, whose MAC f accepts; that it carries no payload; the error of f; or
--- why b is no message with a MAC
+-- The result of verifying b: the message, if f accepts its MAC. The error is `absent` if the message has no payload, or
+-- the one of f. Otherwise b is no message with a MAC.
 abbrev pub VerifiesAlone : {F E : Type 0} → Asker F (Unit {0}) E → F → List ℕ → E → List ℕ → Result CoseMac0 (CallError E) → Type 0
 VerifiesAlone g f external_aad absent b (Ok m) = Describes mac0 b (mac0_view m) × AnswersAlone g f external_aad (mac0_view m) (Ok tt)
 VerifiesAlone g f external_aad absent b (Err (Caller e)) =

@@ -1,4 +1,4 @@
--- Header parameters of one's own, and content types (RFC 8152, sections 3.1 and 16.2).
+-- Private header parameters, and content types (RFC 8152, sections 3.1 and 16.2).
 use Rattle.std.specs.Prelude.{ℕ, List, Bool}
 use Rattle.coset_value.specs.Item.{bytes}
 use Rattle.coset_iana.specs.CoapContentFormat as formats
@@ -9,7 +9,7 @@ use Rattle.coset_core.specs.Headers.{HeaderView, empty_header, fields_in}
 use Rattle.cwt_gate.specs.Policy.{is_there_and}
 use Rattle.example_uses.specs.declared.parameters.TheConstants.{TRACE}
 
--- the content type "application/cwt"
+-- The content type "application/cwt".
 abbrev pub of_token : Name
 of_token = number (formats.number Cwt)
 
@@ -17,6 +17,6 @@ of_token = number (formats.number Cwt)
 abbrev pub traced : RegisteredName → List ℕ → HeaderView
 traced a trace = and_critical (private_use TRACE) (and_pair (number TRACE) (bytes trace) (with_content_type of_token (with_algorithm a empty_header)))
 
--- the header names the content type of web tokens
+-- The header names the content type of web tokens.
 abbrev pub is_of_token : HeaderView → Bool
 is_of_token h = is_there_and (λ t. same_name t of_token) (fields_in h).content_type

@@ -25,15 +25,15 @@ use Rattle.example_uses.specs.HeaderParts.{one_names_key}
 
 -- ---- encrypting
 
--- [h'', {1: a, 4: key_id}, nil]: a recipient whose key the algorithm wraps a key with, before one is wrapped
+-- [h'', {1: a, 4: key_id}, nil]: a recipient for which the algorithm wraps a key, before a key is wrapped.
 abbrev pub wrapping : RegisteredName → List ℕ → RecipientView
 wrapping a key_id = record empty_recipient { unprotected = with_key_id key_id (with_algorithm a empty_header) }
 
--- what goes with the key that is wrapped for a recipient of an encrypted message, without external data
+-- The structure that goes with a key wrapped for a recipient of an encrypted message, without external data.
 abbrev pub wrap_structure : RecipientView → Option Item
 wrap_structure r = recipient_structure EncRecipient r []
 
--- what is returned of wrapping a key: the recipient, with what f made of the key; the error of f; or that memory ran out
+-- The result of wrapping a key: the recipient with what f made from the key, the error of f, or `OutOfMemory`.
 abbrev pub WrapsFor :
     {F E : Type 0} → Asker F (Vec ℕ Global) E → F → RegisteredName → List ℕ → List ℕ → Result CoseRecipient (CallError E) → Type 0
 WrapsFor g f a key_id key (Ok r) =
@@ -43,8 +43,8 @@ WrapsFor g f a key_id key (Ok r) =
 WrapsFor g f a key_id key (Err (Caller e)) = Says g f key (wrap_structure (wrapping a key_id)) (Err e)
 WrapsFor g f a key_id key (Err (Coset e)) = e ≡ OutOfMemory
 
--- a message to this recipient, with this algorithm in its protected header and this initialization vector in the other,
--- before it is encrypted
+-- A message to this recipient, before it is encrypted. Its protected header has this algorithm, its unprotected header
+-- this initialization vector.
 abbrev pub message_to : RegisteredName → List ℕ → RecipientView → EncryptView
 message_to a iv r = record empty_encrypt {
   protected = unread (with_algorithm a empty_header);
@@ -52,8 +52,8 @@ message_to a iv r = record empty_encrypt {
   recipients = r ∷ [];
 }
 
--- what is returned of encrypting a message: its bytes, with what f made of the plaintext; the error of f; or, out of memory
--- aside, that nothing is written of it, with some ciphertext, since a header of the recipient repeats a label
+-- The result of encrypting a message: its bytes with what f made from the plaintext, or the error of f. Unless it is
+-- `OutOfMemory`, another error means that a header of the recipient repeats a label, so that there is no encoding.
 abbrev pub EncryptsFor :
     {F E : Type 0} → Asker F (Vec ℕ Global) E → F → RegisteredName → List ℕ → RecipientView → List ℕ → List ℕ
     → Result (Vec ℕ Global) (CallError E) → Type 0
@@ -68,15 +68,15 @@ EncryptsFor g f a iv r external_aad plaintext (Err (Coset e)) =
 
 -- ---- decrypting
 
--- a header of the recipient names this key
+-- A header of the recipient names this key.
 abbrev pub is_to : List ℕ → RecipientView → Bool
 is_to key_id r = one_names_key key_id r.protected r.unprotected
 
--- the first recipient whose headers name this key
+-- The first recipient whose headers name this key.
 abbrev pub recipient_by : List ℕ → List RecipientView → Option RecipientView
 recipient_by key_id = find (is_to key_id)
 
--- asked about the ciphertext of the first recipient whose headers name this key, and what goes with it, f gives this answer
+-- f returns this result for the ciphertext of the first recipient whose headers name this key, and its structure.
 abbrev pub AnswersKey : {F E : Type 0} → Asker F (Vec ℕ Global) E → F → List ℕ → EncryptView → Result (Vec ℕ Global) E → Type 0
 AnswersKey g f key_id m answer =
     (r : RecipientView)
@@ -85,20 +85,20 @@ AnswersKey g f key_id m answer =
     × (r.ciphertext ≡ Some w)
     × Says g f w (wrap_structure r) answer
 
--- no recipient names the key, or the first that does carries no ciphertext
+-- No recipient names the key, or the first that does has no ciphertext.
 abbrev pub HasNoKey : List ℕ → EncryptView → Type 0
 HasNoKey key_id m =
     (recipient_by key_id m.recipients ≡ None) ⊎ ((r : RecipientView) × (recipient_by key_id m.recipients ≡ Some r) × (r.ciphertext ≡ None))
 
--- what is returned of asking for the content key: what f made; that there is nothing to make it of; the error of f; or that
--- a recipient's header repeats a label, out of memory aside
+-- The result for the content key: the key that f made, or the error of f. The error is `absent` if there is nothing to
+-- unwrap. Unless it is `OutOfMemory`, another error means that a header of the recipient repeats a label.
 abbrev pub GivesKey : {F E : Type 0} → Asker F (Vec ℕ Global) E → F → List ℕ → E → EncryptView → Result (Vec ℕ Global) (CallError E) → Type 0
 GivesKey g f key_id absent m (Ok key) = AnswersKey g f key_id m (Ok key)
 GivesKey g f key_id absent m (Err (Caller e)) = (HasNoKey key_id m × (e ≡ absent)) ⊎ AnswersKey g f key_id m (Err e)
 GivesKey g f key_id absent m (Err (Coset e)) =
     (r : RecipientView) × (recipient_by key_id m.recipients ≡ Some r) × HasNoImage (wrap_structure r) e
 
--- f makes a content key; and asked about it, the ciphertext of the message and what goes with that, k gives this answer
+-- f makes a content key. k returns this result for that key, the message's ciphertext and its structure.
 abbrev pub AnswersContent :
     {F H E : Type 0} → Asker F (Vec ℕ Global) E → F → AskerOfThree H (Vec ℕ Global) E → H → List ℕ → List ℕ → EncryptView
     → Result (Vec ℕ Global) E → Type 0
@@ -109,8 +109,8 @@ AnswersContent g f h k key_id external_aad m answer =
     × (m.ciphertext ≡ Some c)
     × SaysOfThree h k key.items c (encrypt_structure_of m external_aad) answer
 
--- what is returned of decrypting a message, b: the plaintext, which k made; that there is no key to unwrap; the error of f
--- or of k; why b is no encrypted message with recipients; or that it carries no ciphertext
+-- The result of decrypting b: the plaintext that k made. The error is `absent` if there is no key to unwrap, or the one
+-- of f or k. Otherwise b is no encrypted message with recipients, or has no ciphertext.
 abbrev pub DecryptsFor :
     {F H E : Type 0} → Asker F (Vec ℕ Global) E → F → AskerOfThree H (Vec ℕ Global) E → H → List ℕ → List ℕ → E → List ℕ
     → Result (Vec ℕ Global) (CallError E) → Type 0

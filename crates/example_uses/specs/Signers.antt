@@ -1,4 +1,4 @@
--- Messages that several sign (RFC 8152, section 4.1).
+-- Messages with several signers (RFC 8152, section 4.1).
 use Rattle.std.specs.Prelude.{◌≡◌, ◌⊎◌, ℕ, List, [], ◌∷◌, Bool, Option, Some, None, Result, Ok, Err, Vec}
 use Rattle.std.specs.List.{find}
 use Rattle.std.specs.Global.{Global}
@@ -20,15 +20,15 @@ use Rattle.example_uses.specs.HeaderParts.{one_names_key}
 
 -- ---- signing
 
--- a signature before it is made: its protected header names the algorithm, and its unprotected one the key
+-- A signature without its bytes. Its protected header names the algorithm, its unprotected header the key.
 abbrev pub signer : RegisteredName → List ℕ → SignatureView
 signer a key_id = record empty_signature { protected = unread (with_algorithm a empty_header); unprotected = with_key_id key_id empty_header }
 
--- a message with this payload and these signatures
+-- A message with this payload and these signatures.
 abbrev pub signed_by : List ℕ → List SignatureView → SignView
 signed_by payload signatures = record empty_sign { payload = Some payload; signatures = signatures }
 
--- the bytes are a message with this payload and two signatures, which f and h made
+-- The bytes are a message with this payload and two signatures, which f and h made.
 abbrev pub IsSignedByTwo :
     {F H E : Type 0} → Maker F E → F → Maker H E → H → List ℕ → List ℕ → SignatureView → SignatureView → List ℕ → Type 0
 IsSignedByTwo g f k h external_aad payload first second b =
@@ -38,15 +38,15 @@ IsSignedByTwo g f k h external_aad payload first second b =
     × Makes g f (signer_carried (signed_by payload []) first external_aad) s
     × Makes k h (signer_carried (signed_by payload []) second external_aad) t
 
--- why no such message is made: out of memory aside, there is nothing for one of the two to sign, or nothing is written of
--- the message with some signatures, since a header repeats a label
+-- Why no such message is made, unless e is `OutOfMemory`. A header repeats a label, so that a signer has no structure,
+-- or the message with some signatures has no encoding.
 abbrev pub IsUnsigned : List ℕ → List ℕ → SignatureView → SignatureView → CoseError → Type 0
 IsUnsigned external_aad payload first second e =
     HasNoImage (signer_carried (signed_by payload []) first external_aad) e
     ⊎ HasNoImage (signer_carried (signed_by payload []) second external_aad) e
     ⊎ ((s : List ℕ) × (t : List ℕ) × HasNoImage (sign.image (signed_by payload (signed_with s first ∷ signed_with t second ∷ []))) e)
 
--- what is returned of making one: the bytes; the error of f or of h; or why there is none
+-- The result of making such a message: its bytes, the error of f or h, or why there is none.
 abbrev pub SignsByTwo :
     {F H E : Type 0} → Maker F E → F → Maker H E → H → List ℕ → List ℕ → SignatureView → SignatureView → Result (Vec ℕ Global) (CallError E) → Type 0
 SignsByTwo g f k h external_aad payload first second (Ok b) = IsSignedByTwo g f k h external_aad payload first second b.items
@@ -57,21 +57,21 @@ SignsByTwo g f k h external_aad payload first second (Err (Coset e)) = IsUnsigne
 
 -- ---- verifying
 
--- a header of the signature names this key
+-- A header of the signature names this key.
 abbrev pub is_by : List ℕ → SignatureView → Bool
 is_by key_id s = one_names_key key_id s.protected s.unprotected
 
--- the first signature whose headers name this key
+-- The first signature whose headers name this key.
 abbrev pub signature_by : List ℕ → List SignatureView → Option SignatureView
 signature_by key_id = find (is_by key_id)
 
--- asked about the first signature of the message whose headers name this key, and what that is over, f gives this answer
+-- f returns this result for the message's first signature whose headers name this key, and its structure.
 abbrev pub AnswersBy : {F E : Type 0} → Asker F (Unit {0}) E → F → List ℕ → List ℕ → SignView → Result (Unit {0}) E → Type 0
 AnswersBy g f key_id external_aad m answer =
     (s : SignatureView) × (signature_by key_id m.signatures ≡ Some s) × Says g f s.signature (signer_carried m s external_aad) answer
 
--- what is returned of verifying a message, b: the message, of which f accepts that signature; that no signature names the
--- key; the error of f; or why b is no message with signatures
+-- The result of verifying b: the message, if f accepts that signature. The error is `absent` if no signature names the
+-- key, or the one of f. Otherwise b is no message with signatures.
 abbrev pub VerifiesBy : {F E : Type 0} → Asker F (Unit {0}) E → F → List ℕ → List ℕ → E → List ℕ → Result CoseSign (CallError E) → Type 0
 VerifiesBy g f key_id external_aad absent b (Ok m) = Describes sign b (sign_view m) × AnswersBy g f key_id external_aad (sign_view m) (Ok tt)
 VerifiesBy g f key_id external_aad absent b (Err (Caller e)) =

@@ -1,4 +1,4 @@
--- What a store holds of a key.
+-- The bytes that a store keeps of a key.
 use Rattle.std.specs.Prelude.{ℕ, List}
 use Rattle.coset_codec.specs.Answers.{Describes}
 use Rattle.coset_codec.specs.ReadAgain.{IsWritten}
@@ -6,7 +6,7 @@ use Rattle.coset_label.specs.declared.ordering.CborOrdering.{CborOrdering}
 use Rattle.coset_key.specs.Canonical.{IsCanonicalOf}
 use Rattle.coset_key.specs.Keys.{KeyView, key}
 
--- what a key that was read is written as, once its params are in order
+-- The encoding of a key that was read, after its parameters are put in order.
 pub record IsStored (o : CborOrdering) (bytes held : List ℕ) : Type 0 where
   pub read : KeyView
   pub ordered : KeyView

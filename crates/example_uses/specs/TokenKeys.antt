@@ -1,15 +1,15 @@
--- The keys by which web tokens are let in: a set of keys, each found by its identifier.
+-- Keys for letting in web tokens: a set of keys, each found by its identifier.
 use Rattle.std.specs.Prelude.{◌≡◌, ℕ, List, Some}
 use Rattle.coset_key.specs.Keys.{KeyView, key_set_view}
 use Rattle.coset_key.specs.declared.key_set.CoseKeySet.{CoseKeySet}
 use Rattle.cwt_gate.specs.Keys.{KeysView, SealView, key_id_of}
 use Rattle.example_uses.specs.FindKey.{first_with}
 
--- R holds of the first key of the set that has the identifier which the layer's headers name
+-- R holds of the first key of the set with the identifier in the layer's headers.
 abbrev pub OfNamedKey : List KeyView → SealView → (KeyView → Type 0) → Type 0
 OfNamedKey keys s R = (k : KeyView) × (first_with (key_id_of s) keys ≡ Some k) × R k
 
--- each layer is judged by the key that it names, as the ciphers say; which error they return isn't said
+-- Each layer is judged with the key that it names, by the ciphers. The errors are left open.
 abbrev pub keys_of : {E : Type 0} → CoseKeySet → (KeyView → List ℕ → List ℕ → Type 0) → (KeyView → List ℕ → List ℕ → Type 0)
     → (KeyView → List ℕ → List ℕ → List ℕ → Type 0) → KeysView E
 keys_of keys verifies verifies_tag decrypts = record {

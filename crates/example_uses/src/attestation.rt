@@ -1,4 +1,5 @@
-//! Attestation tokens (EAT, RFC 9711), among them those of PSA (RFC 9783): let in as web tokens are, and their claims.
+//! Attestation tokens (EAT, RFC 9711), including those of PSA (RFC 9783). They are let in like web
+//! tokens.
 
 ghost use Rattle.std.specs.Prelude.{◌≡◌, ◌↔◌, IsTrue, option_map};
 ghost use Rattle.coset_value.specs.View.{value_item, value_pairs};
@@ -13,19 +14,19 @@ use coset::{AsCborValue, RegisteredLabelWithPrivate, Result};
 use cwt_gate::{Keys, Policy, PolicyError, Unassigned, judge_with};
 use std::alloc::Global;
 
-/// By how many seconds the clocks of who issues and who verifies may differ.
+/// The most seconds by which the clocks of the issuer and the verifier may differ.
 const LEEWAY: u64 = 60;
 
-/// Why an attestation isn't accepted.
+/// The reason why an attestation isn't accepted.
 #[derive(Debug, Drop)]
 pub enum NotAttested<E> {
-    /// The token isn't let in.
+    /// The gate refuses the token.
     Refused(PolicyError<E>),
-    /// It is let in, and wasn't asked for with this nonce.
+    /// The token is let in, but has another nonce, several, or none.
     NotFresh,
 }
 
-/// A token that isn't let in.
+/// A token that the gate refuses.
 impl<E: Drop> From<PolicyError<E>> for NotAttested<E> {
     ghost use Rattle.std.specs.Prelude.{◌≡◌};
     ghost use Rattle.example_uses.specs.declared.attestation.NotAttested.TheVariants.{Refused};
@@ -37,14 +38,16 @@ impl<E: Drop> From<PolicyError<E>> for NotAttested<E> {
     }
 }
 
-/// The value of the first claim of this name, where there is one.
+/// Returns the value of the first claim of this name.
 pub fn claim<'a>(claims: &'a ClaimsSet, name: CwtClaimName) -> Option<&'a Value>
     ensures { option_map (λ v. value_item v.now) result ≡ claim_of name (claims_view claims.now) }
 {
     claims.get(&ClaimName::Assigned(name))
 }
 
-/// The bytes of such a claim, where it is a byte string: as the nonce (`Nonce`), the device (`UEID`), or what it runs on
+/// Returns the bytes of a claim that is a byte string.
+///
+/// Such claims are the nonce (`Nonce`), the device (`UEID`), and the implementation that it runs on
 /// (`PsaImplementationId`).
 pub fn bytes_of<'a>(claims: &'a ClaimsSet, name: CwtClaimName) -> Option<&'a [u8]>
     ensures { option_map (λ b. b.now) result ≡ bytes_of name (claims_view claims.now) }
@@ -52,22 +55,25 @@ pub fn bytes_of<'a>(claims: &'a ClaimsSet, name: CwtClaimName) -> Option<&'a [u8
     Some(claim(claims, name)?.as_bytes()?.as_slice())
 }
 
-/// Its number, where it is an integer: as which software asked for the token (`PsaClientId`, below 0 from the non-secure side),
-/// or how far the device is in its life (`PsaSecurityLifecycle`).
+/// Returns the number of a claim that is an integer.
+///
+/// One is the software that requested the token (`PsaClientId`), which is below 0 on the non-secure
+/// side. Another is the state of the device in its life cycle (`PsaSecurityLifecycle`).
 pub fn integer_of(claims: &ClaimsSet, name: CwtClaimName) -> Option<Integer>
     ensures { result ≡ integer_of name (claims_view claims.now) }
 {
     claim(claims, name)?.as_integer()
 }
 
-/// Its text, where it is one: as the profile that the token follows (`EatProfile`).
+/// Returns the text of a claim that is a text, such as the profile that the token follows
+/// (`EatProfile`).
 pub fn text_of<'a>(claims: &'a ClaimsSet, name: CwtClaimName) -> Option<&'a str>
     ensures { option_map (λ s. s.now) result ≡ text_of name (claims_view claims.now) }
 {
     claim(claims, name)?.as_text()
 }
 
-/// Whether the token was asked for with this nonce, and no other.
+/// Returns true if the token has this nonce, and no other.
 pub fn is_fresh(claims: &ClaimsSet, nonce: &[u8]) -> bool
     ensures { IsTrue result ↔ IsFresh nonce.now (claims_view claims.now) }
 {
@@ -77,10 +83,11 @@ pub fn is_fresh(claims: &ClaimsSet, nonce: &[u8]) -> bool
     }
 }
 
-/// The claims of a token, once the keys accepted each of its layers: signatures by ES256, and MACs by HMAC with SHA-256.
+/// Returns the claims of a token, if the keys accept each of its layers. Signatures are ES256, and
+/// MACs are HMAC with SHA-256.
 ///
 /// # Errors
-/// Why it isn't let in: what [`judge_with`] says of this policy.
+/// The error of [`judge_with`] with this policy.
 fn judge_attestation<K: Keys>(
     alloc: Global,
     keys: &K,
@@ -102,11 +109,14 @@ fn judge_attestation<K: Keys>(
     judge_with(alloc, &policy, keys, token, now)
 }
 
-/// The claims of an attestation token that was asked for with this nonce, once the keys accepted each of its layers. Claims
-/// that no registry has are `others` of what is returned.
+/// Returns the claims of an attestation token with this nonce, if the keys accept each of its
+/// layers.
+///
+/// Claims that no registry has are `others` of the result.
 ///
 /// # Errors
-/// `Refused`, with what [`judge_with`] says of the token by this policy; or `NotFresh`.
+/// - `Refused` with the error of [`judge_with`], if the gate refuses the token by this policy.
+/// - `NotFresh` if the token has another nonce, several, or none.
 pub fn let_in_attestation<K: Keys>(
     alloc: Global,
     keys: &K,
@@ -123,7 +133,7 @@ pub fn let_in_attestation<K: Keys>(
     Ok(known)
 }
 
-/// Whether the value is this text.
+/// Returns true if the value is this text.
 fn is_text(value: &Value, name: &str) -> bool
     ensures { result ≡ is_text name.now (value_item value.now) }
 {
@@ -133,7 +143,7 @@ fn is_text(value: &Value, name: &str) -> bool
     }
 }
 
-/// What is under this text, in the first pair that has it.
+/// Returns the value of the first pair with this text as its key.
 fn held_under<'a>(pairs: &'a [(Value, Value)], name: &str) -> Option<&'a Value>
     ensures { option_map (λ v. value_item v.now) result
         ≡ held_under name.now (value_pairs pairs.now) }
@@ -144,8 +154,13 @@ fn held_under<'a>(pairs: &'a [(Value, Value)], name: &str) -> Option<&'a Value>
     }
 }
 
-/// The submodule of this name, where there is one: claims, which the token vouches for, are a map; a token of the submodule's
-/// own is a byte string, which is let in by itself, with the keys for it; a digest of claims that are elsewhere is an array.
+/// Returns the submodule of this name.
+///
+/// Its type says what it is:
+///
+/// - A map is claims, which the token vouches for.
+/// - A byte string is a token of the submodule's own. It is let in by itself, with the keys for it.
+/// - An array is a digest of claims that are elsewhere.
 pub fn submodule<'a>(claims: &'a ClaimsSet, name: &str) -> Option<&'a Value>
     ensures { option_map (λ v. value_item v.now) result
         ≡ submodule_of name.now (claims_view claims.now) }
@@ -156,10 +171,11 @@ pub fn submodule<'a>(claims: &'a ClaimsSet, name: &str) -> Option<&'a Value>
     )
 }
 
-/// The claims of the submodule of this name; `None` where there is no such submodule.
+/// Returns the claims of the submodule of this name, or `None` if there is no such submodule.
 ///
 /// # Errors
-/// Why it is no claims set, as a token of its own isn't; or `OutOfMemory`.
+/// - A fault in the submodule, if it is no claims set. A nested token or a digest isn't one.
+/// - `OutOfMemory` if an allocation fails.
 pub fn submodule_claims(alloc: Global, claims: &ClaimsSet, name: &str) -> Result<Option<ClaimsSet>>
     ensures { ReadsSubmodule name.now (claims_view claims.now) result }
 {

@@ -1,5 +1,5 @@
-//! Countersignatures of version 2 of a message with one signature (RFC 9338): somebody else's signature of the message, its
-//! payload and its signature.
+//! Countersignatures of version 2 of a message with one signature (RFC 9338). Such a
+//! countersignature is another party's signature of the message, its payload and its signature.
 
 ghost use Rattle.std.specs.Prelude.{◌≡◌, map, option_map, IfOk, IfErr};
 ghost use Rattle.coset_iana.specs.Algorithm as algorithms;
@@ -20,10 +20,11 @@ use coset::{
 use coset_sign::laws::countersigned_when_read;
 use std::alloc::Global;
 
-/// A countersignature before it is made: its protected header names the algorithm, and its unprotected one the key.
+/// Makes a countersignature without its signature bytes. Its protected header names the algorithm,
+/// its unprotected header the key.
 ///
 /// # Errors
-/// `OutOfMemory` alone.
+/// `OutOfMemory` if an allocation fails.
 pub fn countersigner(
     alloc: Global,
     algorithm: Algorithm,
@@ -43,7 +44,7 @@ pub fn countersigner(
     Ok(countersignature.build())
 }
 
-/// The countersignature with these bytes, under the same headers.
+/// Returns the countersignature with these signature bytes and unchanged headers.
 fn signed_with(mut countersignature: CoseCountersignature, bytes: Vec<u8>) -> CoseCountersignature
     ensures { countersignature_view result
         ≡ signed_with bytes.items (countersignature_view countersignature) }
@@ -52,11 +53,13 @@ fn signed_with(mut countersignature: CoseCountersignature, bytes: Vec<u8>) -> Co
     countersignature
 }
 
-/// The countersignature of the message, under the headers that are set.
+/// Signs the message as a countersignature with these headers.
 ///
 /// # Errors
-/// `UnexpectedItem`, where the message carries no payload; `OutOfMemory`; `DuplicateMapKey`, where a header that wasn't read
-/// repeats a label; or `Caller` with the error of `sign`.
+/// - `UnexpectedItem` if the message has no payload.
+/// - `OutOfMemory` if an allocation fails.
+/// - `DuplicateMapKey` if a header that wasn't read repeats a label.
+/// - `Caller` with the error of `sign`.
 pub fn countersignature_of<F, E>(
     alloc: Global,
     message: &CoseSign1,
@@ -91,10 +94,10 @@ where
     }
 }
 
-/// The message with one more countersignature, behind those in its unprotected header.
+/// Appends a countersignature to those in the message's unprotected header.
 ///
 /// # Errors
-/// `OutOfMemory` alone.
+/// `OutOfMemory` if an allocation fails.
 fn and_countersignature(mut message: CoseSign1, made: CoseCountersignature) -> Result<CoseSign1>
     ensures ok { IfOk result (λ m. sign1_view m
         ≡ and_countersignature (countersignature_view made) (sign1_view message)) }
@@ -104,10 +107,11 @@ fn and_countersignature(mut message: CoseSign1, made: CoseCountersignature) -> R
     Ok(message)
 }
 
-/// The message that the bytes are, with one more countersignature in its unprotected header, written.
+/// Decodes the message, adds a countersignature to its unprotected header, and encodes it again.
 ///
 /// # Errors
-/// Why the bytes aren't a message with one signature; or the same as [`countersignature_of`].
+/// - A fault in bytes that aren't a message with one signature.
+/// - The errors of [`countersignature_of`].
 pub fn countersign<F, E>(
     alloc: Global,
     message: &[u8],
@@ -128,7 +132,7 @@ where
     Ok(countersigned.to_vec(alloc)?)
 }
 
-/// Whether a header of the countersignature names this key.
+/// Returns true if a header of the countersignature names this key.
 fn is_by(countersignature: &CoseCountersignature, key_id: &[u8]) -> bool
     ensures { result ≡ is_by key_id.now (countersignature_view countersignature.now) }
 {
@@ -139,7 +143,7 @@ fn is_by(countersignature: &CoseCountersignature, key_id: &[u8]) -> bool
     )
 }
 
-/// The first of the countersignatures whose headers name this key.
+/// Returns the first countersignature whose headers name this key.
 fn find_countersignature<'a>(
     all: &'a [CoseCountersignature],
     key_id: &[u8],
@@ -150,12 +154,17 @@ fn find_countersignature<'a>(
     all.iter().find(|one| is_by(one, key_id))
 }
 
-/// The message that the bytes are, once the first countersignature whose headers name this key was verified. The message's
-/// own signature isn't verified.
+/// Decodes and returns the message, if `verify` accepts the first countersignature whose headers
+/// name this key.
+///
+/// The message's own signature isn't verified.
 ///
 /// # Errors
-/// Why the bytes aren't a message with one signature, or that it carries no payload (`UnexpectedItem`); `OutOfMemory`; or
-/// `Caller`, with `absent` where no countersignature names the key, and else with the error of `verify`.
+/// - A fault in bytes that aren't a message with one signature.
+/// - `UnexpectedItem` if the message has no payload.
+/// - `OutOfMemory` if an allocation fails.
+/// - `Caller` with `absent` if no countersignature names the key.
+/// - `Caller` with the error of `verify`.
 pub fn verify_countersigned<F, E>(
     alloc: Global,
     message: &[u8],

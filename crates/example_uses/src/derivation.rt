@@ -1,4 +1,4 @@
-//! What a key is derived for: the context of a key derivation, which both sides make (RFC 8152, section 11.2).
+//! The context of a key derivation, which both sides make (RFC 8152, section 11.2).
 
 ghost use Rattle.coset_iana.specs.Algorithm as algorithms;
 ghost use Rattle.coset_codec.specs.Answers.{Writes};
@@ -13,11 +13,15 @@ use coset::{
 };
 use std::alloc::Global;
 
-/// The bytes of the context of a key of so many bits for this algorithm, between a sender (party U) and a receiver (party
-/// V), with the protected header of the recipient and some public bytes besides.
+/// Encodes the context for deriving a key of `bits` bits for this algorithm.
+///
+/// The sender is party U, the receiver party V. The context has the protected header of the
+/// recipient, and `other` as further public bytes.
 ///
 /// # Errors
-/// `OutOfMemory`; or `DuplicateMapKey`, where the header wasn't read and it, or one in it, repeats a label.
+/// - `OutOfMemory` if an allocation fails.
+/// - `DuplicateMapKey` if the header wasn't read, and repeats a label itself or in a header inside
+///   it.
 pub fn derivation_context(
     alloc: Global,
     algorithm: Algorithm,

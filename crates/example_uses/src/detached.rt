@@ -1,4 +1,4 @@
-//! A message whose payload is detached: it carries `nil` in its place (RFC 8152, section 4.1).
+//! Messages with a detached payload: `nil` is in its place (RFC 8152, section 4.1).
 
 ghost use Rattle.coset_iana.specs.Algorithm as algorithms;
 ghost use Rattle.coset_label.specs.Names.{assigned};
@@ -9,10 +9,11 @@ use coset::{CallError, CborSerializable, CoseError, CoseSign1, CoseSign1Builder,
 use coset_sign::laws::signed_when_read;
 use std::alloc::Global;
 
-/// A message without its payload, signed and written.
+/// Signs the payload, and encodes the message without it.
 ///
 /// # Errors
-/// `OutOfMemory`; or `Caller` with the error of `sign`.
+/// - `OutOfMemory` if an allocation fails.
+/// - `Caller` with the error of `sign`.
 pub fn sign_detached<F, E>(
     alloc: Global,
     algorithm: Algorithm,
@@ -33,11 +34,13 @@ where
     Ok(signed.build().to_vec(alloc)?)
 }
 
-/// The message that the bytes are, once its signature over the payload was verified.
+/// Decodes and returns the message, if `verify` accepts its signature over the payload.
 ///
 /// # Errors
-/// Why the bytes aren't a message with one signature, or that it carries a payload of its own; `OutOfMemory`; or
-/// `Caller` with the error of `verify`.
+/// - A fault in bytes that aren't a message with one signature.
+/// - `UnexpectedItem` if the message has a payload of its own.
+/// - `OutOfMemory` if an allocation fails.
+/// - `Caller` with the error of `verify`.
 pub fn verify_detached<F, E>(
     alloc: Global,
     message: &[u8],

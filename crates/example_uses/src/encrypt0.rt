@@ -1,4 +1,4 @@
-//! An encrypted message, for who knows the key without its name (RFC 8152, section 5.2).
+//! Encrypted messages for receivers that know the key without its name (RFC 8152, section 5.2).
 
 ghost use Rattle.coset_iana.specs.Algorithm as algorithms;
 ghost use Rattle.coset_label.specs.Names.{assigned};
@@ -8,10 +8,13 @@ use coset::iana::Algorithm;
 use coset::{CallError, CborSerializable, CoseEncrypt0Builder, HeaderBuilder};
 use std::alloc::Global;
 
-/// An encrypted message, written. The protected header names the algorithm, the unprotected one the initialization vector.
+/// Encrypts a message and encodes it.
+///
+/// The protected header names the algorithm, the unprotected header has the initialization vector.
 ///
 /// # Errors
-/// `OutOfMemory`; or `Caller` with the error of `cipher`.
+/// - `OutOfMemory` if an allocation fails.
+/// - `Caller` with the error of `cipher`.
 pub fn encrypt<F, E>(
     alloc: Global,
     algorithm: Algorithm,

@@ -1,4 +1,5 @@
-//! Every type that is read and written, named once: one that lacks a trait, or a law, wouldn't compile.
+//! Names each type once, of those that are read and written. If one lacked a trait or a law, this
+//! wouldn't compile.
 
 ghost use Rattle.std.specs.Prelude.{◌≡◌, ◌↔◌, ◌≤◌, IsTrue, ℕ, List, Result};
 ghost use Rattle.coset_value.specs.Item.{Item, depth};
@@ -25,12 +26,17 @@ use coset_codec::laws::{
 };
 use std::fmt;
 
-/// What holds of each type: bytes describe at most one value, and so do two spellings of one item; bytes that aren't
-/// one item are refused for that, and bytes that are one are read as that item is; an item that is refused describes
-/// nothing, unless memory ran out; what was read is
-/// written and read again as itself, and so is what an item within 256 levels describes; values that were read, however
-/// each came, are written as equal bytes exactly where they are equal; and those bytes stay the same when they are read
-/// and written again.
+/// The laws of every type.
+///
+/// - Bytes describe at most one value, and two spellings of one item describe the same value.
+/// - Bytes that aren't one item are refused for that. Bytes that are one item are read as the item
+///   is.
+/// - An item that is refused describes nothing, unless an allocation failed.
+/// - A value that was read is written and read again as itself. So is a value that an item within
+///   256 levels describes.
+/// - Two values that were read are written as equal bytes exactly if they are equal, however each
+///   was spelled.
+/// - Those bytes stay the same when they are read and written again.
 pub fn keeps_the_laws<T: Lawful + CborSerializable + FromPull + PartialEq + fmt::Debug>()
     ensures one { (s : List ℕ) (x y : T.View) → Describes T.shape s x → Describes T.shape s y
         → x ≡ y }
@@ -58,8 +64,10 @@ pub fn keeps_the_laws<T: Lawful + CborSerializable + FromPull + PartialEq + fmt:
     stays_as_written::<T>();
 }
 
-/// What holds besides of each type that may be under its tag: the same, with the tag; and what was read under the
-/// tag is read again where it is written without it.
+/// The additional laws of every type that may be under its tag.
+///
+/// They are the same laws with the tag. In addition, a value that was read under the tag is read
+/// again if it is written without the tag.
 pub fn keeps_the_laws_when_tagged<T: Lawful + TaggedCborSerializable>()
     ensures one { (n : ℕ) (s : List ℕ) (x y : T.View) → Describes (tagged n T.shape) s x
         → Describes (tagged n T.shape) s y → x ≡ y }
@@ -86,21 +94,22 @@ pub fn keeps_the_laws_when_tagged<T: Lawful + TaggedCborSerializable>()
     stays_as_written::<T>();
 }
 
-/// What holds of a type that is read from items alone: what one describes is written as one that describes it.
+/// The law of a type that is read from items alone: a value that an item describes is written as an
+/// item that describes it.
 pub fn keeps_the_law_of_items<T: Lawful + PartialEq + fmt::Debug>()
     ensures { (v : Item) (x : T.View) → T.shape.describes v x → Again T.View T.shape v x }
 {
     image_is_described::<T>();
 }
 
-/// What holds besides of each type that is one trait: `==` is equality of all that contracts see.
+/// The additional law of every type that implements `Codec`: `==` is equality of views.
 pub fn keeps_the_law_of_equality<T: Codec>()
     ensures { (a b : T) → IsTrue (T.PartialEq.eq a b) ↔ (T.view a ≡ T.view b) }
 {
     equal_as_viewed::<T>();
 }
 
-/// The types.
+/// Applies the laws to every type.
 pub fn every_type_keeps_the_laws() {
     keeps_the_laws::<Value>();
     keeps_the_laws::<Label>();

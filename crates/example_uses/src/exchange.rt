@@ -1,8 +1,9 @@
-//! A token on its way from who signs it to who verifies it.
+//! A token on its way from the signer to the verifier.
 //!
-//! The two share a pair of keys and nothing else. On its way the token may be spelled anew: with longer heads, or with
-//! strings, arrays and maps whose length isn't announced (RFC 8949, section 3). Whatever spelling arrives, what is
-//! verified is what was signed, so that a genuine token is never refused.
+//! The two share a pair of keys and nothing else. On its way the token may get another spelling:
+//! longer heads, or strings, arrays and maps of indefinite length (RFC 8949, section 3). In every
+//! spelling the bytes that are verified are the bytes that were signed. So a genuine token is
+//! refused only if an allocation fails.
 
 ghost use Rattle.std.specs.Prelude.{◌≡◌, ℕ, List, Some, None, IfOk, IfErr, IfSome};
 ghost use Rattle.coset_codec.specs.declared.error.CoseError.TheVariants.{OutOfMemory};
@@ -21,21 +22,22 @@ use crate::verify::verify_token;
 use coset::{CallError, CoseSign1, Header};
 use std::alloc::Global;
 
-/// What carries a token from the one side to the other.
+/// A channel that carries a token from one side to the other.
 pub trait Channel {
-    /// Which tokens the channel may lose.
+    /// The tokens that the channel may lose.
     ghost loses: { Self → List ℕ → Type 0 };
 
-    /// The token as it arrives: the same item, in any spelling; or nothing, where `loses` holds.
+    /// Returns the token as it arrives: the same item in any spelling. Returns `None` only for a
+    /// token for which `loses` holds.
     fn carry(&mut self, alloc: Global, token: &[u8]) -> Option<Vec<u8>>
         ensures carried { IfSome result (λ b. Respells token.now b.items) }
         ensures lost { result ≡ None → loses self.old token.now };
 }
 
-/// Why a token didn't come to be verified.
+/// The reason why a token wasn't verified.
 #[derive(Debug, Drop)]
 pub enum Lost {
-    /// It wasn't signed or written.
+    /// It wasn't signed or encoded.
     NotSent(CallError<Refused>),
     /// It didn't arrive.
     NotArrived,
@@ -43,10 +45,10 @@ pub enum Lost {
     NotVerified(CallError<Refused>),
 }
 
-/// The message that the one side signs and the other verifies, whatever spelling of it arrives.
+/// Signs a message on one side and verifies it on the other, in whatever spelling it arrives.
 ///
 /// # Errors
-/// Why it was lost. A token that arrives is refused only when out of memory.
+/// The reason why the message was lost. A token that arrives is refused only with `OutOfMemory`.
 pub fn exchange<S: SigningKey, V: VerifyingKey, C: Channel>(
     alloc: Global,
     signing_key: &S,

@@ -1,4 +1,4 @@
-//! A key of a set, found by its identifier (RFC 8152, section 7).
+//! Finds a key of a set by its identifier (RFC 8152, section 7).
 
 ghost use Rattle.std.specs.Prelude.{◌≡◌, IfOk, IfErr, option_map};
 ghost use Rattle.coset_key.specs.Keys.{key_view, key_set, key_set_view};
@@ -8,7 +8,8 @@ ghost use Rattle.example_uses.specs.FindKey.{IsKeyOf, first_with};
 use coset::{CborOrdering, CborSerializable, CoseKey, CoseKeySet, Result};
 use std::alloc::Global;
 
-/// The first key of the set that has this identifier.
+/// Returns the first key of the set with this identifier. Other keys may have it too (RFC 8152,
+/// section 3.1).
 pub fn find_key<'a>(keys: &'a CoseKeySet, key_id: &[u8]) -> Option<&'a CoseKey>
     ensures { option_map (λ k. key_view k.now) result
         ≡ first_with key_id.now (key_set_view keys.now) }
@@ -16,10 +17,12 @@ pub fn find_key<'a>(keys: &'a CoseKeySet, key_id: &[u8]) -> Option<&'a CoseKey>
     keys.0.iter().find(|key| key.key_id.as_slice() == key_id)
 }
 
-/// The first key that has this identifier of the set that the bytes are, with its params in order.
+/// Decodes a set of keys, and returns the first key with this identifier, with its parameters in
+/// order.
 ///
 /// # Errors
-/// Why the bytes aren't a set of keys; or `OutOfMemory`.
+/// - A fault in bytes that aren't a set of keys.
+/// - `OutOfMemory` if an allocation fails.
 pub fn key_of(
     alloc: Global,
     keys: &[u8],

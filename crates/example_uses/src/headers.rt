@@ -1,4 +1,4 @@
-//! What a header says beside its algorithm: which labels must be understood, and certificates.
+//! Facts in a header other than its algorithm: critical labels, certificates, and the key.
 
 ghost use Rattle.std.specs.Prelude.{◌≡◌, map, option_map};
 ghost use Rattle.std.specs.List.{list_all};
@@ -19,18 +19,18 @@ use coset::cbor::value::Value;
 use coset::iana::{Algorithm, EnumI64, HeaderParameter};
 use coset::{Header, Label, ProtectedHeader, RegisteredLabelWithPrivate};
 
-/// A label that must be understood.
+/// An entry of `crit`, a label that must be understood.
 type Critical = RegisteredLabelWithPrivate<HeaderParameter>;
 
-/// Whether the label is one of these.
+/// Returns true if the label is one of these.
 fn is_known(known: &[Critical], label: &Critical) -> bool
     ensures { result ≡ is_one_of (map critical_view known.now) (critical_view label.now) }
 {
     known.contains(label)
 }
 
-/// Whether each label that the header calls critical is one of these (RFC 8152, section 3.1). A message with another has to
-/// be refused.
+/// Returns true if each label in the header's `crit` is one of these (RFC 8152, section 3.1). A
+/// message with another critical label must be refused.
 pub fn is_understood(header: &Header, known: &[Critical]) -> bool
     ensures { result ≡ list_all (is_one_of (map critical_view known.now))
         (fields_in (header_view header.now)).crit }
@@ -38,7 +38,7 @@ pub fn is_understood(header: &Header, known: &[Critical]) -> bool
     header.crit.iter().all(|label| is_known(known, label))
 }
 
-/// The value of this parameter, of those that aren't fields of the header.
+/// Returns the value of a parameter that isn't a field of the header.
 pub fn find_parameter(header: &Header, parameter: HeaderParameter) -> Option<&Value>
     ensures { option_map (λ v. value_item v.now) result
         ≡ lookup (same_name (number (parameters.number parameter)))
@@ -47,7 +47,7 @@ pub fn find_parameter(header: &Header, parameter: HeaderParameter) -> Option<&Va
     header.get(&Label::Int(parameter.to_i64()))
 }
 
-/// The bytes of a byte string.
+/// Returns the content of a byte string, or `None` for another item.
 fn bytes_of(value: &Value) -> Option<&[u8]>
     ensures { option_map (λ b. b.now) result ≡ as_bytes (value_item value.now) }
 {
@@ -57,7 +57,8 @@ fn bytes_of(value: &Value) -> Option<&[u8]>
     }
 }
 
-/// The certificate of the signer: that of `x5chain` (RFC 9360, section 2), or the first of the chain there.
+/// Returns the signer's certificate: the one in `x5chain` (RFC 9360, section 2), or the first of
+/// the chain there.
 pub fn signer_certificate(header: &Header) -> Option<&[u8]>
     ensures { option_map (λ c. c.now) result
         ≡ option_and_then leaf (lookup (same_name (number (parameters.number X5Chain)))
@@ -70,7 +71,7 @@ pub fn signer_certificate(header: &Header) -> Option<&[u8]>
     }
 }
 
-/// Whether the header names this algorithm.
+/// Returns true if the header names this algorithm.
 pub fn has_algorithm(header: &Header, algorithm: Algorithm) -> bool
     ensures { result ≡ has_algorithm (assigned (algorithms.number algorithm))
         (header_view header.now) }
@@ -81,14 +82,17 @@ pub fn has_algorithm(header: &Header, algorithm: Algorithm) -> bool
     }
 }
 
-/// Whether the header names this key. A header without an identifier names the empty one.
+/// Returns true if the header names this key. A header without an identifier names the empty one.
 pub fn names_key(header: &Header, key_id: &[u8]) -> bool
     ensures { result ≡ names_key key_id.now (header_view header.now) }
 {
     header.key_id.as_slice() == key_id
 }
 
-/// Whether one of the two headers names this key: its identifier may be in either (RFC 8152, section 3.1).
+/// Returns true if one of the two headers names this key (`kid`, RFC 8152, section 3.1).
+///
+/// RFC 8152, section 3, takes the identifier from the protected header first. This function takes
+/// either.
 pub fn one_names_key(protected: &ProtectedHeader, unprotected: &Header, key_id: &[u8]) -> bool
     ensures { result ≡ one_names_key key_id.now (protected_view protected.now)
         (header_view unprotected.now) }

@@ -1,4 +1,4 @@
-//! What is inside: recipients in a recipient, and signatures in a header.
+//! Nested parts: recipients in a recipient, and signatures in a header.
 
 ghost use Rattle.std.specs.Prelude.{◌≡◌, ◌↔◌};
 ghost use Rattle.coset_value.specs.Item.{Item};
@@ -13,15 +13,15 @@ ghost use Rattle.example_uses.specs.Inside.{IsDescribed};
 use coset_core::laws::headers_hold_signatures;
 use coset_recipient::laws::recipients_hold_recipients;
 
-/// Each recipient inside one that was read is one that an item describes: so what holds of recipients that were read holds
-/// of it too.
+/// Every recipient inside a recipient that was read is described by an item. So the laws of
+/// recipients that were read hold for it too.
 pub fn recipients_inside()
     ensures { WhenRead recipient (λ r. EachHas (IsDescribed recipient) (each_of r.recipients)) }
 {
     recipients_hold_recipients();
 }
 
-/// A header is the map of its fields, with the signatures within 16 layers in it.
+/// The shape of a header is the map of its fields, with the signatures within 16 layers in it.
 pub fn header_is_a_map()
     ensures describes { (v : Item) (h : HeaderView) → header.describes v h
         ↔ (header_map (signatures_within LAYERS)).describes v h }

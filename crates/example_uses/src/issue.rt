@@ -1,4 +1,5 @@
-//! Issuing a web token (RFC 8392, section 7.1): its claims are the payload of a message with one signature.
+//! Issues a web token (RFC 8392, section 7.1): its claims are the payload of a message with one
+//! signature.
 
 ghost use Rattle.std.specs.Prelude.{IfOk, IfErr};
 ghost use Rattle.coset_iana.specs.Algorithm as algorithms;
@@ -14,11 +15,14 @@ use coset::iana::Algorithm;
 use coset::{CallError, CborSerializable, CoseSign1, CoseSign1Builder, Header, HeaderBuilder};
 use std::alloc::Global;
 
-/// A token with this protected header and this payload, signed and written. It is read once before it is handed out: a
-/// header may be built that no reader accepts.
+/// Signs a token with this protected header and this payload, and encodes it.
+///
+/// The token is read once before it is returned, because a header may be built that no reader
+/// accepts.
 ///
 /// # Errors
-/// Why the token can't be written or wouldn't be read; or `Caller`, where the key refuses.
+/// - The error of encoding or reading the token.
+/// - `Caller` with the error of the key.
 pub fn sign_token<K: SigningKey>(
     alloc: Global,
     key: &K,
@@ -44,10 +48,10 @@ pub fn sign_token<K: SigningKey>(
     Ok(token)
 }
 
-/// A web token of these claims, which names the algorithm in its protected header.
+/// Issues a web token with these claims. Its protected header names the algorithm.
 ///
 /// # Errors
-/// The same as [`sign_token`].
+/// The errors of [`sign_token`].
 pub fn issue_token<K: SigningKey>(
     alloc: Global,
     key: &K,

@@ -1,7 +1,8 @@
-//! Stores of sets of keys that compare what they hold by bytes.
+//! Stores of sets of keys, which are compared by bytes.
 //!
-//! A store reads a set, puts the params of each key in order and writes the keys one by one. So two such stores know by
-//! bytes whether their sets agree key by key, however the sets were spelled.
+//! A store reads a set, puts the parameters of each key in order, and writes the keys one by one.
+//! So the bytes of two stores show whether their sets agree key by key, however the sets were
+//! spelled.
 
 ghost use Rattle.std.specs.Prelude.{◌≡◌, ◌≤◌, ◌↔◌, ◌⊎◌, List, map, IfErr, IfOk, IsTrue, OnOk};
 ghost use Rattle.coset_value.specs.Item.{Item, depth};
@@ -18,7 +19,7 @@ use coset_codec::laws::one_value;
 use coset_key::laws::{canonical_keys_apart, canonical_keys_read_again, keys_of_a_set};
 use std::alloc::Global;
 
-/// The same ordering once more, for the next key.
+/// Returns the ordering again, for the next key.
 fn again(ordering: &CborOrdering) -> CborOrdering
     ensures { result ≡ ordering.now }
 {
@@ -28,10 +29,10 @@ fn again(ordering: &CborOrdering) -> CborOrdering
     }
 }
 
-/// The bytes that a store holds of a key.
+/// Returns the bytes that a store keeps of a key.
 ///
 /// # Errors
-/// Of a key that was read, `OutOfMemory` alone.
+/// `OutOfMemory` alone, if the key was read.
 fn held_of(alloc: Global, mut key: CoseKey, ordering: CborOrdering) -> Result<Vec<u8>>
     ensures ok { IfOk result (λ held. IsHeldOf ordering (key_view key) held.items) }
     ensures memory { (v : Item) → key_shape.describes v (key_view key) → depth v ≤ 256
@@ -42,11 +43,14 @@ fn held_of(alloc: Global, mut key: CoseKey, ordering: CborOrdering) -> Result<Ve
     key.to_vec(alloc)
 }
 
-/// The bytes that a store holds of a set of keys: of each key, in the set's order, its shortest encoding, with its params
-/// in order.
+/// Returns the bytes that a store keeps of a set of keys. For each key, in the set's order, they
+/// are its shortest encoding with its parameters in order.
 ///
 /// # Errors
-/// Why the bytes aren't a set of keys; or `OutOfMemory`. A key that was read is always written.
+/// - A fault in bytes that aren't a set of keys.
+/// - `OutOfMemory` if an allocation fails.
+///
+/// A key that was read is always written.
 pub fn stored_keys(alloc: Global, bytes: &[u8], ordering: CborOrdering) -> Result<Vec<Vec<u8>>>
     ensures ok { IfOk result (λ held. AreStored ordering bytes.now
         (map (λ b. b.items) held.items)) }
@@ -62,11 +66,14 @@ pub fn stored_keys(alloc: Global, bytes: &[u8], ordering: CborOrdering) -> Resul
     Ok(held)
 }
 
-/// Whether two stores that order params by the bytes of their labels hold the same, once they were handed these bytes:
-/// exactly where the sets have as many keys, and each agrees with its counterpart but for the order of its params.
+/// Returns true if two stores have the same bytes for these sets. The stores order parameters by
+/// the bytes of their labels.
+///
+/// The bytes are the same exactly if the sets agree key by key. The order of a key's parameters
+/// doesn't matter.
 ///
 /// # Errors
-/// The same as [`stored_keys`], of the first that is refused.
+/// The errors of [`stored_keys`], for the first set that is refused.
 pub fn sets_hold_the_same(alloc: Global, one: &[u8], other: &[u8]) -> Result<bool>
     ensures same { (ks ls : List KeyView) → Describes key_set one.now ks
         → Describes key_set other.now ls

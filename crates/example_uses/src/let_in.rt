@@ -1,4 +1,4 @@
-//! Letting a web token in (RFC 8392, section 7.2): signed, with a MAC, or either of them encrypted.
+//! Lets in a web token (RFC 8392, section 7.2): signed, with a MAC, or either of them encrypted.
 
 ghost use Rattle.std.specs.Prelude.{IfOk};
 ghost use Rattle.coset_claims.specs.Claims.{claims_view};
@@ -12,15 +12,16 @@ use coset::iana::Algorithm;
 use cwt_gate::{Keys, Policy, PolicyError, judge_with};
 use std::alloc::Global;
 
-/// By how many seconds the clocks of who issues and who verifies may differ.
+/// The most seconds by which the clocks of the issuer and the verifier may differ.
 const LEEWAY: u64 = 60;
 
-/// The claims of a token for this audience, once the keys accepted each of its layers, at a moment at which they are valid.
-/// Its signatures are by ES256, its MACs by HMAC with SHA-256 (64 bits of it or all), its ciphers AES-CCM; one layer has a
-/// signature or a MAC; and it expires.
+/// Returns the claims of a token for this audience, if the keys accept each of its layers.
+///
+/// Signatures are ES256, MACs are HMAC with SHA-256 (64 bits of it or all), ciphers are AES-CCM. At
+/// least one layer has a signature or a MAC. The claims are valid at `now`, and they expire.
 ///
 /// # Errors
-/// Why it isn't let in: what [`judge_with`] says of this policy.
+/// The error of [`judge_with`] with this policy.
 pub fn let_in<K: Keys>(
     alloc: Global,
     keys: &K,

@@ -1,5 +1,5 @@
-//! What the crate `coset` is used for, by its public contracts alone: each file is a caller's own code, and proves what
-//! the caller may rely on.
+//! Uses of the crate `coset`, by its public contracts alone. Each file is a caller's own code, and
+//! proves what the caller may rely on.
 #![tactic(auto)]
 
 pub mod attestation;

@@ -1,4 +1,4 @@
-//! A message with a MAC, for who knows the key without its name (RFC 8152, section 6.2).
+//! Messages with a MAC for receivers that know the key without its name (RFC 8152, section 6.2).
 
 ghost use Rattle.coset_iana.specs.Algorithm as algorithms;
 ghost use Rattle.coset_label.specs.Names.{assigned};
@@ -9,10 +9,11 @@ use coset::{CallError, CborSerializable, CoseMac0, CoseMac0Builder, HeaderBuilde
 use coset_msg::laws::structure_when_read;
 use std::alloc::Global;
 
-/// A message with this payload and its MAC, written.
+/// Makes a message with this payload and its MAC, and encodes it.
 ///
 /// # Errors
-/// `OutOfMemory`; or `Caller` with the error of `mac`.
+/// - `OutOfMemory` if an allocation fails.
+/// - `Caller` with the error of `mac`.
 pub fn authenticate<F, E>(
     alloc: Global,
     algorithm: Algorithm,
@@ -35,11 +36,13 @@ where
     Ok(tagged.build().to_vec(alloc)?)
 }
 
-/// The message that the bytes are, once its MAC was verified.
+/// Decodes and returns the message, if `verify` accepts its MAC.
 ///
 /// # Errors
-/// Why the bytes aren't a message with a MAC; `OutOfMemory`; or `Caller`, with `absent` where the message carries no payload,
-/// and else with the error of `verify`.
+/// - A fault in bytes that aren't a message with a MAC.
+/// - `OutOfMemory` if an allocation fails.
+/// - `Caller` with `absent` if the message has no payload.
+/// - `Caller` with the error of `verify`.
 pub fn verify_mac<F, E>(
     alloc: Global,
     message: &[u8],

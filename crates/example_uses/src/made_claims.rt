@@ -1,4 +1,4 @@
-//! Claims that are made: registered ones (RFC 8392, section 3.1), and others by their names.
+//! Makes claims: registered ones (RFC 8392, section 3.1), and others by their names.
 
 ghost use Rattle.std.specs.Prelude.{◌≡◌, IfOk, IfErr};
 ghost use Rattle.coset_codec.specs.declared.error.CoseError.TheVariants.{OutOfMemory};
@@ -11,14 +11,17 @@ use coset::cwt::{ClaimsSet, ClaimsSetBuilder, Timestamp};
 use coset::iana::CwtClaimName;
 use std::alloc::Global;
 
-/// The name of a claim for private use, as issuer and audience agree on it: a number below -65536 (RFC 8392, section 9.1).
+/// The name of a private claim that issuer and audience agree on: a number below -65536 (RFC 8392,
+/// section 9.1.1).
 pub const ROLE: i64 = -70_001;
 
-/// Claims of an issuer for an audience, which expire at this moment, in seconds since 1970 began in UTC; with a nonce
-/// (RFC 9711, section 4.1), a role, and a claim whose name is a text.
+/// Makes claims of an issuer for an audience.
+///
+/// They expire at `expires`, in seconds since 1970 began in UTC. They also have a nonce (RFC 9711,
+/// section 4.1), a role, and a claim whose name is a text.
 ///
 /// # Errors
-/// `OutOfMemory` alone.
+/// `OutOfMemory` if an allocation fails.
 pub fn claims_for(
     alloc: Global,
     issuer: &str,

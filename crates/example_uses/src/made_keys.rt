@@ -1,4 +1,4 @@
-//! Keys that are made, of each type (RFC 8152, section 13; FIPS 204).
+//! Makes keys of each type (RFC 8152, section 13; FIPS 204).
 
 ghost use Rattle.std.specs.Prelude.{◌≡◌, IfOk, IfErr};
 ghost use Rattle.coset_value.specs.Item.{bytes};
@@ -17,10 +17,10 @@ use coset::iana::{Algorithm, EllipticCurve, EnumI64, OkpKeyParameter};
 use coset::{CoseKey, CoseKeyBuilder, MlDsaVariant, Result};
 use std::alloc::Global;
 
-/// The public key of a point on P-256, for ES256.
+/// Makes the public key of a point on P-256, for ES256.
 ///
 /// # Errors
-/// `OutOfMemory` alone.
+/// `OutOfMemory` if an allocation fails.
 pub fn p256_key(alloc: Global, key_id: &[u8], x: Vec<u8>, y: Vec<u8>) -> Result<CoseKey>
     ensures made { IfOk result (λ k. key_view k ≡ with_key_id key_id.now (with_algorithm
         (assigned (algorithms.number ES256)) (ec2_key P_256 x.items (bytes y.items)))) }
@@ -32,10 +32,10 @@ pub fn p256_key(alloc: Global, key_id: &[u8], x: Vec<u8>, y: Vec<u8>) -> Result<
     Ok(key.build())
 }
 
-/// A public key for Ed25519: an octet key pair, whose params are set one by one.
+/// Makes a public key for Ed25519: an octet key pair, whose parameters are set one by one.
 ///
 /// # Errors
-/// `OutOfMemory` alone.
+/// `OutOfMemory` if an allocation fails.
 pub fn ed25519_key(alloc: Global, key_id: &[u8], x: Vec<u8>) -> Result<CoseKey>
     ensures made { IfOk result (λ k. key_view k ≡ ed25519_key key_id.now x.items) }
     ensures memory { IfErr result (λ e. e ≡ OutOfMemory) }
@@ -48,10 +48,10 @@ pub fn ed25519_key(alloc: Global, key_id: &[u8], x: Vec<u8>) -> Result<CoseKey>
     Ok(key.build())
 }
 
-/// A symmetric key for this algorithm.
+/// Makes a symmetric key for this algorithm.
 ///
 /// # Errors
-/// `OutOfMemory` alone.
+/// `OutOfMemory` if an allocation fails.
 pub fn shared_key(alloc: Global, algorithm: Algorithm, key_id: &[u8], k: Vec<u8>) -> Result<CoseKey>
     ensures made { IfOk result (λ k'. key_view k' ≡ with_key_id key_id.now (with_algorithm
         (assigned (algorithms.number algorithm)) (symmetric_key k.items))) }
@@ -63,10 +63,10 @@ pub fn shared_key(alloc: Global, algorithm: Algorithm, key_id: &[u8], k: Vec<u8>
     Ok(key.build())
 }
 
-/// A public key for ML-DSA-44, which names the algorithm too.
+/// Makes a public key for ML-DSA-44, which names the algorithm too.
 ///
 /// # Errors
-/// `OutOfMemory` alone.
+/// `OutOfMemory` if an allocation fails.
 pub fn ml_dsa_key(alloc: Global, key_id: &[u8], public: Vec<u8>) -> Result<CoseKey>
     ensures made { IfOk result (λ k. key_view k ≡ with_key_id key_id.now
         (ml_dsa_key MlDsa44 public.items)) }

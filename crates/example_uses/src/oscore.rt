@@ -1,5 +1,5 @@
-//! A request as OSCORE protects it (RFC 8613): a message `COSE_Encrypt0` whose `external_aad` says what the two sides
-//! agree on.
+//! Requests that OSCORE protects (RFC 8613): `COSE_Encrypt0` messages. Their `external_aad` has the
+//! facts that the two sides agree on.
 
 ghost use Rattle.std.specs.Prelude.{IfOk, IfErr, Some};
 ghost use Rattle.coset_iana.specs.Algorithm as algorithms;
@@ -14,11 +14,13 @@ use coset::{CallError, CborSerializable, CoseEncrypt0, Result};
 use coset_msg::laws::structure_when_read;
 use std::alloc::Global;
 
-/// The `external_aad` of a request (RFC 8613, section 5.4): version 1 of OSCORE, the algorithm, the identifier of who asks,
-/// its Partial IV, and no options.
+/// Encodes the `external_aad` of a request (RFC 8613, section 5.4).
+///
+/// It has version 1 of OSCORE, the algorithm, the requester's identifier, its Partial IV, and no
+/// options.
 ///
 /// # Errors
-/// `OutOfMemory` alone.
+/// `OutOfMemory` if an allocation fails.
 pub fn external_aad(
     alloc: Global,
     algorithm: Algorithm,
@@ -39,11 +41,12 @@ pub fn external_aad(
     Value::Array(parts).to_vec(alloc)
 }
 
-/// The plaintext of an encrypted message.
+/// Returns the plaintext of an encrypted message.
 ///
 /// # Errors
-/// Why the bytes aren't such a message; `OutOfMemory`; or `Caller`, where the message carries no ciphertext or the key
-/// refuses.
+/// - A fault in bytes that aren't such a message.
+/// - `OutOfMemory` if an allocation fails.
+/// - `Caller` if the message has no ciphertext, or the key refuses.
 pub fn decrypted<K: DecryptionKey>(
     alloc: Global,
     key: &K,

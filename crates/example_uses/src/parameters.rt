@@ -1,4 +1,4 @@
-//! Header parameters of one's own, and content types (RFC 8152, sections 3.1 and 16.2).
+//! Private header parameters, and content types (RFC 8152, sections 3.1 and 16.2).
 
 ghost use Rattle.std.specs.Prelude.{◌≡◌, IfOk, IfErr, option_map};
 ghost use Rattle.std.specs.Map.{lookup};
@@ -16,13 +16,14 @@ use coset::iana::{Algorithm, CoapContentFormat};
 use coset::{ContentType, Header, HeaderBuilder, Label, RegisteredLabelWithPrivate, Result};
 use std::alloc::Global;
 
-/// The label of a parameter of one's own: a number below -65536, which IANA leaves to private use.
+/// The label of a private parameter: a number below -65536, which IANA leaves to private use.
 pub const TRACE: i64 = -70_002;
 
-/// A header that says that the content is a web token, with a parameter of one's own, which a reader must understand.
+/// Makes a header that says that the content is a web token. It also has a private parameter, which
+/// a reader must understand.
 ///
 /// # Errors
-/// `OutOfMemory` alone.
+/// `OutOfMemory` if an allocation fails.
 pub fn traced(alloc: Global, algorithm: Algorithm, trace: &[u8]) -> Result<Header>
     ensures made { IfOk result (λ h. header_view h
         ≡ traced (assigned (algorithms.number algorithm)) trace.now) }
@@ -37,7 +38,7 @@ pub fn traced(alloc: Global, algorithm: Algorithm, trace: &[u8]) -> Result<Heade
     Ok(header.build())
 }
 
-/// The value of that parameter, where the header has it and it is a byte string.
+/// Returns the value of that parameter, if the header has it and it is a byte string.
 pub fn trace_of(header: &Header) -> Option<&[u8]>
     ensures { option_map (λ b. b.now) result ≡ option_and_then as_bytes
         (lookup (same_name (number TRACE)) (fields_in (header_view header.now)).rest) }
@@ -48,7 +49,7 @@ pub fn trace_of(header: &Header) -> Option<&[u8]>
     }
 }
 
-/// Whether the header says that the content is a web token.
+/// Returns true if the header says that the content is a web token.
 pub fn is_of_token(header: &Header) -> bool
     ensures { result ≡ is_of_token (header_view header.now) }
 {

@@ -1,5 +1,6 @@
-//! What isn't understood is skipped: claims with numbers that IANA hasn't assigned (RFC 8392, section 3), and the keys
-//! of a set that aren't read, as those of an unknown type (RFC 9052, section 7).
+//! Skips the parts that aren't understood. They are claims with numbers that IANA hasn't assigned
+//! (RFC 8392, section 3), and keys that can't be read, such as those of an unknown type (RFC 9052,
+//! section 7).
 
 ghost use Rattle.std.specs.Prelude.{IfOk, IfErr};
 ghost use Rattle.coset_codec.specs.Alone.{elements};
@@ -13,10 +14,10 @@ use coset::cwt::ClaimsSet;
 use coset::{CoseKeySet, Result};
 use std::alloc::Global;
 
-/// The claims that are understood of those in the bytes. The others are skipped.
+/// Decodes claims, and skips those that aren't understood.
 ///
 /// # Errors
-/// The same as [`ClaimsSet::known_from_slice`].
+/// The errors of [`ClaimsSet::known_from_slice`].
 pub fn claims_kept(alloc: Global, bytes: &[u8]) -> Result<ClaimsSet>
     ensures read { IfOk result (λ c. (others : Others)
         × Describes known bytes.now (claims_view c, others)) }
@@ -25,10 +26,12 @@ pub fn claims_kept(alloc: Global, bytes: &[u8]) -> Result<ClaimsSet>
     Ok(ClaimsSet::known_from_slice(alloc, bytes)?.claims)
 }
 
-/// The keys that are read of those in the array that the bytes are, in order. The others are skipped.
+/// Decodes an array of keys in order, and skips those that can't be read. A key is also skipped if
+/// an allocation fails while it is read.
 ///
 /// # Errors
-/// Why the bytes aren't an array; or `OutOfMemory`.
+/// - A fault in bytes that aren't an array.
+/// - `OutOfMemory` if an allocation fails.
 pub fn keys_that_read(alloc: Global, bytes: &[u8]) -> Result<CoseKeySet>
     ensures read { IfOk result (λ s. AreThoseRead bytes.now (key_set_view s)) }
     ensures refused { IfErr result (λ e. IsRefused elements bytes.now e) }

@@ -1,4 +1,5 @@
-//! An encrypted message whose content key is wrapped for a recipient (RFC 8152, sections 5.1 and 12.2.1).
+//! Encrypted messages whose content key is wrapped for a recipient (RFC 8152, sections 5.1 and
+//! 12.2.1).
 
 ghost use Rattle.std.specs.Prelude.{◌≡◌, map, option_map};
 ghost use Rattle.coset_iana.specs.Algorithm as algorithms;
@@ -16,11 +17,14 @@ use coset::{
 use coset_recipient::laws::structures_when_read;
 use std::alloc::Global;
 
-/// A recipient that carries the content key, wrapped by an algorithm as AES Key Wrap: it authenticates nothing besides,
-/// so that the unprotected header names it, and the protected one is empty.
+/// Makes a recipient with the content key, wrapped by an algorithm such as AES Key Wrap.
+///
+/// Such an algorithm authenticates nothing else. So the unprotected header names it, and the
+/// protected header is empty.
 ///
 /// # Errors
-/// `OutOfMemory`; or `Caller` with the error of `wrap`.
+/// - `OutOfMemory` if an allocation fails.
+/// - `Caller` with the error of `wrap`.
 pub fn wrap_for<F, E>(
     alloc: Global,
     algorithm: Algorithm,
@@ -45,12 +49,14 @@ where
     Ok(wrapped.build())
 }
 
-/// A message to this recipient, encrypted and written. The protected header names the algorithm, the unprotected one the
-/// initialization vector.
+/// Encrypts a message to this recipient, and encodes it.
+///
+/// The protected header names the algorithm, the unprotected header has the initialization vector.
 ///
 /// # Errors
-/// `OutOfMemory`; `DuplicateMapKey`, where a header of the recipient repeats a label; or `Caller` with the error of
-/// `encrypt`.
+/// - `OutOfMemory` if an allocation fails.
+/// - `DuplicateMapKey` if a header of the recipient repeats a label.
+/// - `Caller` with the error of `encrypt`.
 pub fn encrypt_for<F, E>(
     alloc: Global,
     algorithm: Algorithm,
@@ -77,14 +83,14 @@ where
     Ok(sealed.build().to_vec(alloc)?)
 }
 
-/// Whether a header of the recipient names this key.
+/// Returns true if a header of the recipient names this key.
 fn is_to(recipient: &CoseRecipient, key_id: &[u8]) -> bool
     ensures { result ≡ is_to key_id.now (recipient_view recipient.now) }
 {
     one_names_key(&recipient.protected, &recipient.unprotected, key_id)
 }
 
-/// The first of the recipients whose headers name this key.
+/// Returns the first recipient whose headers name this key.
 fn find_recipient<'a>(recipients: &'a [CoseRecipient], key_id: &[u8]) -> Option<&'a CoseRecipient>
     ensures { option_map (λ r. recipient_view r.now) result
         ≡ recipient_by key_id.now (map recipient_view recipients.now) }
@@ -92,11 +98,14 @@ fn find_recipient<'a>(recipients: &'a [CoseRecipient], key_id: &[u8]) -> Option<
     recipients.iter().find(|recipient| is_to(recipient, key_id))
 }
 
-/// The content key that `unwrap` makes of the ciphertext of the first recipient whose headers name this key.
+/// Returns the content key, which `unwrap` makes from the ciphertext of the first recipient whose
+/// headers name this key.
 ///
 /// # Errors
-/// `OutOfMemory`; `DuplicateMapKey`, where the recipient wasn't read and its protected header repeats a label; or `Caller`,
-/// with `absent` where no recipient names the key, or it carries no ciphertext, and else with the error of `unwrap`.
+/// - `OutOfMemory` if an allocation fails.
+/// - `DuplicateMapKey` if the recipient wasn't read, and its protected header repeats a label.
+/// - `Caller` with `absent` if no recipient names the key, or the recipient has no ciphertext.
+/// - `Caller` with the error of `unwrap`.
 pub fn content_key<F, E>(
     alloc: Global,
     message: &CoseEncrypt,
@@ -119,13 +128,18 @@ where
     recipient.decrypt(alloc, EncryptionContext::EncRecipient, &[], unwrap)
 }
 
-/// The plaintext of the message that the bytes are: `unwrap` makes the content key of the ciphertext of the first recipient
-/// whose headers name this key, and `decrypt` the plaintext of that key, the ciphertext of the message and what goes with it.
+/// Decodes the message, and returns its plaintext.
+///
+/// `unwrap` makes the content key from the ciphertext of the first recipient whose headers name
+/// this key. `decrypt` makes the plaintext from that key, the message's ciphertext and its
+/// additional authenticated data.
 ///
 /// # Errors
-/// Why the bytes aren't an encrypted message with recipients, or that it carries no ciphertext (`UnexpectedItem`);
-/// `OutOfMemory`; or `Caller`, with `absent` where no recipient names the key, or it carries no ciphertext, and else with
-/// the error of the closure that refused.
+/// - A fault in bytes that aren't an encrypted message with recipients.
+/// - `UnexpectedItem` if the message has no ciphertext.
+/// - `OutOfMemory` if an allocation fails.
+/// - `Caller` with `absent` if no recipient names the key, or the recipient has no ciphertext.
+/// - `Caller` with the error of the closure that refused.
 pub fn decrypt_for<F, G, E>(
     alloc: Global,
     message: &[u8],

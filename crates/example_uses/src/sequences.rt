@@ -1,4 +1,4 @@
-//! CBOR by itself: items that follow one another (RFC 8742), read and written.
+//! Reads and writes sequences of CBOR items (RFC 8742).
 
 ghost use Rattle.std.specs.Prelude.{◌≡◌, ◌≤◌, ◌<◌, ◌+◌, ◌++◌, ℕ, List, IfOk, length, map, take};
 ghost use Rattle.coset_cbor.specs.Grammar.{IsItem};
@@ -15,10 +15,11 @@ use std::alloc::Global;
 use std::marker::Brand;
 use std::sync::ledger::{Blank, Ledger};
 
-/// The items that are in the bytes, one after the other.
+/// Decodes the items in the bytes, one after another.
 ///
 /// # Errors
-/// Why what is left, behind some items, doesn't begin with one; or `OutOfMemory`.
+/// - A fault in the remaining bytes, if they don't begin with an item.
+/// - `OutOfMemory` if an allocation fails.
 pub fn values_in(alloc: Global, bytes: &[u8]) -> Result<Vec<Value>>
     ensures { IfOk result (λ vs. IsSequence (map value_item vs.items) bytes.now) }
 {
@@ -32,10 +33,10 @@ pub fn values_in(alloc: Global, bytes: &[u8]) -> Result<Vec<Value>>
     Ok(values)
 }
 
-/// Appends one more item to such a sequence, by its shortest encoding.
+/// Appends the shortest encoding of one more item to a sequence.
 ///
 /// # Errors
-/// `OutOfMemory` alone.
+/// `OutOfMemory` if an allocation fails.
 pub fn and_value(mut sequence: Vec<u8>, value: &Value) -> Result<Vec<u8>>
     ensures { IfOk result (λ s. (b : List ℕ) × (s.items ≡ sequence.items ++ b)
         × IsShortest b (value_item value.now)) }
@@ -44,11 +45,12 @@ pub fn and_value(mut sequence: Vec<u8>, value: &Value) -> Result<Vec<u8>>
     Ok(sequence)
 }
 
-/// The lengths of the items at the front of these bytes and of those. It takes no memory, and at most as many steps as
-/// they have bytes together.
+/// Returns the lengths of the items at the fronts of both inputs.
+///
+/// This allocates nothing. It takes at most as many steps as the two inputs have bytes.
 ///
 /// # Errors
-/// Why no item is at the front of the first, or else of the second.
+/// A fault at the front of the first input, otherwise of the second.
 pub fn front_lengths<L: Ledger>(
     first: &[u8],
     second: &[u8],
@@ -63,7 +65,7 @@ pub fn front_lengths<L: Ledger>(
     Ok((one, other))
 }
 
-/// The same with a counter of its own. Its ledger is whichever the blank is for.
+/// Does the same with a counter of its own, whose ledger is the one of `blank`.
 fn counted_lengths<L: Ledger>(
     first: &[u8],
     second: &[u8],
@@ -79,10 +81,10 @@ fn counted_lengths<L: Ledger>(
     front_lengths(first, second, &mut steps)
 }
 
-/// The same for who doesn't ask how many steps it takes.
+/// Does the same for callers that don't need the number of steps.
 ///
 /// # Errors
-/// The same as [`front_lengths`].
+/// The errors of [`front_lengths`].
 pub fn uncounted_lengths(first: &[u8], second: &[u8]) -> Result<(usize, usize), Error<EndOfFile>>
     ensures { IfOk result (λ n. (v : Item) × (w : Item) × IsItem (take n.0 first.now) v
         × IsItem (take n.1 second.now) w) }

@@ -1,5 +1,5 @@
-//! A message with a MAC by a key that the two sides share: its recipient names the key, and nothing is encrypted for them
-//! (RFC 8152, section 12.1.1).
+//! Messages with a MAC by a key that the two sides share. The recipient names the key, and has an
+//! empty ciphertext (RFC 8152, section 12.1).
 
 ghost use Rattle.std.specs.Prelude.{◌≡◌, map, IfOk, IfErr};
 ghost use Rattle.std.specs.List.{list_any};
@@ -18,11 +18,12 @@ use coset::{
 use coset_recipient::laws::structures_when_read;
 use std::alloc::Global;
 
-/// A recipient who shares this key: its unprotected header names the key and the algorithm `direct`, and its ciphertext is
-/// empty.
+/// Makes a recipient that shares this key.
+///
+/// Its unprotected header names the key and the algorithm `direct`. Its ciphertext is empty.
 ///
 /// # Errors
-/// `OutOfMemory` alone.
+/// `OutOfMemory` if an allocation fails.
 pub fn direct_recipient(alloc: Global, key_id: &[u8]) -> Result<CoseRecipient>
     ensures named { IfOk result (λ r. recipient_view r ≡ direct_to key_id.now) }
     ensures memory { IfErr result (λ e. e ≡ OutOfMemory) }
@@ -37,10 +38,11 @@ pub fn direct_recipient(alloc: Global, key_id: &[u8]) -> Result<CoseRecipient>
     Ok(recipient.build())
 }
 
-/// A message with this payload and a MAC by the key that is shared, written.
+/// Makes a message with this payload and a MAC by the shared key, and encodes it.
 ///
 /// # Errors
-/// `OutOfMemory`; or `Caller` with the error of `mac`.
+/// - `OutOfMemory` if an allocation fails.
+/// - `Caller` with the error of `mac`.
 pub fn mac_for<F, E>(
     alloc: Global,
     algorithm: Algorithm,
@@ -66,7 +68,7 @@ where
     Ok(tagged.build().to_vec(alloc)?)
 }
 
-/// Whether the recipient shares this key.
+/// Returns true if the recipient shares this key.
 fn is_direct(recipient: &CoseRecipient, key_id: &[u8]) -> bool
     ensures { result ≡ is_direct_to key_id.now (recipient_view recipient.now) }
 {
@@ -74,7 +76,7 @@ fn is_direct(recipient: &CoseRecipient, key_id: &[u8]) -> bool
         && names_key(&recipient.unprotected, key_id)
 }
 
-/// Whether one of the recipients shares this key.
+/// Returns true if one of the recipients shares this key.
 fn are_direct(recipients: &[CoseRecipient], key_id: &[u8]) -> bool
     ensures { result ≡ list_any (is_direct_to key_id.now) (map recipient_view recipients.now) }
 {
@@ -83,11 +85,14 @@ fn are_direct(recipients: &[CoseRecipient], key_id: &[u8]) -> bool
         .any(|recipient| is_direct(recipient, key_id))
 }
 
-/// The message that the bytes are, once its MAC by the key that is shared was verified.
+/// Decodes and returns the message, if `verify` accepts its MAC by the shared key.
 ///
 /// # Errors
-/// Why the bytes aren't a message with a MAC and recipients; `OutOfMemory`; or `Caller`, with `absent` where the message
-/// carries no payload, or none of its recipients shares the key, and else with the error of `verify`.
+/// - A fault in bytes that aren't a message with a MAC and recipients.
+/// - `OutOfMemory` if an allocation fails.
+/// - `Caller` with `absent` if the message has no payload, or none of its recipients shares the
+///   key.
+/// - `Caller` with the error of `verify`.
 pub fn verify_for<F, E>(
     alloc: Global,
     message: &[u8],

@@ -1,4 +1,4 @@
-//! A message that several sign, each with a header of their own (RFC 8152, section 4.1).
+//! Messages with several signers, each with its own headers (RFC 8152, section 4.1).
 
 ghost use Rattle.std.specs.Prelude.{◌≡◌, map, IfOk, IfErr};
 ghost use Rattle.std.specs.List.{position_from};
@@ -17,10 +17,11 @@ use coset::{
 use coset_sign::laws::each_signed_when_read;
 use std::alloc::Global;
 
-/// A signature before it is made: its protected header names the algorithm, and its unprotected one the key.
+/// Makes a signature without its bytes. Its protected header names the algorithm, its unprotected
+/// header the key.
 ///
 /// # Errors
-/// `OutOfMemory` alone.
+/// `OutOfMemory` if an allocation fails.
 pub fn signer(alloc: Global, algorithm: Algorithm, key_id: &[u8]) -> Result<CoseSignature>
     ensures named { IfOk result (λ s. signature_view s
         ≡ signer (assigned (algorithms.number algorithm)) key_id.now) }
@@ -36,11 +37,13 @@ pub fn signer(alloc: Global, algorithm: Algorithm, key_id: &[u8]) -> Result<Cose
     Ok(signature.build())
 }
 
-/// A message with this payload, signed by two and written. The headers of each signature are set before.
+/// Makes a message with this payload and two signatures, and encodes it. The headers of both
+/// signatures are given.
 ///
 /// # Errors
-/// `OutOfMemory`; `DuplicateMapKey`, where a header repeats a label; or `Caller` with the error of the closure that
-/// refused.
+/// - `OutOfMemory` if an allocation fails.
+/// - `DuplicateMapKey` if a header repeats a label.
+/// - `Caller` with the error of the closure that refused.
 pub fn sign_by_two<F, G, E>(
     alloc: Global,
     payload: Vec<u8>,
@@ -65,14 +68,14 @@ where
     Ok(twice.build().to_vec(alloc)?)
 }
 
-/// Whether a header of the signature names this key.
+/// Returns true if a header of the signature names this key.
 fn is_by(signature: &CoseSignature, key_id: &[u8]) -> bool
     ensures { result ≡ is_by key_id.now (signature_view signature.now) }
 {
     one_names_key(&signature.protected, &signature.unprotected, key_id)
 }
 
-/// The number of the first of the signatures whose headers name this key, counted from 0.
+/// Returns the index of the first signature whose headers name this key, counted from 0.
 fn number_by(signatures: &[CoseSignature], key_id: &[u8]) -> Option<usize>
     ensures { result
         ≡ position_from (is_by key_id.now) 0 (map signature_view signatures.now) }
@@ -82,11 +85,14 @@ fn number_by(signatures: &[CoseSignature], key_id: &[u8]) -> Option<usize>
         .position(|signature| is_by(signature, key_id))
 }
 
-/// The message that the bytes are, once the first signature whose headers name this key was verified.
+/// Decodes and returns the message, if `verify` accepts the first signature whose headers name this
+/// key.
 ///
 /// # Errors
-/// Why the bytes aren't a message with signatures; `OutOfMemory`; or `Caller`, with `absent` where no signature names the
-/// key, and else with the error of `verify`.
+/// - A fault in bytes that aren't a message with signatures.
+/// - `OutOfMemory` if an allocation fails.
+/// - `Caller` with `absent` if no signature names the key.
+/// - `Caller` with the error of `verify`.
 pub fn verify_by<F, E>(
     alloc: Global,
     message: &[u8],

@@ -1,5 +1,5 @@
-//! A stand-in for the cipher, since Rattle has no signature algorithms. It shows how a key meets its contract, and guards
-//! nothing: never use it for anything but tests and examples.
+//! A stand-in for ciphers, because Rattle has no signature algorithms. It shows how a key meets its
+//! contract, and protects nothing: use it only for tests and examples.
 
 ghost use Rattle.std.specs.Prelude.{◌≡◌, ◌++◌};
 ghost use Rattle.example_uses.specs.Refusals.{IsNotBehind};
@@ -10,8 +10,10 @@ use crate::token_keys::TokenCipher;
 use coset::CoseKey;
 use std::alloc::Global;
 
-/// A key whose signature of bytes is these bytes themselves, and whose ciphertext is the plaintext behind the additional
-/// authenticated data: who has no key makes them as well.
+/// A key that protects nothing, because its results can be made without it.
+///
+/// Its signature is the signed bytes themselves. Its ciphertext is the additional authenticated
+/// data, followed by the plaintext.
 #[derive(Clone, Copy, Debug)]
 pub struct StandInKey;
 
@@ -53,7 +55,7 @@ impl DecryptionKey for StandInKey {
     }
 }
 
-/// The same with whichever key.
+/// The same, whichever key is given.
 impl TokenCipher for StandInKey {
     ghost verifies = { λ self key tbs signature. signature ≡ tbs };
 

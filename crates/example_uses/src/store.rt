@@ -1,7 +1,8 @@
-//! Stores of keys that compare what they hold by bytes.
+//! Stores of keys, which are compared by bytes.
 //!
-//! A key may be spelled in many ways, and its params may be in any order. A store that reads a key, puts its params in
-//! order and writes it holds bytes that two such stores can compare, or hash, in place of the keys.
+//! A key may be spelled in many ways, and its parameters may be in any order. A store reads a key,
+//! puts its parameters in order, and writes it. Two such stores can compare or hash these bytes
+//! instead of the keys.
 
 ghost use Rattle.std.specs.Prelude.{◌≡◌, ◌⊎◌, ◌↔◌, IfOk, IfErr, IsTrue};
 ghost use Rattle.coset_key.specs.Canonical.{AgreeButForOrder};
@@ -14,10 +15,12 @@ use coset_codec::laws::one_value;
 use coset_key::laws::{canonical_keys_apart, canonical_keys_read_again};
 use std::alloc::Global;
 
-/// The bytes that a store holds of a key: its shortest encoding, with its params in order.
+/// Returns the bytes that a store keeps of a key: its shortest encoding, with its parameters in
+/// order.
 ///
 /// # Errors
-/// Why the bytes aren't a key; or `OutOfMemory`.
+/// - A fault in bytes that aren't a key.
+/// - `OutOfMemory` if an allocation fails.
 pub fn stored(alloc: Global, bytes: &[u8], ordering: CborOrdering) -> Result<Vec<u8>>
     ensures held { IfOk result (λ held. IsStored ordering bytes.now held.items) }
     ensures refused { IfErr result (λ e. IsRefused key bytes.now e) }
@@ -28,11 +31,13 @@ pub fn stored(alloc: Global, bytes: &[u8], ordering: CborOrdering) -> Result<Vec
     key.to_vec(alloc)
 }
 
-/// Whether two stores that order params by the bytes of their labels hold the same, once they were handed these bytes:
-/// exactly where the keys agree but for the order of their params.
+/// Returns true if two stores have the same bytes for these keys. The stores order parameters by
+/// the bytes of their labels.
+///
+/// The bytes are the same exactly if the keys agree. The order of their parameters doesn't matter.
 ///
 /// # Errors
-/// The same as [`stored`].
+/// The errors of [`stored`].
 pub fn hold_the_same(alloc: Global, one: &[u8], other: &[u8]) -> Result<bool>
     ensures same { (k l : KeyView) → Describes key one.now k → Describes key other.now l
         → IfOk result (λ same. IsTrue same ↔ AgreeButForOrder k l) }

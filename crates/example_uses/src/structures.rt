@@ -1,4 +1,5 @@
-//! What the receiver of a message verifies or decrypts is what its sender signed, authenticated or encrypted.
+//! The structures that a receiver verifies or decrypts are those that the sender signed,
+//! authenticated or encrypted.
 
 ghost use Rattle.coset_codec.specs.Shape.{tagged};
 ghost use Rattle.coset_sign.specs.Countersigned.{EachCountersignsSame};
@@ -20,8 +21,11 @@ use coset_recipient::laws::{
 };
 use coset_sign::laws::{countersigned_as_written, each_signed_as_written, each_signed_when_read};
 
-/// Of a message that is written, plain or under its tag, and arrives in whatever spelling, each structure of the receiver's
-/// is the sender's: of each signature, of the MAC, of the ciphertext, and of each recipient at any depth.
+/// If a message is written, plain or under its tag, and arrives in any spelling, the receiver's
+/// structures are the sender's.
+///
+/// This holds for each signature, for the MAC, for the ciphertext, and for each recipient at any
+/// depth.
 pub fn structures_arrive()
     ensures sign { Arrives sign (λ m n. EachSignsSame n m)
         × Arrives (tagged 98 sign) (λ m n. EachSignsSame n m) }
@@ -40,7 +44,7 @@ pub fn structures_arrive()
     structures_as_written();
 }
 
-/// So is what each countersignature in its unprotected header is over.
+/// The same holds for the structure of each countersignature in the message's unprotected header.
 pub fn countersignatures_arrive()
     ensures sign1 { Arrives sign1
         (λ m n. EachCountersignsSame m.protected m.unprotected n.protected n.unprotected)
@@ -73,8 +77,8 @@ pub fn countersignatures_arrive()
     all_countersigned_as_written();
 }
 
-/// Of a message that was read, plain or under its tag, there always is each of these structures: so who verifies or
-/// decrypts one meets no error of the library but out of memory.
+/// A message that was read, plain or under its tag, always has each of these structures. So a
+/// caller that verifies or decrypts it gets no error of the library other than `OutOfMemory`.
 pub fn structures_are_there()
     ensures sign { IsReceived sign EachSigns × IsReceived (tagged 98 sign) EachSigns }
     ensures mac0 { IsReceived mac0 (λ m. Authenticates m.protected)

@@ -1,4 +1,5 @@
-//! The keys by which web tokens are let in: a set of keys, each found by the identifier that a layer's headers name.
+//! Keys for letting in web tokens: a set of keys, each found by the identifier in a layer's
+//! headers.
 
 ghost use Rattle.std.specs.Prelude.{ℕ, List, IfOk};
 ghost use Rattle.coset_key.specs.Keys.{KeyView, key_view};
@@ -9,32 +10,33 @@ use coset::{CoseKey, CoseKeySet};
 use cwt_gate::{Form, Keys, Sealed};
 use std::alloc::Global;
 
-/// What a caller's ciphers do with a key. Rattle has none.
+/// The ciphers of a caller, which Rattle doesn't have.
 pub trait TokenCipher {
-    /// Which signatures of which bytes are accepted by which key: the key comes first, and then the bytes.
+    /// The signatures that are accepted. The arguments are the key, the bytes and the signature.
     ghost verifies: { Self → KeyView → List ℕ → List ℕ → Type 0 };
 
-    /// The same of MACs.
+    /// The MACs that are accepted. The arguments are the key, the bytes and the MAC.
     ghost verifies_tag: { Self → KeyView → List ℕ → List ℕ → Type 0 };
 
-    /// Which plaintexts are made by which key, of which additional authenticated data, and of which ciphertext.
+    /// The plaintexts that are made. The arguments are the key, the additional authenticated data,
+    /// the ciphertext and the plaintext.
     ghost decrypts: { Self → KeyView → List ℕ → List ℕ → List ℕ → Type 0 };
 
-    /// Accepts a signature.
+    /// Accepts a signature, or refuses it.
     ///
     /// # Errors
     /// `Rejected`, or `OutOfMemory`.
     fn verify(&self, key: &CoseKey, signature: &[u8], tbs: &[u8]) -> Result<(), Refused>
         ensures { IfOk result (λ _. verifies self.now (key_view key.now) tbs.now signature.now) };
 
-    /// Accepts a MAC.
+    /// Accepts a MAC, or refuses it.
     ///
     /// # Errors
     /// `Rejected`, or `OutOfMemory`.
     fn verify_tag(&self, key: &CoseKey, tag: &[u8], tbm: &[u8]) -> Result<(), Refused>
         ensures { IfOk result (λ _. verifies_tag self.now (key_view key.now) tbm.now tag.now) };
 
-    /// The plaintext.
+    /// Returns the plaintext.
     ///
     /// # Errors
     /// `Rejected`, or `OutOfMemory`.
@@ -49,10 +51,11 @@ pub trait TokenCipher {
             decrypts self.now (key_view key.now) aad.now ciphertext.now p.items) };
 }
 
-/// A set of keys, and the ciphers that they are for.
+/// A set of keys, and the ciphers for them. Only the first key with the identifier of a layer is
+/// tried.
 #[derive(Drop)]
 pub struct TokenKeys<'a, C> {
-    /// The keys. A layer that names no key is judged by the first one without an identifier.
+    /// The keys. The first one without an identifier is for layers that name no key.
     pub keys: &'a CoseKeySet,
     /// The ciphers.
     pub cipher: C,

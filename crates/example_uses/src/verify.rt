@@ -1,4 +1,4 @@
-//! Verifying a web token (RFC 8392, section 7.2), however it was spelled on its way.
+//! Verifies a web token (RFC 8392, section 7.2), in whatever spelling it arrives.
 
 ghost use Rattle.std.specs.Prelude.{◌≡◌, ℕ, List, IfOk, IfErr};
 ghost use Rattle.coset_codec.specs.declared.error.CoseError.TheVariants.{OutOfMemory};
@@ -19,11 +19,15 @@ use coset_codec::laws::spellings_agree;
 use coset_sign::laws::{carried_as_written, signed_as_written, signed_when_read};
 use std::alloc::Global;
 
-/// The message that the token is, once its signature was verified.
+/// Decodes and returns a token's message, if the key accepts its signature.
 ///
 /// # Errors
-/// Why the bytes aren't a message with one signature; `OutOfMemory`; or `Caller`, where the key doesn't accept its
-/// signature. Of a token that a matching key signed, however it was spelled on its way, `OutOfMemory` alone.
+/// - A fault in bytes that aren't a message with one signature.
+/// - `OutOfMemory` if an allocation fails.
+/// - `Caller` if the key doesn't accept the signature.
+///
+/// If a matching key signed the token, the only error is `OutOfMemory`, however the token was
+/// spelled on its way.
 pub fn verify_token<K: VerifyingKey>(
     alloc: Global,
     key: &K,
@@ -55,10 +59,11 @@ pub fn verify_token<K: VerifyingKey>(
     Ok(message)
 }
 
-/// The claims of a web token, once its signature was verified.
+/// Returns the claims of a web token, if the key accepts its signature.
 ///
 /// # Errors
-/// The same as [`verify_token`]; or why the payload isn't claims.
+/// - The errors of [`verify_token`].
+/// - A fault in a payload that isn't claims, or `UnexpectedItem` if there is none.
 pub fn verified_claims<K: VerifyingKey>(
     alloc: Global,
     key: &K,

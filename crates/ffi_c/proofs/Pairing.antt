@@ -1,4 +1,4 @@
--- Pairs that are given as structs of numbers, and answers that are spans.
+-- Pairs given as structs of numbers, and results that are places.
 use Rattle.std.proofs.Common.{◌≡◌, ◌∙◌, ◌++◌, ◌+◌, ◌<◌, ◌&&◌, ℕ, zero, suc, List, [], ◌∷◌, length, get_or}
 use Rattle.std.proofs.Common.{take, Option, Some, None, Result, Ok, Err, Bool, ap, sym, refl, arith}
 use Rattle.std.proofs.lemmas.List.{take_more}
@@ -15,7 +15,7 @@ use Rattle.ffi_c.specs.PairsGiven.{pair_of, pairs_of}
 use Rattle.ffi_c.specs.Replies.{reply_status}
 use Rattle.ffi_c.specs.SpansNumbers.{length_written}
 
--- how many bytes are written, is returned as all is well where the spans are
+-- The status of the length written is the status of the places.
 pub same_spans_status : (r : Result MessageSpans refusals.Refusal) → reply_status (length_written r) ≡ reply_status r
 same_spans_status (Ok n) = refl
 same_spans_status (Err e) = refl
@@ -23,7 +23,7 @@ same_spans_status (Err e) = refl
 none_is : {A : Type 0} {x : A} → None ≡ Some x → ⊥
 none_is p = some-none refl (sym p)
 
--- ---- one pair more
+-- ---- one more pair
 
 one_then :
     (o p : Option (Name × EntryView)) (q : Option (List (Name × EntryView))) (zs : List (Name × EntryView)) (x : Name × EntryView)
@@ -48,7 +48,7 @@ pub pairs_more :
     → pair_of b (get_or ps i d) ≡ Some x → pairs_of b (take (i + 1) ps) ≡ Some (xs ++ x ∷ [])
 pairs_more b ps i d xs x lt e f = ap (pairs_of b) (take_more ps i d lt) ∙ pairs_push b (take i ps) (get_or ps i d) xs x e f
 
--- ---- one that means nothing
+-- ---- a pair without a meaning
 
 none_then : (o : Option (Name × EntryView)) (q : Option (List (Name × EntryView))) → q ≡ None → both (λ y ys. y ∷ ys) o q ≡ None
 none_then (Some y) None e = refl
@@ -60,7 +60,7 @@ pairs_none b [] i d lt e = absurd (omega (arith, lt))
 pairs_none b (p ∷ ps) zero d lt e = ap (λ o. both (λ y ys. y ∷ ys) o (pairs_of b ps)) e
 pairs_none b (p ∷ ps) (suc i) d lt e = none_then (pair_of b p) (pairs_of b ps) (pairs_none b ps i d (omega (arith, lt)) e)
 
--- ---- whether all mean something
+-- ---- all pairs have a meaning
 
 and_then : (o : Option (Name × EntryView)) (q : Option (List (Name × EntryView))) (x : Bool) → is_some q ≡ x
     → is_some (both (λ y ys. y ∷ ys) o q) ≡ (is_some o && x)

@@ -1,4 +1,4 @@
--- Names that are wanted, or aren't UTF-8.
+-- Wanted names, UTF-8 or not.
 use Rattle.std.proofs.Common.{◌≡◌, ◌==◌, ℕ, List, Some, None, false, arith}
 use Rattle.std.proofs.lemmas.Bool.Decides.{nat_tests}
 use Rattle.std.proofs.lemmas.Bool.{false_from_ne_true}

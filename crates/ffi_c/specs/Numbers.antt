@@ -1,4 +1,4 @@
--- Numbers as kinds, parts and maps.
+-- The kinds, parts and maps that numbers name.
 use Rattle.std.specs.Prelude.{◌==◌, ◌%◌, ◌-◌, ℕ, ℤ, pos, List, [], ◌∷◌, Option, Some, None, Bool, true, false, if◌then◌else◌}
 use Rattle.std.specs.Ordering.{int_eq}
 use Rattle.coset.specs.Shape.{both}
@@ -16,11 +16,11 @@ use Rattle.ffi_query.specs.declared.label.Map.TheVariants as of
 use Rattle.ffi_query.specs.declared.part.Part as parts
 use Rattle.ffi_query.specs.declared.part.Part.TheVariants.{Protected, Payload, Ciphertext, Proof}
 
--- the form of a message, by what is added to its number
+-- The form of a message, by the number added to its kind.
 abbrev pub form_of : ℕ → Option forms.Form
 form_of n = if n == 0 then Some Plain else (if n == 0x100 then Some Tagged else (if n == 0x200 then Some Either else None))
 
--- the message of that number and form
+-- The message with this number and form.
 abbrev pub message_of : ℕ → forms.Form → Option kinds.Kind
 message_of n f =
     if n == 1 then Some (Sign1 f) else
@@ -30,7 +30,7 @@ message_of n f =
     (if n == 5 then Some (Encrypt0 f) else
     (if n == 6 then Some (Encrypt f) else None)))))
 
--- the kind of that number that is no message
+-- The kind with this number, other than a message.
 abbrev pub other_of : ℕ → Option kinds.Kind
 other_of n =
     if n == 7 then Some Signature else
@@ -42,30 +42,30 @@ other_of n =
     (if n == 13 then Some Any else
     (if n == 14 then Some KdfContext else None)))))))
 
--- the message of that number, where there is a form
+-- The message with this number, if there is a form.
 abbrev pub message_in : ℕ → Option forms.Form → Option kinds.Kind
 message_in n None = None
 message_in n (Some f) = message_of n f
 
--- the first of the two, where there is one, else the second
+-- The first option if it is some, else the second.
 abbrev pub or_else : {A : Type 0} → Option A → Option A → Option A
 or_else (Some x) o = Some x
 or_else None o = o
 
--- the kind of that number: one that is no message; else the message of the lowest 8 bits, in the form of the others
+-- The kind with this number. The lowest 8 bits of a message's number are its kind, and the others its form.
 abbrev pub kind_of : ℕ → Option kinds.Kind
 kind_of n = or_else (other_of n) (message_in (n % 0x100) (form_of (n - n % 0x100)))
 
--- the kind, where it is a message with one signature
+-- The kind, if it is a message with one signature.
 abbrev pub only_sign1 : Option kinds.Kind → Option kinds.Kind
 only_sign1 (Some (Sign1 f)) = Some (Sign1 f)
 only_sign1 o = None
 
--- the same by the kind's number
+-- The same, by the kind's number.
 abbrev pub sign1_of : ℕ → Option kinds.Kind
 sign1_of n = only_sign1 (kind_of n)
 
--- bytes are given, and the number that says so is 0
+-- Bytes are given, although the flag n is 0.
 abbrev pub is_some : List ℕ → Bool
 is_some [] = false
 is_some (x ∷ xs) = true
@@ -73,14 +73,14 @@ is_some (x ∷ xs) = true
 abbrev pub is_unflagged : ℕ → List ℕ → Bool
 is_unflagged n b = if n == 0 then is_some b else false
 
--- the kind of that number, unless a content is given and the number that says so is 0
+-- The kind with this number, unless content is given although the flag n is 0.
 abbrev pub content_query : ℕ → ℕ → List ℕ → Option kinds.Kind
 content_query k n b = if is_unflagged n b then None else kind_of k
 
 abbrev pub sign1_query : ℕ → ℕ → List ℕ → Option kinds.Kind
 sign1_query k n b = if is_unflagged n b then None else sign1_of k
 
--- the countersignature of that label: of RFC 8152, section 4.5, and of RFC 9338, sections 3.1 and 3.2
+-- The countersignature with this label (RFC 8152, section 4.5 and appendix A.2; RFC 9338, section 2).
 abbrev pub countersignature_of : ℤ → Option countersignatures.Countersignature
 countersignature_of l =
     if int_eq l (pos 7) then Some Full else
@@ -88,11 +88,11 @@ countersignature_of l =
     (if int_eq l (pos 11) then Some FullV2 else
     (if int_eq l (pos 12) then Some AbbreviatedV2 else None)))
 
--- both, where each means one
+-- The kind and the countersignature, if both are valid.
 abbrev pub countersign_query : ℕ → ℤ → ℕ → List ℕ → Option (kinds.Kind × countersignatures.Countersignature)
 countersign_query k l n b = both (λ x y. (x, y)) (content_query k n b) (countersignature_of l)
 
--- the part of that number
+-- The part with this number.
 abbrev pub part_of : ℕ → Option parts.Part
 part_of n =
     if n == 1 then Some Protected else
@@ -100,21 +100,21 @@ part_of n =
     (if n == 3 then Some Ciphertext else
     (if n == 4 then Some Proof else None)))
 
--- the map of that number
+-- The map with this number.
 abbrev pub map_of : ℕ → Option maps.Map
 map_of n = if n == 1 then Some of.Protected else (if n == 2 then Some of.Unprotected else (if n == 3 then Some of.Item else None))
 
--- both, where each number means one
+-- The kind and the part, or the kind and the map, if both numbers are valid.
 abbrev pub part_query : ℕ → ℕ → Option (kinds.Kind × parts.Part)
 part_query k p = both (λ x y. (x, y)) (kind_of k) (part_of p)
 
 abbrev pub map_query : ℕ → ℕ → Option (kinds.Kind × maps.Map)
 map_query k m = both (λ x y. (x, y)) (kind_of k) (map_of m)
 
--- the bytes, where the number isn't 0
+-- The bytes, if the flag n isn't 0.
 abbrev pub bytes_if : ℕ → List ℕ → Option (List ℕ)
 bytes_if n b = if n == 0 then None else Some b
 
--- the order of labels of that number
+-- The order of labels with this number.
 abbrev pub order_of : ℕ → Option CborOrdering
 order_of n = if n == 1 then Some Lexicographic else (if n == 2 then Some LengthFirstLexicographic else None)

@@ -1,4 +1,4 @@
--- Pairs as C gives them: structs of numbers, which say where their texts and byte strings are in other bytes.
+-- Pairs as C passes them: structs of numbers. Their texts and byte strings are ranges of other bytes.
 use Rattle.std.specs.Prelude.{ℕ, List, [], ◌∷◌, length, take, drop, ◌==◌, nat_le, Option, Some, None, option_map, if◌then◌else◌}
 use Rattle.coset.specs.Names.{Name, number, text_label}
 use Rattle.coset.specs.Shape.{both}
@@ -7,17 +7,17 @@ use Rattle.ffi_make.specs.Given.{EntryView, a_string, a_text, an_encoding, an_in
 use Rattle.ffi_c.specs.declared.pairs.Pair.{Pair}
 use Rattle.ffi_c.specs.Numbers.{kind_of}
 
--- the n bytes of b from that place on, where they are all there
+-- The n bytes of b from the offset `at`, if all of them exist.
 abbrev pub part_at : ℕ → ℕ → List ℕ → Option (List ℕ)
 part_at at n b = if nat_le at (length b) then (if nat_le n (length (drop at b)) then Some (take n (drop at b)) else None) else None
 
--- the label, by its form: 1 is an integer, and 2 a text
+-- The label, by its form: 1 for an integer, 2 for a text.
 abbrev pub label_of : Pair → List ℕ → Option Name
 label_of p b =
     if p.label_form == 1 then Some (number p.label) else
     (if p.label_form == 2 then option_map text_label (part_at p.label_at p.label_len b) else None)
 
--- the value, by its form: 1 is an integer, 2 a text, 3 a byte string, and 4 an item by its encoding
+-- The value, by its form: 1 for an integer, 2 for a text, 3 for a byte string, 4 for an encoded item.
 abbrev pub entry_of : Pair → List ℕ → Option EntryView
 entry_of p b =
     if p.value_form == 1 then Some (an_integer p.value) else
@@ -28,11 +28,11 @@ entry_of p b =
 abbrev pub pair_of : List ℕ → Pair → Option (Name × EntryView)
 pair_of b p = both (λ l e. (l, e)) (label_of p b) (entry_of p b)
 
--- all of them, where each means one
+-- The pairs, if each is valid.
 abbrev pub pairs_of : List ℕ → List Pair → Option (List (Name × EntryView))
 pairs_of b [] = Some []
 pairs_of b (p ∷ ps) = both (λ x xs. x ∷ xs) (pair_of b p) (pairs_of b ps)
 
--- the kind of that number, and the pairs
+-- The kind with this number, and the pairs.
 abbrev pub pairs_query : ℕ → List ℕ → List Pair → Option (kinds.Kind × List (Name × EntryView))
 pairs_query k b ps = both (λ k xs. (k, xs)) (kind_of k) (pairs_of b ps)

@@ -1,4 +1,4 @@
--- Answers as C is given them: a status, and a number in a place of the caller's.
+-- Results as C receives them: a status, and a number in a place that the caller passes.
 use Rattle.std.specs.Prelude.{◌≡◌, ◌-◌, ◌^◌, ℕ, ℤ, pos, List, Option, Result, Ok, Err, unwrap_or}
 use Rattle.coset.specs.CoseError.{CoseError}
 use Rattle.ffi_query.specs.declared.elements.Span.{Span}
@@ -12,7 +12,7 @@ use Rattle.ffi_query.specs.Faults.{IsOffset}
 use Rattle.ffi_query.specs.Kinds.{Checks}
 use Rattle.ffi_query.specs.Status.{refusal_status}
 
--- the number of a status; 0 is that all is well
+-- The number of a status. 0 means success.
 abbrev pub status_number : statuses.Status → ℕ
 status_number Short = 1
 status_number Memory = 2
@@ -30,50 +30,51 @@ status_number Misuse = 13
 status_number WrongType = 14
 status_number Empty = 15
 
--- the status of an answer
+-- The status of a result.
 abbrev pub reply_status : {N : Type 0} → Result N refusals.Refusal → ℤ
 reply_status (Ok n) = pos 0
 reply_status (Err r) = pos (status_number (refusal_status r))
 
--- the number that goes with a status: the length or the count; where the memory is short the length that is needed; else 0
+-- The number that goes with a status: the length or the count, or the length needed if the memory is too small, else 0.
 abbrev pub length_of : Result ℕ refusals.Refusal → ℕ
 length_of (Ok n) = n
 length_of (Err (refused.Short n)) = n
 length_of (Err r) = 0
 
--- what goes with it otherwise: the value that is returned, or else this
+-- The value of a result, or `nothing` for an error.
 abbrev pub value_or : {N : Type 0} → N → Result N refusals.Refusal → N
 value_or nothing (Ok n) = n
 value_or nothing (Err r) = nothing
 
--- the status and the number are those of an answer of which P holds
+-- The status and the number are those of a result with property P.
 abbrev pub Replies : (Result ℕ refusals.Refusal → Type 0) → ℤ → ℕ → Type 0
 Replies P status n = (r : Result ℕ refusals.Refusal) × P r × (status ≡ reply_status r) × (n ≡ length_of r)
 
 abbrev pub RepliesValue : {N : Type 0} → N → (Result N refusals.Refusal → Type 0) → ℤ → N → Type 0
 RepliesValue {N} nothing P status n = (r : Result N refusals.Refusal) × P r × (status ≡ reply_status r) × (n ≡ value_or nothing r)
 
--- nothing but zeros
+-- All zeros.
 abbrev pub no_span : Span
 no_span = record { at = 0; len = 0 }
 
 abbrev pub no_pair : Span × Span
 no_pair = (no_span, no_span)
 
--- a number has no meaning: the status says so, and the place, which holds n, is given this
+-- A number has no meaning. The status says so, and the place, whose value is n, is set to `given`.
 abbrev pub IsMisuse : {N : Type 0} → ℤ → N → N → Type 0
 IsMisuse status n given = (status ≡ pos 13) × (n ≡ given)
 
--- the status of a check
+-- The status of a check.
 abbrev pub check_status : Result (Unit {0}) CoseError → ℤ
 check_status (Ok x) = pos 0
 check_status (Err e) = pos (status_number (refusal_status (refused.Cose e)))
 
--- where the bytes stop being one item; or the greatest number, where they are of the kind or nothing is said
+-- The offset at which the bytes stop being one item. It is the greatest number if they are of the kind or the offset
+-- isn't known.
 abbrev pub RepliesOffset : List ℕ → Result (Unit {0}) CoseError → ℕ → Type 0
 RepliesOffset b (Ok x) n = n ≡ 2 ^ 64 - 1
 RepliesOffset b (Err e) n = (o : Option ℕ) × IsOffset b o × (n ≡ unwrap_or o (2 ^ 64 - 1))
 
--- the status and the offset are those of a check of the bytes
+-- The status and the offset are those of a check of the bytes.
 abbrev pub RepliesCheck : kinds.Kind → List ℕ → ℤ → ℕ → Type 0
 RepliesCheck k b status n = (r : Result (Unit {0}) CoseError) × Checks k b r × (status ≡ check_status r) × RepliesOffset b r n

@@ -1,4 +1,4 @@
--- What C is given of a message whose texts stay where they are, beside a status and the structure: a struct of numbers.
+-- A message's view with the places of its texts, as C receives it in a struct of numbers.
 use Rattle.std.specs.Prelude.{◌≡◌, ℕ, ℤ, pos, Result, Ok, Err, if◌then◌else◌}
 use Rattle.ffi_query.specs.declared.refusal.Refusal as refusals
 use Rattle.ffi_query.specs.declared.spans.MessageSpans.{MessageSpans}
@@ -6,7 +6,7 @@ use Rattle.ffi_c.specs.declared.spans.Spans.{Spans}
 use Rattle.ffi_c.specs.Replies.{length_of, reply_status}
 use Rattle.ffi_c.specs.Views.{algorithm_numbers, critical_number, number_of_map}
 
--- the struct of spans
+-- The struct with these places.
 abbrev pub spans_numbers : MessageSpans → Spans
 spans_numbers m = record {
   algorithm = (algorithm_numbers m.view.algorithm).0;
@@ -26,7 +26,7 @@ spans_numbers m = record {
   key_id_len = m.view.key_id_len;
 }
 
--- nothing but zeros
+-- All zeros.
 abbrev pub no_spans : Spans
 no_spans = record {
   algorithm = pos 0;
@@ -46,17 +46,17 @@ no_spans = record {
   key_id_len = 0;
 }
 
--- the struct of an answer: that of the spans, and zeros where there are none
+-- The struct of a result: that of the places, or zeros for an error.
 abbrev pub spans_of : Result MessageSpans refusals.Refusal → Spans
 spans_of (Ok m) = spans_numbers m
 spans_of (Err r) = no_spans
 
--- how many bytes go with the spans
+-- The number of bytes that were written.
 abbrev pub length_written : Result MessageSpans refusals.Refusal → Result ℕ refusals.Refusal
 length_written (Ok m) = Ok m.len
 length_written (Err r) = Err r
 
--- the status, the number and the struct are those of an answer of which P holds
+-- The status, the number and the struct are those of a result with property P.
 abbrev pub RepliesSpans : (Result MessageSpans refusals.Refusal → Type 0) → ℤ → ℕ → Spans → Type 0
 RepliesSpans P status n view =
     (r : Result MessageSpans refusals.Refusal) × P r × (status ≡ reply_status r) × (n ≡ length_of (length_written r)) × (view ≡ spans_of r)

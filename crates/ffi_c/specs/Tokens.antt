@@ -1,4 +1,4 @@
--- The rules of a verifier, and what is returned of a token, in numbers.
+-- A verifier's rules, and the result for a token, in numbers.
 use Rattle.std.specs.Prelude.{◌≡◌, ◌==◌, not, ℕ, ℤ, pos, List, map, Bool, Option, Some, None, Result, Ok, Err, if◌then◌else◌}
 use Rattle.std.specs.Str.{is_utf8}
 use Rattle.cwt_gate.specs.Policy.{PolicyView}
@@ -27,11 +27,11 @@ use Rattle.ffi_c.specs.declared.token.Rules.{Rules}
 
 -- ---- the rules
 
--- how many bytes the struct of rules has
+-- The size of the struct of rules in bytes.
 abbrev pub RULES_SIZE : ℕ
 RULES_SIZE = 56
 
--- the form of layers without a tag: of nothing, a message with one signature
+-- The form of layers without a tag. 0 means a message with one signature.
 abbrev pub plain_of : ℕ → Option Form
 plain_of n = if n == 0 then Some Sign1 else (if n == 1 then Some Sign1 else (if n == 3 then Some Mac0 else (if n == 5 then Some Encrypt0 else None)))
 
@@ -41,18 +41,19 @@ authentication_of n = if n == 0 then Some SignatureOrMac else (if n == 1 then So
 abbrev pub unassigned_of : ℕ → Unassigned
 unassigned_of n = if n == 0 then Refused else LeftOut
 
--- a number of seconds, where the flag isn't 0
+-- A number of seconds, if the flag isn't 0.
 abbrev pub seconds_if : ℕ → ℕ → Option ℕ
 seconds_if flag n = if flag == 0 then None else Some n
 
--- The name that is wanted, where the flag isn't 0, and else none. Nothing, where it isn't UTF-8, or is given without the flag
+-- The wanted name, if the flag isn't 0. The outer `None` means that the name isn't UTF-8, or is given without the flag.
 abbrev pub name_fits : ℕ → List ℕ → Bool
 name_fits flag b = if flag == 0 then not (is_some b) else is_utf8 b
 
 abbrev pub name_of : ℕ → List ℕ → Option (Option (List ℕ))
 name_of flag b = if name_fits flag b then Some (if flag == 0 then None else Some b) else None
 
--- the policy of these rules, of algorithms for signatures, MACs and encryption, and of labels that are understood
+-- The policy of these rules, with the algorithms for signatures, MACs and encryption, and the labels that are
+-- understood.
 abbrev pub policy_with :
     Option (Option (List ℕ)) → Option (Option (List ℕ)) → Option Form → Option Authentication → Rules
     → List ℤ → List ℤ → List ℤ → List ℤ → Option PolicyView
@@ -73,7 +74,7 @@ policy_with (Some issuer) (Some audience) (Some form) (Some authenticated) r sig
 })
 policy_with i a f u r signatures macs ciphers critical = None
 
--- where their numbers have a meaning
+-- The policy of these rules, if all their numbers have a meaning.
 abbrev pub policy_of : Rules → List ℤ → List ℤ → List ℤ → List ℤ → List ℕ → List ℕ → Option PolicyView
 policy_of r signatures macs ciphers critical issuer audience =
     if r.size == RULES_SIZE then
@@ -81,9 +82,9 @@ policy_of r signatures macs ciphers critical issuer audience =
     r signatures macs ciphers critical
     else None
 
--- ---- what is returned
+-- ---- the result
 
--- the number of a reason
+-- The number of a reason.
 abbrev pub reason_number : reasons.Reason → ℕ
 reason_number reason.NoPayload = 12
 reason_number reason.FractionalTime = 14
@@ -99,7 +100,7 @@ reason_number reason.TooOld = 27
 reason_number reason.Issuer = 28
 reason_number reason.Audience = 29
 
--- the number of what is wrong with claims: that memory ran out, or that they are none
+-- The number of an error in claims: an allocation failed, or they aren't claims.
 abbrev pub claims_number : statuses.Status → ℕ
 claims_number Memory = 2
 claims_number s = 22
@@ -114,14 +115,14 @@ abbrev pub token_status : Result ℕ refusals.Refusal → ℤ
 token_status (Ok n) = pos 0
 token_status (Err r) = pos (token_number r)
 
--- how long an answer is: that of the claims, or of a layer's texts, or the length that is needed; else 0
+-- The length of a result: of the claims, of a layer's texts, or the length needed. For any other result it is 0.
 abbrev pub token_length : Result ℕ refusals.Refusal → ℕ
 token_length (Ok n) = n
 token_length (Err (Layer v)) = v.len
 token_length (Err (Answer (answers.Short n))) = n
 token_length (Err r) = 0
 
--- the number of an algorithm, and 0 where a text names it
+-- The number of an algorithm, or 0 if a text names it.
 abbrev pub algorithm_or_0 : Option ℤ → ℤ
 algorithm_or_0 (Some n) = n
 algorithm_or_0 None = pos 0
@@ -138,7 +139,7 @@ layer_numbers v = record {
   partial_iv_len = v.partial_iv_len;
 }
 
--- nothing but zeros
+-- All zeros.
 abbrev pub no_layer : layers.Layer
 no_layer = record {
   form = 0;
@@ -156,7 +157,7 @@ layer_of (Ok n) = no_layer
 layer_of (Err (Layer v)) = layer_numbers v
 layer_of (Err r) = no_layer
 
--- the status, the length and the struct are those of an answer of which P holds
+-- The status, the length and the struct are those of a result with property P.
 abbrev pub RepliesToken : (Result ℕ refusals.Refusal → Type 0) → ℤ → ℕ → layers.Layer → Type 0
 RepliesToken P status n layer =
     (r : Result ℕ refusals.Refusal) × P r × (status ≡ token_status r) × (n ≡ token_length r) × (layer ≡ layer_of r)

@@ -1,4 +1,4 @@
--- What C is given of a message, beside a status and a text: a struct of numbers, and a length.
+-- A message's view, as C receives it: a struct of numbers, and a length.
 use Rattle.std.specs.Prelude.{◌≡◌, ℕ, ℤ, pos, Bool, Result, Ok, Err, if◌then◌else◌}
 use Rattle.ffi_query.specs.declared.refusal.Refusal as refusals
 use Rattle.ffi_query.specs.declared.view.Algorithm as algorithms
@@ -10,19 +10,19 @@ use Rattle.ffi_c.specs.declared.sign1.View.{View}
 use Rattle.ffi_c.specs.declared.message.Message.{Message}
 use Rattle.ffi_c.specs.Replies.{length_of, reply_status}
 
--- the number of the algorithm, and its form: 1 where an integer names it, 2 where a text does; both are 0 where nothing does
+-- The algorithm's number and form. The form is 1 for an integer and 2 for a text. Both are 0 if no algorithm is named.
 abbrev pub algorithm_numbers : algorithms.Algorithm → ℤ × ℕ
 algorithm_numbers named.Absent = (pos 0, 0)
 algorithm_numbers (named.Number n) = (n, 1)
 algorithm_numbers named.Text = (pos 0, 2)
 
--- the number of the map in which the identifier of the key is, and 0 where there is none
+-- The number of the map that has the key identifier, or 0 if there is none.
 abbrev pub number_of_map : places.KeyIdPlace → ℕ
 number_of_map found.Absent = 0
 number_of_map found.Protected = 1
 number_of_map found.Unprotected = 2
 
--- the struct of a view
+-- The struct of a view.
 abbrev pub sign1_numbers : MessageView → View
 sign1_numbers n = record {
   algorithm = (algorithm_numbers n.algorithm).0;
@@ -36,7 +36,7 @@ sign1_numbers n = record {
   key_id_len = n.key_id_len;
 }
 
--- nothing but zeros
+-- All zeros.
 abbrev pub no_view : View
 no_view = record {
   algorithm = pos 0;
@@ -50,28 +50,28 @@ no_view = record {
   key_id_len = 0;
 }
 
--- the struct of an answer: that of the view, and zeros where there is none
+-- The struct of a result: that of the view, or zeros for an error.
 abbrev pub view_of : Result MessageView refusals.Refusal → View
 view_of (Ok n) = sign1_numbers n
 view_of (Err r) = no_view
 
--- the length of the text that goes with a view
+-- The length of the texts that go with a view.
 abbrev pub texts_len : Result MessageView refusals.Refusal → Result ℕ refusals.Refusal
 texts_len (Ok n) = Ok n.len
 texts_len (Err r) = Err r
 
--- the status, the number and the struct are those of an answer of which P holds
+-- The status, the number and the struct are those of a result with property P.
 abbrev pub RepliesView : (Result MessageView refusals.Refusal → Type 0) → ℤ → ℕ → View → Type 0
 RepliesView P status n view =
     (r : Result MessageView refusals.Refusal) × P r × (status ≡ reply_status r) × (n ≡ length_of (texts_len r)) × (view ≡ view_of r)
 
 -- ---- any message
 
--- 0 where there are no critical labels, 1 where all of them are understood, and 2 where they aren't
+-- 0 if there are no critical labels, 1 if all of them are understood, else 2.
 abbrev pub critical_number : (has understood : Bool) → ℕ
 critical_number has understood = if has then (if understood then 1 else 2) else 0
 
--- the struct of a view
+-- The struct of a view.
 abbrev pub message_numbers : MessageView → Message
 message_numbers n = record {
   algorithm = (algorithm_numbers n.algorithm).0;
@@ -85,7 +85,7 @@ message_numbers n = record {
   key_id_len = n.key_id_len;
 }
 
--- nothing but zeros
+-- All zeros.
 abbrev pub no_message : Message
 no_message = record {
   algorithm = pos 0;
@@ -99,12 +99,12 @@ no_message = record {
   key_id_len = 0;
 }
 
--- the struct of an answer: that of the view, and zeros where there is none
+-- The struct of a result: that of the view, or zeros for an error.
 abbrev pub message_of : Result MessageView refusals.Refusal → Message
 message_of (Ok n) = message_numbers n
 message_of (Err r) = no_message
 
--- the status, the number and the struct are those of an answer of which P holds
+-- The status, the number and the struct are those of a result with property P.
 abbrev pub RepliesMessage : (Result MessageView refusals.Refusal → Type 0) → ℤ → ℕ → Message → Type 0
 RepliesMessage P status n view =
     (r : Result MessageView refusals.Refusal) × P r × (status ≡ reply_status r) × (n ≡ length_of (texts_len r)) × (view ≡ message_of r)

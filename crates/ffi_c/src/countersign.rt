@@ -1,4 +1,4 @@
-//! The function that says what a countersignature is over.
+//! The function that writes the structure of a countersignature.
 
 ghost use Rattle.std.specs.Prelude.{◌≡◌, MatchOption};
 ghost use Rattle.ffi_query.specs.Answers.{AnswersOr};
@@ -12,8 +12,10 @@ use crate::replies::{misused, reply};
 use ffi_query::countersign_structure_of;
 use std::alloc::Global;
 
-/// Writes what the countersignature of the input is over that has this label, and this protected header of its own.
-/// `detached` is the payload where `has_detached` isn't 0, and else it is empty.
+/// Writes the structure that a countersignature of the input signs.
+///
+/// `label` says which countersignature it is, and `signer` is the content of its own protected
+/// header. `detached` is the payload if `has_detached` isn't 0; else it is empty.
 #[unsafe(no_mangle)]
 pub extern "C" fn coset_countersign_structure(
     alloc: Global,

@@ -1,5 +1,5 @@
-//! The functions that read the elements of an array and the pairs of a map by index, where they are and as copies; the
-//! content of a string, and an integer; and a key of a set by its identifier.
+//! Functions that read array elements and map pairs by index, as places or as copies. Others read
+//! the content of a string, an integer, and a key of a set by its identifier.
 
 ghost use Rattle.std.specs.Prelude.{◌≡◌, MatchOption, pos};
 ghost use Rattle.ffi_query.specs.declared.kind.Kind.TheVariants.{Any, KeySet};
@@ -23,14 +23,15 @@ use ffi_query::{
 };
 use std::alloc::Global;
 
-/// What is in the caller's struct where nothing is returned.
+/// Returns the zeros that the caller's struct gets after an error.
 fn no_span() -> Span
     ensures { result ≡ no_span }
 {
     Span { at: 0, len: 0 }
 }
 
-/// Says where the signature, recipient or key of that index is in the input, or the element of an array.
+/// Sets `span` to the place in the input of the signature, recipient, key or array element at
+/// `index`.
 #[unsafe(no_mangle)]
 pub extern "C" fn coset_member_span(
     alloc: Global,
@@ -49,7 +50,7 @@ pub extern "C" fn coset_member_span(
     }
 }
 
-/// Says where the value of an integer label is in the input.
+/// Sets `span` to the place in the input of an integer label's value.
 #[unsafe(no_mangle)]
 pub extern "C" fn coset_label_span(
     alloc: Global,
@@ -73,7 +74,8 @@ pub extern "C" fn coset_label_span(
     }
 }
 
-/// Says where the label and the value of the pair of that index are in the input.
+/// Sets `label` and `value` to the places in the input of the label and value of the pair at
+/// `index`.
 #[unsafe(no_mangle)]
 pub extern "C" fn coset_pair_spans(
     alloc: Global,
@@ -101,7 +103,7 @@ pub extern "C" fn coset_pair_spans(
     status
 }
 
-/// Says where the item is that begins `at` bytes behind the first.
+/// Sets `span` to the place of the item that begins at the offset `at`.
 #[unsafe(no_mangle)]
 pub extern "C" fn coset_item_span(input: &[u8], at: usize, span: &mut Span) -> i32
     ensures { RepliesValue no_span (AnswersItem input.now at) result span.new }
@@ -112,7 +114,7 @@ pub extern "C" fn coset_item_span(input: &[u8], at: usize, span: &mut Span) -> i
     }
 }
 
-/// Says where the content of the string is in the input, which is one whose length is announced.
+/// Sets `span` to the place in the input of a string's content. The string has definite length.
 #[unsafe(no_mangle)]
 pub extern "C" fn coset_string_span(alloc: Global, input: &[u8], span: &mut Span) -> i32
     ensures { RepliesValue no_span (AnswersNumber Any input.now (IsStringAt input.now)
@@ -124,7 +126,7 @@ pub extern "C" fn coset_string_span(alloc: Global, input: &[u8], span: &mut Span
     }
 }
 
-/// The integer that the input is.
+/// Sets `value` to the integer that the input encodes.
 #[unsafe(no_mangle)]
 pub extern "C" fn coset_integer(alloc: Global, input: &[u8], value: &mut i64) -> i32
     ensures { RepliesValue (pos 0) (AnswersNumber Any input.now IsNumber HasNoInteger)
@@ -136,7 +138,7 @@ pub extern "C" fn coset_integer(alloc: Global, input: &[u8], value: &mut i64) ->
     }
 }
 
-/// Writes the label of the pair of that index, as its shortest encoding.
+/// Writes the label of the pair at `index` in its shortest encoding.
 #[unsafe(no_mangle)]
 pub extern "C" fn coset_label_at(
     alloc: Global,
@@ -155,7 +157,7 @@ pub extern "C" fn coset_label_at(
     }
 }
 
-/// Writes the value of the pair of that index, as its shortest encoding.
+/// Writes the value of the pair at `index` in its shortest encoding.
 #[unsafe(no_mangle)]
 pub extern "C" fn coset_value_at(
     alloc: Global,
@@ -175,7 +177,7 @@ pub extern "C" fn coset_value_at(
     }
 }
 
-/// Writes the first key of the set with that identifier, as its shortest encoding.
+/// Writes the first key of the set with this identifier in its shortest encoding.
 #[unsafe(no_mangle)]
 pub extern "C" fn coset_key_of(
     alloc: Global,

@@ -1,6 +1,9 @@
-//! The lengths of slices. No object in C is longer than `PTRDIFF_MAX` bytes, and the prover takes no slice to be longer; so
-//! by their contracts these functions return the query as it is. A caller's mistake may be longer all the same, as -1 is
-//! where it becomes a length. Then they return `None`, so that the call is refused, which `tools/c` tries.
+//! Checks of the lengths of slices.
+//!
+//! No object in C is longer than `PTRDIFF_MAX` bytes, and the prover assumes the same of every
+//! slice. So by their contracts these functions return the query unchanged. A caller may still pass
+//! a greater length by mistake, such as -1 converted to a length. The functions then return `None`,
+//! and the call is refused. `tools/c` tests this.
 
 ghost use Rattle.std.specs.Prelude.{◌≡◌};
 
@@ -11,7 +14,7 @@ use std::mem;
 /// The greatest length in bytes.
 const MOST: usize = isize::MAX as usize;
 
-/// The query, where neither slice is too long.
+/// Returns the query, or `None` if one of the slices is too long.
 pub(crate) fn within<T: Drop>(query: Option<T>, bytes: &[u8], others: &[u8]) -> Option<T>
     ensures { result ≡ query }
 {
@@ -22,7 +25,7 @@ pub(crate) fn within<T: Drop>(query: Option<T>, bytes: &[u8], others: &[u8]) -> 
     }
 }
 
-/// The query, where neither has too many numbers.
+/// Returns the query, or `None` if one of the slices has too many numbers.
 pub(crate) fn within_numbers<T: Drop>(
     query: Option<T>,
     numbers: &[i64],
@@ -38,7 +41,7 @@ pub(crate) fn within_numbers<T: Drop>(
     }
 }
 
-/// The query, where there aren't too many pairs.
+/// Returns the query, or `None` if there are too many pairs.
 pub(crate) fn within_pairs<T: Drop>(query: Option<T>, pairs: &[Pair]) -> Option<T>
     ensures { result ≡ query }
 {
@@ -49,7 +52,7 @@ pub(crate) fn within_pairs<T: Drop>(query: Option<T>, pairs: &[Pair]) -> Option<
     }
 }
 
-/// The query, where there aren't too many layers.
+/// Returns the query, or `None` if there are too many layers.
 pub(crate) fn within_layers<T: Drop>(query: Option<T>, layers: &[Opened]) -> Option<T>
     ensures { result ≡ query }
 {

@@ -1,7 +1,11 @@
-//! `ffi_query` and `ffi_make` for C: the functions that `include/coset.h` declares. What crosses are numbers, slices (in
-//! C a pointer and a length) and places for a number or for a struct of numbers; nothing is kept between calls. `docs/C.md`
-//! says how they are called. Those that read are here, but for those in `elements`, `countersign`, `sign1`,
-//! `message`, `spans` and `token`, and those that make in `making` and `pairs`.
+//! `ffi_query`, `ffi_make` and `ffi_token` for C: the functions that `include/coset.h` declares.
+//!
+//! Arguments are numbers, slices (in C a pointer and a length), structs of numbers, and places for
+//! a number or for such a struct. Nothing is kept between calls. `docs/C.md` says how to call the
+//! functions.
+//!
+//! This module has functions that read. Others that read are in `elements`, `countersign`, `sign1`,
+//! `message`, `spans` and `token`. The functions that make items are in `making` and `pairs`.
 #![tactic(auto)]
 
 ghost use Rattle.std.specs.Prelude.{◌≡◌, MatchOption, pos};
@@ -35,8 +39,10 @@ use numbers::{bytes_if, content_query, kind_of, map_query, part_query};
 use replies::{misused, reply, reply_check, reply_value};
 use std::alloc::Global;
 
-/// Whether the input is an item of the kind; `offset` is where it stops being one item of CBOR, or `SIZE_MAX` where nothing
-/// is said of that.
+/// Checks that the input is an item of the kind.
+///
+/// Sets `offset` to the offset at which the input stops being one item of CBOR, or to `SIZE_MAX` if
+/// that isn't known or the input is one item.
 #[unsafe(no_mangle)]
 pub extern "C" fn coset_check(alloc: Global, kind: u32, input: &[u8], offset: &mut usize) -> i32
     ensures { MatchOption (kind_of kind) (IsMisuse result offset.new usize.MAX)
@@ -48,7 +54,8 @@ pub extern "C" fn coset_check(alloc: Global, kind: u32, input: &[u8], offset: &m
     }
 }
 
-/// How many signatures, recipients or keys the input has, where it has one at least.
+/// Sets `count` to the number of signatures, recipients, keys or elements of the input, which is at
+/// least 1.
 #[unsafe(no_mangle)]
 pub extern "C" fn coset_count(alloc: Global, kind: u32, input: &[u8], count: &mut usize) -> i32
     ensures { MatchOption (kind_of kind) (IsMisuse result count.new 0)
@@ -81,7 +88,7 @@ pub extern "C" fn coset_part(
     }
 }
 
-/// Writes the signature, recipient or key of that index, as its shortest encoding.
+/// Writes the signature, recipient, key or element at `index` in its shortest encoding.
 #[unsafe(no_mangle)]
 pub extern "C" fn coset_member(
     alloc: Global,
@@ -100,7 +107,7 @@ pub extern "C" fn coset_member(
     }
 }
 
-/// Writes the value of an integer label, as its shortest encoding.
+/// Writes the value of an integer label in its shortest encoding.
 #[unsafe(no_mangle)]
 pub extern "C" fn coset_label(
     alloc: Global,
@@ -124,7 +131,8 @@ pub extern "C" fn coset_label(
     }
 }
 
-/// Writes what the byte string or the text string holds that is the value of an integer label.
+/// Writes the content of the string that is the value of an integer label. It is a byte string or a
+/// text string.
 #[unsafe(no_mangle)]
 pub extern "C" fn coset_label_bytes(
     alloc: Global,
@@ -148,7 +156,7 @@ pub extern "C" fn coset_label_bytes(
     }
 }
 
-/// The integer that is the value of an integer label.
+/// Sets `value` to the integer that is the value of an integer label.
 #[unsafe(no_mangle)]
 pub extern "C" fn coset_label_int(
     alloc: Global,
@@ -172,7 +180,7 @@ pub extern "C" fn coset_label_int(
     }
 }
 
-/// Writes the value of a text label, given as its UTF-8 bytes, as its shortest encoding.
+/// Writes the value of a text label in its shortest encoding. `label` are the label's UTF-8 bytes.
 #[unsafe(no_mangle)]
 pub extern "C" fn coset_text_label(
     alloc: Global,
@@ -196,8 +204,9 @@ pub extern "C" fn coset_text_label(
     }
 }
 
-/// Writes what is signed of the input, what is authenticated, or what goes with the ciphertext. `detached` is the payload
-/// where `has_detached` isn't 0, and else it is empty.
+/// Writes the structure of the input: what is signed, authenticated, or goes with the ciphertext.
+///
+/// `detached` is the payload if `has_detached` isn't 0; else it is empty.
 #[unsafe(no_mangle)]
 pub extern "C" fn coset_structure(
     alloc: Global,
@@ -229,7 +238,8 @@ pub extern "C" fn coset_structure(
     }
 }
 
-/// Writes what goes with the ciphertext of the recipient that the input is, by the kind that holds it.
+/// Writes the structure that goes with the ciphertext of the input, a recipient, by the kind that
+/// contains it.
 #[unsafe(no_mangle)]
 pub extern "C" fn coset_recipient_structure(
     alloc: Global,

@@ -1,4 +1,5 @@
-//! The functions that make: pairs into maps, structures, messages, elements into lists, and items written again.
+//! The functions that make items: they put pairs into maps, make structures and messages, add
+//! elements to lists, and write items again.
 
 ghost use Rattle.std.specs.Prelude.{◌≡◌, MatchOption};
 ghost use Rattle.coset.specs.Names.{number, text_label};
@@ -19,7 +20,7 @@ use ffi_make::{Entry, add, canonical_key, make, put, recipient_structure_of, str
 use ffi_query::Label;
 use std::alloc::Global;
 
-/// Puts a pair into the map: an integer label, and a value by its encoding.
+/// Adds a pair to the map: an integer label, and a value as its encoding.
 #[unsafe(no_mangle)]
 pub extern "C" fn coset_put(
     alloc: Global,
@@ -44,7 +45,7 @@ pub extern "C" fn coset_put(
     }
 }
 
-/// Puts a pair into the map: an integer label, and the byte string that holds these.
+/// Adds a pair to the map: an integer label, and a byte string with this content.
 #[unsafe(no_mangle)]
 pub extern "C" fn coset_put_bytes(
     alloc: Global,
@@ -69,7 +70,7 @@ pub extern "C" fn coset_put_bytes(
     }
 }
 
-/// Puts a pair into the map: an integer label, and a text string, given as its UTF-8 bytes.
+/// Adds a pair to the map: an integer label, and a text string as its UTF-8 bytes.
 #[unsafe(no_mangle)]
 pub extern "C" fn coset_put_text(
     alloc: Global,
@@ -94,7 +95,7 @@ pub extern "C" fn coset_put_text(
     }
 }
 
-/// Puts a pair into the map: an integer label, and an integer.
+/// Adds a pair to the map: an integer label, and an integer.
 #[unsafe(no_mangle)]
 pub extern "C" fn coset_put_int(
     alloc: Global,
@@ -119,7 +120,7 @@ pub extern "C" fn coset_put_int(
     }
 }
 
-/// Puts a pair into the map: a text label, given as its UTF-8 bytes, and a value by its encoding.
+/// Adds a pair to the map: a text label as its UTF-8 bytes, and a value as its encoding.
 #[unsafe(no_mangle)]
 pub extern "C" fn coset_put_text_label(
     alloc: Global,
@@ -144,7 +145,8 @@ pub extern "C" fn coset_put_text_label(
     }
 }
 
-/// Writes what is signed of a message that isn't made yet, what is authenticated, or what goes with the ciphertext.
+/// Writes the structure of a message that isn't made yet: what is signed, authenticated, or goes
+/// with the ciphertext.
 #[unsafe(no_mangle)]
 pub extern "C" fn coset_structure_of(
     alloc: Global,
@@ -170,7 +172,8 @@ pub extern "C" fn coset_structure_of(
     }
 }
 
-/// Writes what goes with the ciphertext of a recipient that isn't made yet, by the kind that will hold it.
+/// Writes the structure that goes with the ciphertext of a recipient that isn't made yet, by the
+/// kind that will contain it.
 #[unsafe(no_mangle)]
 pub extern "C" fn coset_recipient_structure_of(
     alloc: Global,
@@ -193,7 +196,7 @@ pub extern "C" fn coset_recipient_structure_of(
     }
 }
 
-/// Makes a message, a signature or a recipient. `content` is looked at where `has_content` isn't 0.
+/// Makes a message, a signature or a recipient. It has `content` if `has_content` isn't 0.
 #[unsafe(no_mangle)]
 pub extern "C" fn coset_make(
     alloc: Global,
@@ -224,7 +227,7 @@ pub extern "C" fn coset_make(
     }
 }
 
-/// Puts one signature, recipient or key behind those of the input.
+/// Adds a signature, recipient, key or element to those of the input.
 #[unsafe(no_mangle)]
 pub extern "C" fn coset_add(
     alloc: Global,
@@ -263,7 +266,7 @@ pub extern "C" fn coset_write(
     }
 }
 
-/// Writes the key that the input is in its shortest encoding, with its labels in that order.
+/// Writes the key that the input encodes in its shortest encoding, with its labels in this order.
 #[unsafe(no_mangle)]
 pub extern "C" fn coset_canonical_key(
     alloc: Global,

@@ -1,4 +1,5 @@
-//! All that verifying or decrypting a message takes, in one call, by the labels that the caller understands.
+//! Everything that verifying or decrypting a message takes, in one call, given the labels that the
+//! caller understands.
 
 ghost use Rattle.std.specs.Prelude.{◌≡◌, MatchOption};
 ghost use Rattle.ffi_query.specs.Answers.{AnswersWith};
@@ -14,36 +15,37 @@ use crate::sign1::{COSET_NONE, algorithm_numbers, number_of_bool, number_of_map,
 use ffi_query::{MessageView, Refusal, message_view};
 use std::alloc::Global;
 
-/// Labels that must be understood, and are.
+/// There are critical labels, and all are understood.
 const COSET_UNDERSTOOD: u32 = 1;
-/// Labels that must be understood, one of which isn't, or isn't protected.
+/// There are critical labels, and one isn't understood or isn't protected.
 const COSET_NOT_UNDERSTOOD: u32 = 2;
 
-/// What `coset_message` says in numbers: `coset_message_view` of `include/coset.h`.
+/// The numbers that `coset_message` returns: `coset_message_view` of `include/coset.h`.
 #[repr(C)]
 #[derive(Clone, Copy)]
 pub struct Message {
-    /// The number of the algorithm that the protected header names, where the form is `COSET_INT`, else 0.
+    /// The number of the algorithm in the protected header if the form is `COSET_INT`, else 0.
     pub algorithm: i64,
     /// `COSET_NONE`, `COSET_INT` or `COSET_TEXT`.
     pub algorithm_form: u32,
-    /// `COSET_IN_PROTECTED` or `COSET_IN_UNPROTECTED`, where the key's identifier is, else 0.
+    /// The header that has the key identifier: `COSET_IN_PROTECTED`, `COSET_IN_UNPROTECTED`, or 0
+    /// for none.
     pub key_id_map: u32,
-    /// `COSET_NONE`, `COSET_UNDERSTOOD` or `COSET_NOT_UNDERSTOOD`: what there is of `crit`.
+    /// The state of `crit`: `COSET_NONE`, `COSET_UNDERSTOOD` or `COSET_NOT_UNDERSTOOD`.
     pub critical: u32,
-    /// 1 where the message is under its tag, else 0.
+    /// 1 if the message is under its tag, else 0.
     pub is_tagged: u32,
-    /// How many bytes the structure has.
+    /// The length of the structure.
     pub structure_len: usize,
-    /// How many bytes the signature or the tag has.
+    /// The length of the signature or the tag.
     pub proof_len: usize,
-    /// How many bytes the payload or the ciphertext has that the message carries.
+    /// The length of the payload or ciphertext that the message carries.
     pub content_len: usize,
-    /// How many bytes the key's identifier has.
+    /// The length of the key identifier.
     pub key_id_len: usize,
 }
 
-/// The number of what there is of labels that must be understood.
+/// Returns the number for the state of `crit`.
 pub(crate) fn critical_number(has_critical: bool, is_understood: bool) -> u32
     ensures { result ≡ critical_number has_critical is_understood }
 {
@@ -54,7 +56,7 @@ pub(crate) fn critical_number(has_critical: bool, is_understood: bool) -> u32
     }
 }
 
-/// A view in numbers.
+/// Returns a view in numbers.
 fn message_numbers(view: MessageView) -> Message
     ensures { result ≡ message_numbers view }
 {
@@ -72,7 +74,7 @@ fn message_numbers(view: MessageView) -> Message
     }
 }
 
-/// What is in the caller's struct where nothing is returned.
+/// Returns the zeros that the caller's struct gets after an error.
 fn no_message() -> Message
     ensures { result ≡ no_message }
 {
@@ -89,7 +91,7 @@ fn no_message() -> Message
     }
 }
 
-/// What is there after an answer: the view, and else nothing but zeros.
+/// Returns the struct for a result: the view, or zeros for an error.
 fn message_of(answer: &Result<MessageView, Refusal>) -> Message
     ensures { result ≡ message_of answer.now }
 {
@@ -99,8 +101,8 @@ fn message_of(answer: &Result<MessageView, Refusal>) -> Message
     }
 }
 
-/// The status of an answer that is a view, which is in the struct afterwards, and else nothing but zeros; how long the
-/// texts are, as [`reply`] says, is in the other place.
+/// Returns the status of a result. Sets `view` to the view or to zeros, and `len` to the texts'
+/// length as [`reply`] does.
 fn reply_message(answer: Result<MessageView, Refusal>, len: &mut usize, view: &mut Message) -> i32
     ensures status { result ≡ reply_status answer }
     ensures number { len.new ≡ length_of (texts_len answer) }
@@ -110,10 +112,16 @@ fn reply_message(answer: Result<MessageView, Refusal>, len: &mut usize, view: &m
     reply(texts_len(answer), len)
 }
 
-/// Writes what is signed of the input, is authenticated, or goes with its ciphertext; the signature or the tag; the payload
-/// or the ciphertext that it carries; and the identifier of the key, one behind the other, and says the rest in `view`.
-/// `detached` is the payload where `has_detached` isn't 0, and else it is empty. `known` are the critical labels that the
-/// caller understands.
+/// Writes everything that verifying or decrypting the input takes, and sets `view` to the rest.
+///
+/// Four texts are written, one after another:
+/// - the structure that is signed, authenticated, or goes with the ciphertext,
+/// - the signature or the tag,
+/// - the payload or ciphertext that the input carries,
+/// - the key identifier.
+///
+/// `detached` is the payload if `has_detached` isn't 0; else it is empty. `known` are the critical
+/// labels that the caller understands.
 #[unsafe(no_mangle)]
 pub extern "C" fn coset_message(
     alloc: Global,

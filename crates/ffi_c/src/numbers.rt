@@ -1,4 +1,4 @@
-//! Numbers as kinds, parts and maps.
+//! The kinds, parts and maps that numbers name.
 
 ghost use Rattle.std.specs.Prelude.{◌≡◌};
 ghost use Rattle.std.specs.Option.{option_copied};
@@ -35,9 +35,9 @@ const COSET_ITEM: u32 = 13;
 
 const COSET_KDF_CONTEXT: u32 = 14;
 
-/// Added to a message's number: under its tag.
+/// Added to a message's number: the message is under its tag.
 const COSET_TAGGED: u32 = 0x100;
-/// Added to a message's number: under its tag or plain.
+/// Added to a message's number: the message is under its tag or plain.
 const COSET_EITHER: u32 = 0x200;
 
 const COSET_PROTECTED: u32 = 1;
@@ -58,7 +58,7 @@ const COSET_LEXICOGRAPHIC: u32 = 1;
 
 const COSET_LENGTH_FIRST: u32 = 2;
 
-/// The form of a message, by what is added to its number.
+/// Returns the form of a message, by the number added to its kind.
 fn form_of(added: u32) -> Option<Form>
     ensures { result ≡ form_of added }
 {
@@ -70,7 +70,7 @@ fn form_of(added: u32) -> Option<Form>
     }
 }
 
-/// The message of that number and form.
+/// Returns the message with this number and form.
 fn message_of(number: u32, form: Form) -> Option<Kind>
     ensures { result ≡ message_of number form }
 {
@@ -85,7 +85,7 @@ fn message_of(number: u32, form: Form) -> Option<Kind>
     }
 }
 
-/// The kind of that number that is no message.
+/// Returns the kind with this number, other than a message.
 fn other_of(number: u32) -> Option<Kind>
     ensures { result ≡ other_of number }
 {
@@ -102,7 +102,7 @@ fn other_of(number: u32) -> Option<Kind>
     }
 }
 
-/// The kind of that number.
+/// Returns the kind with this number.
 pub(crate) fn kind_of(number: u32) -> Option<Kind>
     ensures { result ≡ kind_of number }
 {
@@ -115,7 +115,7 @@ pub(crate) fn kind_of(number: u32) -> Option<Kind>
     }
 }
 
-/// The kind of that number, where it is a message with one signature.
+/// Returns the kind with this number, if it is a message with one signature.
 fn sign1_of(number: u32) -> Option<Kind>
     ensures { result ≡ sign1_of number }
 {
@@ -125,7 +125,7 @@ fn sign1_of(number: u32) -> Option<Kind>
     }
 }
 
-/// Whether bytes are given without the number that says so.
+/// Returns true if bytes are given although the flag is 0.
 fn is_unflagged(has_bytes: u32, bytes: &[u8]) -> bool
     ensures { result ≡ is_unflagged has_bytes bytes.now }
 {
@@ -136,7 +136,7 @@ fn is_unflagged(has_bytes: u32, bytes: &[u8]) -> bool
     }
 }
 
-/// The kind of that number, unless a content is given without the number that says so.
+/// Returns the kind with this number, unless content is given although the flag is 0.
 pub(crate) fn content_query(kind: u32, has_content: u32, content: &[u8]) -> Option<Kind>
     ensures { result ≡ content_query kind has_content content.now }
 {
@@ -147,7 +147,8 @@ pub(crate) fn content_query(kind: u32, has_content: u32, content: &[u8]) -> Opti
     }
 }
 
-/// The kind of that number, where it has one signature, unless a content is given without the number that says so.
+/// Returns the kind with this number if it has one signature, unless content is given although the
+/// flag is 0.
 pub(crate) fn sign1_query(kind: u32, has_content: u32, content: &[u8]) -> Option<Kind>
     ensures { result ≡ sign1_query kind has_content content.now }
 {
@@ -158,7 +159,7 @@ pub(crate) fn sign1_query(kind: u32, has_content: u32, content: &[u8]) -> Option
     }
 }
 
-/// The countersignature of that label.
+/// Returns the countersignature with this label.
 fn countersignature_of(label: i64) -> Option<Countersignature>
     ensures { result ≡ countersignature_of label }
 {
@@ -171,7 +172,8 @@ fn countersignature_of(label: i64) -> Option<Countersignature>
     }
 }
 
-/// The kind of that number and the countersignature of that label, unless a content is given without the number that says so.
+/// Returns the kind with this number and the countersignature with this label, unless content is
+/// given although the flag is 0.
 pub(crate) fn countersign_query(
     kind: u32,
     label: i64,
@@ -189,7 +191,7 @@ pub(crate) fn countersign_query(
     }
 }
 
-/// The part of that number.
+/// Returns the part with this number.
 fn part_of(number: u32) -> Option<Part>
     ensures { result ≡ part_of number }
 {
@@ -202,7 +204,7 @@ fn part_of(number: u32) -> Option<Part>
     }
 }
 
-/// The map of that number.
+/// Returns the map with this number.
 fn map_of(number: u32) -> Option<Map>
     ensures { result ≡ map_of number }
 {
@@ -214,7 +216,7 @@ fn map_of(number: u32) -> Option<Map>
     }
 }
 
-/// The kind and the part of these numbers.
+/// Returns the kind and the part with these numbers.
 pub(crate) fn part_query(kind: u32, part: u32) -> Option<(Kind, Part)>
     ensures { result ≡ part_query kind part }
 {
@@ -224,7 +226,7 @@ pub(crate) fn part_query(kind: u32, part: u32) -> Option<(Kind, Part)>
     }
 }
 
-/// The kind and the map of these numbers.
+/// Returns the kind and the map with these numbers.
 pub(crate) fn map_query(kind: u32, map: u32) -> Option<(Kind, Map)>
     ensures { result ≡ map_query kind map }
 {
@@ -234,14 +236,14 @@ pub(crate) fn map_query(kind: u32, map: u32) -> Option<(Kind, Map)>
     }
 }
 
-/// The bytes, where the number isn't 0.
+/// Returns the bytes if the flag isn't 0.
 pub(crate) fn bytes_if(has_bytes: u32, bytes: &[u8]) -> Option<&[u8]>
     ensures { option_copied result ≡ bytes_if has_bytes bytes.now }
 {
     if has_bytes == 0 { None } else { Some(bytes) }
 }
 
-/// The order of labels of that number.
+/// Returns the order of labels with this number.
 pub(crate) fn order_of(number: u32) -> Option<CborOrdering>
     ensures { result ≡ order_of number }
 {

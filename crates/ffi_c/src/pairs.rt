@@ -20,11 +20,11 @@ use std::alloc::Global;
 
 /// The value is a byte string.
 const COSET_BYTES: u32 = 3;
-/// It is an item, given by its encoding.
+/// The value is any item, as its encoding.
 const COSET_ENCODED: u32 = 4;
 
-/// A label and a value: `coset_pair` of `include/coset.h`. Where texts, byte strings and encodings are is said by offsets and
-/// lengths within other bytes.
+/// A label and a value: `coset_pair` of `include/coset.h`. Texts, byte strings and encodings are
+/// ranges of other bytes.
 #[repr(C)]
 #[derive(Clone, Copy)]
 pub struct Pair {
@@ -32,21 +32,21 @@ pub struct Pair {
     pub label_form: u32,
     /// `COSET_INT`, `COSET_TEXT`, `COSET_BYTES` or `COSET_ENCODED`.
     pub value_form: u32,
-    /// The label, where its form is `COSET_INT`.
+    /// The label if its form is `COSET_INT`.
     pub label: i64,
-    /// Where the label's text begins, where its form is `COSET_TEXT`.
+    /// The offset of the label's text if its form is `COSET_TEXT`.
     pub label_at: usize,
-    /// How many bytes that has.
+    /// The length of the label's text.
     pub label_len: usize,
-    /// The value, where its form is `COSET_INT`.
+    /// The value if its form is `COSET_INT`.
     pub value: i64,
-    /// Where the value's bytes begin, where its form is another.
+    /// The offset of the value's bytes if its form is another.
     pub value_at: usize,
-    /// How many they are.
+    /// The length of the value's bytes.
     pub value_len: usize,
 }
 
-/// So many of the bytes, from there on.
+/// Returns the `len` bytes from the offset `at`, or `None` if there are fewer.
 fn part_at(at: usize, len: usize, bytes: &[u8]) -> Option<&[u8]>
     ensures { option_copied result ≡ part_at at len bytes.now }
 {
@@ -61,7 +61,7 @@ fn part_at(at: usize, len: usize, bytes: &[u8]) -> Option<&[u8]>
     Some(part)
 }
 
-/// The label of a pair.
+/// Returns the label of a pair, or `None` if the pair isn't valid.
 fn label_of(pair: Pair, bytes: &[u8]) -> Option<Label<'_>>
     ensures { option_map label_view result ≡ label_of pair bytes.now }
 {
@@ -75,7 +75,7 @@ fn label_of(pair: Pair, bytes: &[u8]) -> Option<Label<'_>>
     }
 }
 
-/// The value of a pair.
+/// Returns the value of a pair, or `None` if the pair isn't valid.
 fn entry_of(pair: Pair, bytes: &[u8]) -> Option<Entry<'_>>
     ensures { option_map entry_view result ≡ entry_of pair bytes.now }
 {
@@ -93,7 +93,7 @@ fn entry_of(pair: Pair, bytes: &[u8]) -> Option<Entry<'_>>
     }
 }
 
-/// The label and the value of a pair.
+/// Returns the label and the value of a pair, or `None` if the pair isn't valid.
 fn pair_of(pair: Pair, bytes: &[u8]) -> Option<(Label<'_>, Entry<'_>)>
     ensures { option_map pair_view result ≡ pair_of bytes.now pair }
 {
@@ -103,7 +103,7 @@ fn pair_of(pair: Pair, bytes: &[u8]) -> Option<(Label<'_>, Entry<'_>)>
     }
 }
 
-/// Whether a pair has a label and a value.
+/// Returns true if the pair is valid.
 fn is_pair(pair: Pair, bytes: &[u8]) -> bool
     ensures { result ≡ is_some (pair_of bytes.now pair) }
 {
@@ -113,17 +113,17 @@ fn is_pair(pair: Pair, bytes: &[u8]) -> bool
     }
 }
 
-/// Whether each pair has a label and a value.
+/// Returns true if each pair is valid.
 fn are_pairs(pairs: &[Pair], bytes: &[u8]) -> bool
     ensures { result ≡ is_some (pairs_of bytes.now pairs.now) }
 {
     pairs.iter().all(|pair| is_pair(*pair, bytes))
 }
 
-/// The labels and values of pairs.
+/// Returns the labels and values of the pairs, or `None` if one pair isn't valid.
 ///
 /// # Errors
-/// `OutOfMemory` alone.
+/// `OutOfMemory` if an allocation fails.
 fn pairs_of<'a>(
     alloc: Global,
     pairs: &[Pair],
@@ -143,7 +143,7 @@ fn pairs_of<'a>(
     Ok(Some(found))
 }
 
-/// Puts these pairs into the map.
+/// Adds these pairs to the map.
 fn put_pairs(
     alloc: Global,
     kind: Kind,
@@ -162,7 +162,8 @@ fn put_pairs(
     }
 }
 
-/// Puts many pairs into the map, one behind the other. Their texts, byte strings and encodings are parts of `bytes`.
+/// Adds many pairs to the map, one after another. Their texts, byte strings and encodings are
+/// ranges of `bytes`.
 #[unsafe(no_mangle)]
 pub extern "C" fn coset_put_all(
     alloc: Global,

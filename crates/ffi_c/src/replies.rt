@@ -1,4 +1,4 @@
-//! Answers as C is given them: a status, and a number in a place of the caller's.
+//! Results as C receives them: a status, and a number in a place that the caller passes.
 
 ghost use Rattle.std.specs.Prelude.{◌≡◌, pos};
 ghost use Rattle.ffi_query.specs.Faults.{IsOffset};
@@ -7,11 +7,11 @@ ghost use Rattle.ffi_c.specs.Replies.{IsMisuse, RepliesOffset, check_status, len
 use coset::CoseError;
 use ffi_query::{Refusal, Status, fault_offset};
 
-/// All is well.
+/// Success.
 pub(crate) const COSET_OK: i32 = 0;
-/// The answer is longer than the memory for it.
+/// The result is longer than the memory for it.
 const COSET_SHORT: i32 = 1;
-/// A request for memory was refused.
+/// An allocation failed.
 pub(crate) const COSET_MEMORY: i32 = 2;
 /// The bytes end before the item does.
 const COSET_ENDS: i32 = 3;
@@ -21,26 +21,26 @@ const COSET_MALFORMED: i32 = 4;
 const COSET_DEEP: i32 = 5;
 /// Bytes follow the item.
 const COSET_EXTRANEOUS: i32 = 6;
-/// An item isn't as its place asks.
+/// An item isn't what its place requires.
 const COSET_UNEXPECTED: i32 = 7;
-/// Two keys of a map are one label.
+/// Two keys of a map are the same label.
 const COSET_DUPLICATE: i32 = 8;
-/// An integer lies outside the range of its place.
+/// An integer is outside the range of its place.
 const COSET_OUT_OF_RANGE: i32 = 9;
-/// An integer without a name, in a registry without a private range.
+/// An integer isn't registered, and its registry has no private range.
 const COSET_UNREGISTERED: i32 = 10;
-/// An integer without a name and outside the private range of its registry.
+/// An integer isn't registered, and is outside its registry's private range.
 const COSET_NOT_PRIVATE: i32 = 11;
-/// What is asked for isn't there.
+/// The requested part isn't there.
 pub(crate) const COSET_ABSENT: i32 = 12;
-/// A number of no kind, no part or no map; or a payload that is given and has no place.
+/// A number names no kind, part or map; or a payload is given that has no place.
 pub(crate) const COSET_MISUSE: i32 = 13;
-/// What is asked for is there, and of another kind.
+/// The requested value is of another type.
 pub(crate) const COSET_TYPE: i32 = 14;
-/// The list that is counted is empty.
+/// The counted list is empty.
 const COSET_EMPTY: i32 = 15;
 
-/// The number of a status.
+/// Returns the number of a status.
 pub(crate) fn status_number(status: Status) -> i32
     ensures { result ≡ pos (status_number status) }
 {
@@ -63,8 +63,10 @@ pub(crate) fn status_number(status: Status) -> i32
     }
 }
 
-/// The status of an answer that is a length or a count; that is in the place afterwards, and so is the length that is
-/// needed where the answer is too long, and else 0.
+/// Returns the status of a result that is a length or a count.
+///
+/// Sets `place` to the length or count, to the length needed if the result is too long, and to 0
+/// after any other error.
 pub(crate) fn reply(answer: Result<usize, Refusal>, place: &mut usize) -> i32
     ensures status { result ≡ reply_status answer }
     ensures number { place.new ≡ length_of answer }
@@ -80,7 +82,7 @@ pub(crate) fn reply(answer: Result<usize, Refusal>, place: &mut usize) -> i32
     }
 }
 
-/// The status of an answer, which is in the place afterwards, and else `nothing`.
+/// Returns the status of a result, and sets `place` to its value, or to `nothing` after an error.
 pub(crate) fn reply_value<N: Copy>(answer: Result<N, Refusal>, nothing: N, place: &mut N) -> i32
     ensures status { result ≡ reply_status answer }
     ensures value { place.new ≡ value_or nothing answer }
@@ -97,8 +99,10 @@ pub(crate) fn reply_value<N: Copy>(answer: Result<N, Refusal>, nothing: N, place
     }
 }
 
-/// The status of a check of these bytes; where they stop being one item is in the place afterwards, or the greatest
-/// number where nothing is said of that.
+/// Returns the status of a check of these bytes.
+///
+/// Sets `place` to the offset at which they stop being one item, or to the greatest number if that
+/// isn't known or they are one item.
 pub(crate) fn reply_check(answer: Result<(), CoseError>, bytes: &[u8], place: &mut usize) -> i32
     ensures status { result ≡ check_status answer }
     ensures offset { RepliesOffset bytes.now answer place.new }
@@ -115,7 +119,7 @@ pub(crate) fn reply_check(answer: Result<(), CoseError>, bytes: &[u8], place: &m
     }
 }
 
-/// The status of a number without a meaning. What is given is in the place afterwards.
+/// Returns the status for a number without a meaning, and sets `place` to `given`.
 pub(crate) fn misused<N: Copy>(given: N, place: &mut N) -> i32
     ensures { IsMisuse result place.new given }
 {

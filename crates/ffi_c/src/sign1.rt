@@ -1,5 +1,5 @@
-//! All that verifying a message with one signature takes, in one call. Beside a status, a length and a text it says
-//! numbers, in a struct of the caller's.
+//! Everything that verifying a message with one signature takes, in one call. In addition to a
+//! status, a length and the texts, the call returns numbers in a struct of the caller.
 
 ghost use Rattle.std.specs.Prelude.{◌≡◌, [], MatchOption, if◌then◌else◌};
 ghost use Rattle.ffi_query.specs.Answers.{AnswersWith};
@@ -14,38 +14,39 @@ use crate::replies::{misused, reply};
 use ffi_query::{Algorithm, KeyIdPlace, MessageView, Refusal, message_view};
 use std::alloc::Global;
 
-/// Nothing names an algorithm, or no header holds an identifier of the key.
+/// No algorithm is named, or no header has a key identifier.
 pub(crate) const COSET_NONE: u32 = 0;
-/// The algorithm is named by an integer.
+/// An integer names the algorithm.
 pub(crate) const COSET_INT: u32 = 1;
-/// It is named by a text.
+/// A text names the algorithm.
 pub(crate) const COSET_TEXT: u32 = 2;
 
-/// What `coset_sign1` says in numbers: `coset_sign1_view` of `include/coset.h`.
+/// The numbers that `coset_sign1` returns: `coset_sign1_view` of `include/coset.h`.
 #[repr(C)]
 #[derive(Clone, Copy)]
 pub struct View {
-    /// The number of the algorithm that the protected header names, where the form is `COSET_INT`, else 0.
+    /// The number of the algorithm in the protected header if the form is `COSET_INT`, else 0.
     pub algorithm: i64,
     /// `COSET_NONE`, `COSET_INT` or `COSET_TEXT`.
     pub algorithm_form: u32,
-    /// `COSET_IN_PROTECTED` or `COSET_IN_UNPROTECTED`, where the key's identifier is, else 0.
+    /// The header that has the key identifier: `COSET_IN_PROTECTED`, `COSET_IN_UNPROTECTED`, or 0
+    /// for none.
     pub key_id_map: u32,
-    /// 1 where either header has `crit`, else 0.
+    /// 1 if either header has `crit`, else 0.
     pub has_critical: u32,
-    /// 1 where the message is under its tag, else 0.
+    /// 1 if the message is under its tag, else 0.
     pub is_tagged: u32,
-    /// How many bytes `Sig_structure` has.
+    /// The length of `Sig_structure`.
     pub structure_len: usize,
-    /// How many bytes the signature has.
+    /// The length of the signature.
     pub signature_len: usize,
-    /// How many bytes the payload has that the message carries.
+    /// The length of the payload that the message carries.
     pub payload_len: usize,
-    /// How many bytes the key's identifier has.
+    /// The length of the key identifier.
     pub key_id_len: usize,
 }
 
-/// The number of an algorithm, and the form in which it is named.
+/// Returns the number of an algorithm, and the form in which it is named.
 pub(crate) fn algorithm_numbers(algorithm: Algorithm) -> (i64, u32)
     ensures { result ≡ algorithm_numbers algorithm }
 {
@@ -56,7 +57,7 @@ pub(crate) fn algorithm_numbers(algorithm: Algorithm) -> (i64, u32)
     }
 }
 
-/// The number of the map in which the identifier of the key is.
+/// Returns the number of the map that has the key identifier.
 pub(crate) fn number_of_map(place: KeyIdPlace) -> u32
     ensures { result ≡ number_of_map place }
 {
@@ -67,14 +68,14 @@ pub(crate) fn number_of_map(place: KeyIdPlace) -> u32
     }
 }
 
-/// 1 for yes, and 0 for no.
+/// Returns 1 for true, and 0 for false.
 pub(crate) fn number_of_bool(is: bool) -> u32
     ensures { result ≡ (if is then 1 else 0) }
 {
     if is { 1 } else { 0 }
 }
 
-/// A view in numbers.
+/// Returns a view in numbers.
 fn sign1_numbers(view: MessageView) -> View
     ensures { result ≡ sign1_numbers view }
 {
@@ -92,7 +93,7 @@ fn sign1_numbers(view: MessageView) -> View
     }
 }
 
-/// What is in the caller's struct where nothing is returned.
+/// Returns the zeros that the caller's struct gets after an error.
 fn no_view() -> View
     ensures { result ≡ no_view }
 {
@@ -109,7 +110,7 @@ fn no_view() -> View
     }
 }
 
-/// What is there after an answer: the view, and else nothing but zeros.
+/// Returns the struct for a result: the view, or zeros for an error.
 fn view_of(answer: &Result<MessageView, Refusal>) -> View
     ensures { result ≡ view_of answer.now }
 {
@@ -119,7 +120,7 @@ fn view_of(answer: &Result<MessageView, Refusal>) -> View
     }
 }
 
-/// How long the texts are that go with a view.
+/// Returns the total length of the texts that go with a view.
 pub(crate) fn texts_len(answer: Result<MessageView, Refusal>) -> Result<usize, Refusal>
     ensures { result ≡ texts_len answer }
 {
@@ -129,8 +130,8 @@ pub(crate) fn texts_len(answer: Result<MessageView, Refusal>) -> Result<usize, R
     }
 }
 
-/// The status of an answer that is a view, which is in the struct afterwards, and else nothing but zeros; how long the
-/// texts are, as [`reply`] says, is in the other place.
+/// Returns the status of a result. Sets `view` to the view or to zeros, and `len` to the texts'
+/// length as [`reply`] does.
 fn reply_view(answer: Result<MessageView, Refusal>, len: &mut usize, view: &mut View) -> i32
     ensures status { result ≡ reply_status answer }
     ensures number { len.new ≡ length_of (texts_len answer) }
@@ -140,8 +141,11 @@ fn reply_view(answer: Result<MessageView, Refusal>, len: &mut usize, view: &mut 
     reply(texts_len(answer), len)
 }
 
-/// Writes what is signed of the input, the signature, the payload that it carries and the identifier of the key, one behind
-/// the other, and says the rest in `view`. `detached` is the payload where `has_detached` isn't 0, and else it is empty.
+/// Writes everything that verifying the input takes, and sets `view` to the rest.
+///
+/// Four texts are written, one after another: the structure that is signed, the signature, the
+/// payload that the input carries, and the key identifier. `detached` is the payload if
+/// `has_detached` isn't 0; else it is empty.
 #[unsafe(no_mangle)]
 pub extern "C" fn coset_sign1(
     alloc: Global,

@@ -1,4 +1,5 @@
-//! All that verifying or decrypting a message takes, in one call, without a copy of what the message holds.
+//! Everything that verifying or decrypting a message takes, in one call, without a copy of the
+//! message's own texts.
 
 ghost use Rattle.std.specs.Prelude.{◌≡◌, MatchOption};
 ghost use Rattle.ffi_query.specs.Answers.{AnswersWith};
@@ -16,43 +17,44 @@ use crate::sign1::{COSET_NONE, algorithm_numbers, number_of_bool, number_of_map}
 use ffi_query::{MessageSpans, Refusal, message_spans};
 use std::alloc::Global;
 
-/// What `coset_message_spans` says in numbers: `coset_message_spans_view` of `include/coset.h`.
+/// The numbers that `coset_message_spans` returns: `coset_message_spans_view` of `include/coset.h`.
 #[repr(C)]
 #[derive(Clone, Copy)]
 pub struct Spans {
-    /// The number of the algorithm that the protected header names, where the form is `COSET_INT`, else 0.
+    /// The number of the algorithm in the protected header if the form is `COSET_INT`, else 0.
     pub algorithm: i64,
     /// `COSET_NONE`, `COSET_INT` or `COSET_TEXT`.
     pub algorithm_form: u32,
-    /// `COSET_IN_PROTECTED` or `COSET_IN_UNPROTECTED`, where the key's identifier is, else 0.
+    /// The header that has the key identifier: `COSET_IN_PROTECTED`, `COSET_IN_UNPROTECTED`, or 0
+    /// for none.
     pub key_id_map: u32,
-    /// `COSET_NONE`, `COSET_UNDERSTOOD` or `COSET_NOT_UNDERSTOOD`: what there is of `crit`.
+    /// The state of `crit`: `COSET_NONE`, `COSET_UNDERSTOOD` or `COSET_NOT_UNDERSTOOD`.
     pub critical: u32,
-    /// 1 where the message is under its tag, else 0.
+    /// 1 if the message is under its tag, else 0.
     pub is_tagged: u32,
-    /// 1 where the signature or the tag is in the input, else 0.
+    /// 1 if the signature or the tag is in the input, else 0.
     pub is_proof_in_input: u32,
-    /// 1 where the payload or the ciphertext is in the input, else 0.
+    /// 1 if the payload or the ciphertext is in the input, else 0.
     pub is_content_in_input: u32,
-    /// 1 where the key's identifier is in the input, else 0.
+    /// 1 if the key identifier is in the input, else 0.
     pub is_key_id_in_input: u32,
-    /// How many bytes the structure has, at the front of what is written.
+    /// The length of the structure, which is at the front of the bytes written.
     pub structure_len: usize,
-    /// Where the signature or the tag begins.
+    /// The offset of the signature or the tag.
     pub proof_at: usize,
-    /// How many bytes it has.
+    /// The length of the signature or the tag.
     pub proof_len: usize,
-    /// Where the payload or the ciphertext begins that the message carries.
+    /// The offset of the payload or ciphertext that the message carries.
     pub content_at: usize,
-    /// How many bytes it has.
+    /// The length of the payload or the ciphertext.
     pub content_len: usize,
-    /// Where the key's identifier begins.
+    /// The offset of the key identifier.
     pub key_id_at: usize,
-    /// How many bytes it has.
+    /// The length of the key identifier.
     pub key_id_len: usize,
 }
 
-/// The spans in numbers.
+/// Returns the places in numbers.
 fn spans_numbers(spans: MessageSpans) -> Spans
     ensures { result ≡ spans_numbers spans }
 {
@@ -77,7 +79,7 @@ fn spans_numbers(spans: MessageSpans) -> Spans
     }
 }
 
-/// What is in the caller's struct where nothing is returned.
+/// Returns the zeros that the caller's struct gets after an error.
 fn no_spans() -> Spans
     ensures { result ≡ no_spans }
 {
@@ -100,7 +102,7 @@ fn no_spans() -> Spans
     }
 }
 
-/// What is there after an answer: the spans, and else nothing but zeros.
+/// Returns the struct for a result: the places, or zeros for an error.
 fn spans_of(answer: &Result<MessageSpans, Refusal>) -> Spans
     ensures { result ≡ spans_of answer.now }
 {
@@ -110,7 +112,7 @@ fn spans_of(answer: &Result<MessageSpans, Refusal>) -> Spans
     }
 }
 
-/// How many bytes go with the spans.
+/// Returns the number of bytes that were written.
 fn length_written(answer: Result<MessageSpans, Refusal>) -> Result<usize, Refusal>
     ensures { result ≡ length_written answer }
 {
@@ -120,8 +122,8 @@ fn length_written(answer: Result<MessageSpans, Refusal>) -> Result<usize, Refusa
     }
 }
 
-/// The status of an answer that is spans, which are in the struct afterwards, and else nothing but zeros; how many bytes
-/// were written, as [`reply`] says, is in the other place.
+/// Returns the status of a result. Sets `spans` to the places or to zeros, and `len` to the number
+/// of bytes written, as [`reply`] does.
 fn reply_spans(answer: Result<MessageSpans, Refusal>, len: &mut usize, spans: &mut Spans) -> i32
     ensures status { result ≡ reply_status answer }
     ensures number { len.new ≡ length_of (length_written answer) }
@@ -131,10 +133,13 @@ fn reply_spans(answer: Result<MessageSpans, Refusal>, len: &mut usize, spans: &m
     reply(length_written(answer), len)
 }
 
-/// Writes what is signed of the input, is authenticated, or goes with its ciphertext, and says in `view` where the signature or
-/// the tag, the payload or the ciphertext that it carries, and the identifier of the key are: in the input, or behind that.
-/// `detached` is the payload where `has_detached` isn't 0, and else it is empty. `known` are the critical labels that the
-/// caller understands.
+/// Writes the structure that is signed, authenticated, or goes with the ciphertext, and sets `view`
+/// to the rest.
+///
+/// `view` has the places of the signature or tag, of the payload or ciphertext that the input
+/// carries, and of the key identifier. They are in the input, or in `out` after the structure.
+/// `detached` is the payload if `has_detached` isn't 0; else it is empty. `known` are the critical
+/// labels that the caller understands.
 #[unsafe(no_mangle)]
 pub extern "C" fn coset_message_spans(
     alloc: Global,

@@ -1,4 +1,4 @@
-//! Web tokens, judged in a call for each layer and one more.
+//! Judges web tokens: one call for each layer, and one more.
 
 ghost use Rattle.std.specs.Prelude.{◌≡◌, MatchOption, option_map, pos, Some, None, if◌then◌else◌};
 ghost use Rattle.ffi_query.specs.Status.{refusal_status};
@@ -20,90 +20,97 @@ use std::alloc::Global;
 
 /// Layers with a signature authenticate.
 const COSET_BY_SIGNATURE: u32 = 1;
-/// Any layer does.
+/// Any layer authenticates.
 const COSET_BY_ANY: u32 = 2;
 
-/// How many bytes the struct of rules has.
+/// The size of the struct of rules in bytes.
 const RULES_SIZE: usize = 56;
 
 /// The algorithm of a layer isn't allowed.
 const COSET_NOT_ALLOWED: i32 = 16;
-/// A label that must be understood isn't.
+/// A critical label isn't understood, or isn't protected.
 const COSET_CRITICAL: i32 = 17;
 /// A layer waits to be opened.
 const COSET_LAYER: i32 = 19;
-/// More than four layers are within one another.
+/// The token has more than four nested layers.
 const COSET_TOO_DEEP: i32 = 20;
-/// No layer authenticates who sent the token.
+/// No layer authenticates the sender of the token.
 const COSET_UNAUTHENTICATED: i32 = 21;
-/// What is in the innermost layer isn't a claims set.
+/// The content of the innermost layer isn't a claims set.
 const COSET_NOT_CLAIMS: i32 = 22;
-/// The token doesn't expire.
+/// The token has no expiration time.
 const COSET_NO_EXPIRATION: i32 = 23;
-/// It has expired.
+/// The token has expired.
 const COSET_EXPIRED: i32 = 24;
-/// It isn't valid yet.
+/// The token isn't valid yet.
 const COSET_NOT_YET_VALID: i32 = 25;
-/// It is issued later than now.
+/// The token is issued later than now.
 const COSET_ISSUED_LATER: i32 = 26;
-/// It has reached the greatest age, or doesn't say when it was issued.
+/// The token has reached the greatest age, or has no time of issue.
 const COSET_TOO_OLD: i32 = 27;
-/// It is of another issuer, or of none.
+/// The token has another issuer, or none.
 const COSET_ISSUER: i32 = 28;
-/// It is for another audience, or for none.
+/// The token has another audience, or none.
 const COSET_AUDIENCE: i32 = 29;
 
-/// What a verifier asks of a token, beside lists and names: `coset_rules` of `include/coset.h`. Zeros are the strictest.
+/// A verifier's requirements for a token, besides lists and names: `coset_rules` of
+/// `include/coset.h`.
+///
+/// With zeros in all fields but `size`, the times `exp`, `nbf` and `iat` are checked without
+/// leeway. Issuer, audience and age aren't checked.
 #[repr(C)]
 #[derive(Clone, Copy)]
 pub struct Rules {
-    /// The size of this struct: a caller that was compiled for another one is refused.
+    /// The size of this struct. A caller that was compiled for another size is refused.
     pub size: usize,
-    /// How many seconds the clocks of issuer and verifier may differ.
+    /// The number of seconds by which the clocks of issuer and verifier may differ.
     pub leeway: u64,
-    /// The age, in seconds, at which a token is refused, where `has_max_age` isn't 0.
+    /// The age in seconds at which a token is refused, if `has_max_age` isn't 0.
     pub max_age: u64,
-    /// Whether there is a greatest age.
+    /// Not 0 if there is a greatest age.
     pub has_max_age: u32,
-    /// The form of a layer that has no tag: `COSET_SIGN1`, which 0 is too, `COSET_MAC0` or `COSET_ENCRYPT0`.
+    /// The form of a layer without a tag: 0 or `COSET_SIGN1`, `COSET_MAC0` or `COSET_ENCRYPT0`.
     pub plain: u32,
-    /// Which layers authenticate: 0, with a signature or a MAC; or `COSET_BY_SIGNATURE`, `COSET_BY_ANY`.
+    /// The layers that authenticate: 0 for a signature or a MAC, or `COSET_BY_SIGNATURE`,
+    /// `COSET_BY_ANY`.
     pub authenticated_by: u32,
-    /// Where it isn't 0, claims whose numbers IANA hasn't assigned are left out; else a token that has one is refused.
+    /// Not 0 to leave out claims whose numbers IANA hasn't assigned. If it is 0, a token with such
+    /// a claim is refused.
     pub leaves_out: u32,
-    /// Where it isn't 0, a token need not expire.
+    /// Not 0 if a token may lack an expiration time.
     pub may_not_expire: u32,
-    /// Where it isn't 0, a token may be issued later than now.
+    /// Not 0 if a token may be issued later than now.
     pub may_be_issued_later: u32,
-    /// Whether the issuer is given that the claims must name.
+    /// Not 0 if the claims must name the issuer that is given.
     pub has_issuer: u32,
-    /// Whether the audience is given that the claims must name.
+    /// Not 0 if the claims must name the audience that is given.
     pub has_audience: u32,
 }
 
-/// What is said of a layer that waits: `coset_layer` of `include/coset.h`.
+/// The view of a layer that waits: `coset_layer` of `include/coset.h`.
 #[repr(C)]
 #[derive(Clone, Copy)]
 pub struct Layer {
-    /// `COSET_SIGN1`, `COSET_MAC0` or `COSET_ENCRYPT0`; 0 where none waits.
+    /// `COSET_SIGN1`, `COSET_MAC0` or `COSET_ENCRYPT0`, or 0 if no layer waits.
     pub form: u32,
-    /// `COSET_IN_PROTECTED` or `COSET_IN_UNPROTECTED`, where the key's identifier is, else 0.
+    /// The header that has the key identifier: `COSET_IN_PROTECTED`, `COSET_IN_UNPROTECTED`, or 0
+    /// for none.
     pub key_id_map: u32,
     /// The number of the algorithm, which the rules allow.
     pub algorithm: i64,
-    /// How many bytes the structure has.
+    /// The length of the structure.
     pub structure_len: usize,
-    /// How many bytes the signature, the MAC or the ciphertext has.
+    /// The length of the signature, the MAC or the ciphertext.
     pub proof_len: usize,
-    /// How many bytes the key's identifier has.
+    /// The length of the key identifier.
     pub key_id_len: usize,
-    /// How many bytes the initialization vector has.
+    /// The length of the initialization vector.
     pub iv_len: usize,
-    /// How many bytes the partial initialization vector has.
+    /// The length of the partial initialization vector.
     pub partial_iv_len: usize,
 }
 
-/// The form of layers without a tag, by its number.
+/// Returns the form of layers without a tag, by its number.
 fn plain_of(number: u32) -> Option<Form>
     ensures { result ≡ plain_of number }
 {
@@ -115,7 +122,7 @@ fn plain_of(number: u32) -> Option<Form>
     }
 }
 
-/// Which layers authenticate, by its number.
+/// Returns the layers that authenticate, by their number.
 fn authentication_of(number: u32) -> Option<Authentication>
     ensures { result ≡ authentication_of number }
 {
@@ -127,7 +134,7 @@ fn authentication_of(number: u32) -> Option<Authentication>
     }
 }
 
-/// What becomes of claims whose numbers IANA hasn't assigned.
+/// Returns the treatment of claims whose numbers IANA hasn't assigned.
 fn unassigned_of(leaves_out: u32) -> Unassigned
     ensures { result ≡ unassigned_of leaves_out }
 {
@@ -138,14 +145,15 @@ fn unassigned_of(leaves_out: u32) -> Unassigned
     }
 }
 
-/// The seconds, where the flag isn't 0.
+/// Returns the seconds if the flag isn't 0.
 fn seconds_if(flag: u32, seconds: u64) -> Option<u64>
     ensures { result ≡ seconds_if flag seconds }
 {
     if flag == 0 { None } else { Some(seconds) }
 }
 
-/// The name that is wanted, where the flag isn't 0; `None` where it isn't UTF-8, or is given without the flag.
+/// Returns the wanted name if the flag isn't 0. Returns `None` if the name isn't UTF-8, or is given
+/// without the flag.
 fn name_of(flag: u32, name: &[u8]) -> Option<Option<&str>>
     ensures { option_map (option_map (λ s. s.now)) result ≡ name_of flag name.now }
 {
@@ -158,7 +166,7 @@ fn name_of(flag: u32, name: &[u8]) -> Option<Option<&str>>
     }
 }
 
-/// The rules, where their numbers have a meaning.
+/// Returns the rules if all their numbers have a meaning, and [`name_of`] accepts their names.
 fn rules_of<'a>(
     rules: &Rules,
     signatures: &'a [i64],
@@ -197,7 +205,7 @@ fn rules_of<'a>(
     })
 }
 
-/// The number of a reason.
+/// Returns the number of a reason.
 fn reason_number(reason: Reason) -> i32
     ensures { result ≡ pos (reason_number reason) }
 {
@@ -218,7 +226,7 @@ fn reason_number(reason: Reason) -> i32
     }
 }
 
-/// The number of what is wrong with claims: that memory ran out, or that they are none.
+/// Returns the number of an error in claims: an allocation failed, or they aren't claims.
 fn claims_number(error: CoseError) -> i32
     ensures { result ≡ pos (claims_number (refusal_status (answers.Cose error))) }
 {
@@ -228,7 +236,7 @@ fn claims_number(error: CoseError) -> i32
     }
 }
 
-/// The number of a refusal.
+/// Returns the number of a refusal.
 fn token_number(refusal: Refusal) -> i32
     ensures { result ≡ pos (token_number refusal) }
 {
@@ -240,7 +248,7 @@ fn token_number(refusal: Refusal) -> i32
     }
 }
 
-/// The number of an algorithm, and 0 where a text names it.
+/// Returns the number of an algorithm, or 0 if a text names it.
 fn algorithm_or_0(algorithm: Option<i64>) -> i64
     ensures { result ≡ algorithm_or_0 algorithm }
 {
@@ -250,7 +258,7 @@ fn algorithm_or_0(algorithm: Option<i64>) -> i64
     }
 }
 
-/// What is said of a layer, in numbers.
+/// Returns a layer's view in numbers.
 fn layer_numbers(layer: LayerView) -> Layer
     ensures { result ≡ layer_numbers layer }
 {
@@ -266,7 +274,7 @@ fn layer_numbers(layer: LayerView) -> Layer
     }
 }
 
-/// What is in the caller's struct where no layer waits.
+/// Returns the zeros that the caller's struct gets if no layer waits.
 fn no_layer() -> Layer
     ensures { result ≡ no_layer }
 {
@@ -282,7 +290,7 @@ fn no_layer() -> Layer
     }
 }
 
-/// What is there after an answer: the layer that waits, and else nothing but zeros.
+/// Returns the struct for a result: the layer that waits, or zeros for any other result.
 fn layer_of(answer: &Result<usize, Refusal>) -> Layer
     ensures { result ≡ layer_of answer.now }
 {
@@ -292,7 +300,8 @@ fn layer_of(answer: &Result<usize, Refusal>) -> Layer
     }
 }
 
-/// How long an answer is: the claims, or the texts of a layer; or the length that is needed where it is too long; else 0.
+/// Returns the length of a result: of the claims, of a layer's texts, or the length needed. For any
+/// other result it is 0.
 fn token_length(answer: &Result<usize, Refusal>) -> usize
     ensures { result ≡ token_length answer.now }
 {
@@ -304,7 +313,7 @@ fn token_length(answer: &Result<usize, Refusal>) -> usize
     }
 }
 
-/// The status of an answer; how long it is, and what is said of the layer that waits, are in the places.
+/// Returns the status of a result. Sets `len` to its length, and `layer` to the layer that waits.
 fn reply_token(answer: Result<usize, Refusal>, len: &mut usize, layer: &mut Layer) -> i32
     ensures status { result ≡ token_status answer }
     ensures number { len.new ≡ token_length answer }
@@ -318,9 +327,11 @@ fn reply_token(answer: Result<usize, Refusal>, len: &mut usize, layer: &mut Laye
     }
 }
 
-/// Writes the claims of a token, as their shortest encoding, once the caller opened each of its layers, where token and claims
-/// are as the rules ask at `now`; or five texts of the layer that waits, one behind the other. `opened` are the layers that the
-/// caller opened, by where their bytes are in `bytes`.
+/// Writes the claims of a token, or the texts of a layer that the caller must open first.
+///
+/// The claims are written in their shortest encoding, once the caller opened each layer. The token
+/// must meet the rules at `now`. If a layer waits, its five texts are written, one after another.
+/// `opened` are the layers that the caller opened, by the places of their bytes in `bytes`.
 #[unsafe(no_mangle)]
 pub extern "C" fn coset_token_claims(
     alloc: Global,

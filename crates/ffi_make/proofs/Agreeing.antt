@@ -1,4 +1,4 @@
--- What is signed before a message is made is what is signed of it afterwards.
+-- The structure of a message's parts is the structure of the message that is made from them.
 use Rattle.std.proofs.Common.{◌≡◌, ◌∙◌, ℕ, List, [], ◌∷◌, Option, Some, None, cond, ap, sym, refl}
 use Rattle.std.specs.Prelude.{codes, option_and_then}
 use Rattle.std.specs.Cmp.{unsigned_Decides}
@@ -15,7 +15,7 @@ use Rattle.ffi_query.specs.Structures.{content_at, structure_in, structure_of_th
 use Rattle.ffi_make.specs.Laws.{MadeUnsigned, SignatureAdded, StructureOfMade, StructureOfSigner, inside}
 use Rattle.ffi_make.specs.Messages.{content_item, in_tag, places, tag_in_form}
 
--- what is made under a tag, or without, without it
+-- An array that is written in a form, without its tag.
 without_tag_again : (f : forms.Form) (n : ℕ) (vs : Items) → untagged n (in_tag (tag_in_form f (Some n)) (array vs)) ≡ array vs
 without_tag_again Plain n vs = refl
 without_tag_again Tagged n vs = ap (λ b. cond b (array vs) (tag n (array vs))) ((unsigned_Decides n n).1 refl)
@@ -25,7 +25,7 @@ pub none_is : {A : Type 0} {x : A} → None ≡ Some x → ⊥
 none_is p = some-none refl (sym p)
 
 module _ (i : ℕ) (p : List ℕ) (u : Item) (c d : Option (List ℕ)) (x aad : List ℕ) (w y : Item) where
-  -- a payload is signed or authenticated
+  -- A payload is signed or authenticated.
   over :
       (k : kinds.Kind) (f : forms.Form) (n : ℕ) (context : List ℕ) (vs : Items) → inside k w ≡ untagged n w
       → Some (in_tag (tag_in_form f (Some n)) (array vs)) ≡ Some w
@@ -37,7 +37,7 @@ module _ (i : ℕ) (p : List ℕ) (u : Item) (c d : Option (List ℕ)) (x aad : 
       let made : inside k w ≡ array vs = is ∙ (ap (untagged n) (some-one m refl) ∙ without_tag_again f n vs) in
       ap (structure_in k i aad d) made ∙ (s ∙ (ap (structure_of_two context aad (Some p)) o ∙ st))
 
-  -- a ciphertext is not
+  -- A ciphertext is not.
   beside :
       (k : kinds.Kind) (f : forms.Form) (n : ℕ) (vs : Items) → inside k w ≡ untagged n w → Some (in_tag (tag_in_form f (Some n)) (array vs)) ≡ Some w
       → structure_in k i aad d (array vs) ≡ Some y

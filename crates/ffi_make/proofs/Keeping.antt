@@ -1,4 +1,4 @@
--- What stays of an item where elements are added to it.
+-- The parts of an item that stay when elements are added to it.
 use Rattle.std.proofs.Common.{◌≡◌, ◌∙◌, ◌⊎◌, ◌==◌, ℕ, zero, suc, List, [], ◌∷◌, Option, Some, None, Bool, true, false, cond}
 use Rattle.std.proofs.Common.{option_map, ap, sym, refl, inl, inr}
 use Rattle.std.specs.Prelude.{codes, option_and_then}
@@ -23,9 +23,9 @@ mapped : {A B : Type 0} (f : A → B) (o : Option A) (y : B) → option_map f o 
 mapped f None y h = absurd (none_is h)
 mapped f (Some x) y h = (x, refl, some-one h refl)
 
--- ---- the last place
+-- ---- the last element
 
--- it was a list, and is one with the element behind the others; or it stays, and something follows it
+-- The last element was a list, and has one more element at its end. Or it stays, and something follows it.
 abbrev Last : Item → Item → Items → Type 0
 Last m a us = ((ws : Items) × (a ≡ array ws) × (us ≡ item (array (and_item ws m)) no_items)) ⊎ ((ws : Items) × (us ≡ item a ws))
 
@@ -49,7 +49,7 @@ last_is false m (tag t v) us h = absurd (none_is h)
 last_is true m (dict ps) us h = inr (_, some-one h refl)
 last_is false m (dict ps) us h = absurd (none_is h)
 
--- where g says something of the last place, it says the same of what takes that place
+-- A result of g for the last element is also the result of g for the element that replaces it.
 abbrev Keeps : {A : Type 0} → (Item → Option Items) → (Item → Option A) → Type 0
 Keeps {A} f g = (a : Item) (us : Items) (x : A) → f a ≡ Some us → g a ≡ Some x → option_and_then g (nth 0 us) ≡ Some x
 
@@ -67,7 +67,7 @@ more_behind g m i no_items x e = absurd (none_is e)
 more_behind g m zero (item v vs) x e = e
 more_behind g m (suc i) (item v vs) x e = more_behind g m i vs x e
 
--- what the protected header of the element of that index of a list holds
+-- The protected bytes of the element at this index of a list.
 abbrev header_of : ℕ → Item → Option (List ℕ)
 header_of i a = option_and_then (bytes_in 0) (option_and_then (nth i) (as_array a))
 
@@ -79,7 +79,7 @@ keeps_header b m i a us x h e =
       | inr l ↦ ap (λ ws. option_and_then (header_of i) (nth 0 ws)) l.1 ∙ e
     ]
 
--- what g says of a place, it says once the last place was replaced
+-- A result of g for an element stays when the last element is replaced.
 kept :
     {A : Type 0} (f : Item → Option Items) (g : Item → Option A) → Keeps f g → (j : ℕ) (vs us : Items) (x : A) → in_last f vs ≡ Some us
     → option_and_then g (nth j vs) ≡ Some x
@@ -119,7 +119,7 @@ signer_kept :
 signer_kept f i m vs us l p e =
     header_is i (nth 3 us) ∙ kept (member_in false m) (header_of i) (keeps_header false m i) 3 vs us p l (sym (header_is i (nth 3 vs)) ∙ e)
 
--- what there is of the one there is of the other
+-- If the first is present, the second is the same.
 abbrev Stays : Option (List ℕ) → Option (List ℕ) → Type 0
 Stays o q = (p : List ℕ) → o ≡ Some p → q ≡ Some p
 
@@ -147,7 +147,7 @@ three_stay aad (Some p) q (Some x) s (Some c) u y h g k e =
     ap (λ z. structure_of_three aad z s u) (h p refl)
     ∙ (ap (λ z. structure_of_three aad (Some p) z u) (g x refl) ∙ (ap (structure_of_three aad (Some p) (Some x)) (k c refl) ∙ e))
 
--- ---- items under a tag, and without one
+-- ---- items with a tag, and without one
 
 module _
     (k : kinds.Kind) (m y : Item) (S : Item → Option Item)
@@ -168,7 +168,7 @@ module _
   in_tag true t v x h e = in_array v x h e
   in_tag false t v x h e = absurd (some-none e (no_tag t v))
 
-  -- where the tag of that number is left out
+  -- With a tag of this number removed.
   in_either : (n : ℕ) (w x : Item) → within_tag (with_member k m) w ≡ Some x → S (untagged n w) ≡ Some y → S (untagged n x) ≡ Some y
   in_either n (array vs) x h e =
       let p = mapped array (places_with k m vs) x h in ap (λ z. S (untagged n z)) p.2 ∙ stays vs p.0 p.1 e
@@ -182,7 +182,7 @@ module _
   in_either n null x h e = absurd (none_is h)
   in_either n (dict ps) x h e = absurd (none_is h)
 
-  -- where none is
+  -- Without a tag.
   in_neither : (w x : Item) → within_tag (with_member k m) w ≡ Some x → S w ≡ Some y → S x ≡ Some y
   in_neither (array vs) x h e = in_array (array vs) x h e
   in_neither (tag t v) x h e = absurd (some-none e (no_tag t v))
@@ -257,7 +257,7 @@ recipient_structure_kept Claims m w x y aad h e = absurd (none_is e)
 recipient_structure_kept Any m w x y aad h e = absurd (none_is e)
 recipient_structure_kept KdfContext m w x y aad h e = absurd (none_is e)
 
--- of a recipient that was made
+-- A recipient that was made.
 recipient_made :
     (h : kinds.Kind) (p : List ℕ) (u : Item) (c : Option (List ℕ)) (aad : List ℕ)
     → recipient_structure_in h aad (array (places Recipient p u c [])) ≡ recipient_structure_made h p aad

@@ -1,4 +1,4 @@
--- Pairs that are put into a map, one behind the other.
+-- Pairs added to a map, one after another.
 use Rattle.std.proofs.Common.{◌≡◌, ◌∙◌, ◌++◌, ◌+◌, ◌<◌, ◌⊎◌, ℕ, zero, suc, List, [], ◌∷◌, length}
 use Rattle.std.proofs.Common.{get_or, take, map, Option, Some, None, ap, sym, subst, refl, inl, inr, arith}
 use Rattle.std.proofs.lemmas.List.{map-append, take_more}
@@ -36,7 +36,7 @@ puts_more no_pairs k v m = none_more (with_pair k v m)
 puts_more (pair a b qs) k v m =
     within (with_pairs (pairs_and qs (pair k v no_pairs))) (with_pairs qs) (with_pair k v) (with_pair a b m) (λ x. puts_more qs k v x)
 
--- what one pair more makes, of what was made so far
+-- One more pair, added to the map made so far.
 abbrev pub MakesOne : labels.Label × entries.Entry → Option Item → Option Item → Type 0
 MakesOne p made new =
     (k : Item) × (v : Item) × (IsKey (label_view p.0) k × IsEntry (entry_view p.1) v) × (new ≡ option_and_then (with_pair k v) made)

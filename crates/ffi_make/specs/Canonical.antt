@@ -1,4 +1,4 @@
--- Keys in a canonical encoding (RFC 8949, section 4.2.1; RFC 7049, section 3.9).
+-- Keys in a canonical encoding (RFC 8949, sections 4.2.1 and 4.2.3; RFC 7049, section 3.9).
 use Rattle.std.specs.Prelude.{ℕ, List, Result}
 use Rattle.coset.specs.CoseError.{CoseError}
 use Rattle.coset_label.specs.declared.ordering.CborOrdering.{CborOrdering}
@@ -9,14 +9,14 @@ use Rattle.ffi_query.specs.Answers.{IsEncodingOf}
 use Rattle.ffi_query.specs.declared.refusal.Refusal as refusals
 use Rattle.ffi_make.specs.Makes.{Writes}
 
--- the bytes are a key, and the text is the shortest encoding of it with its params in that order
+-- The bytes are a key. t is the key's shortest encoding, with its params in that order.
 abbrev pub IsCanonicalKey : CborOrdering → List ℕ → List ℕ → Type 0
 IsCanonicalKey o b t = (k : KeyView) × (l : KeyView) × Describes key b k × IsCanonicalOf o k l × IsEncodingOf (key.image l) t
 
--- they are no key, for this fault
+-- The bytes aren't a key, because of this fault.
 abbrev pub IsNoKey : List ℕ → CoseError → Type 0
 IsNoKey b e = SliceFaults key b e × DescribesNothing key b
 
--- What `canonical_key` returns: that text, or why the bytes are no key
+-- The result of `canonical_key`: that encoding, or the reason why the bytes aren't a key.
 abbrev pub WritesCanonical : CborOrdering → List ℕ → List ℕ → List ℕ → Result ℕ refusals.Refusal → Type 0
 WritesCanonical o b old new r = Writes (IsCanonicalKey o b) ⊥ (IsNoKey b) old new r

@@ -1,4 +1,4 @@
--- What calls are given: bytes that should be one item, labels, and values by what they hold.
+-- The arguments of calls: bytes that should be one item, labels, and values of map pairs.
 use Rattle.std.specs.Prelude.{◌≡◌, ℕ, ℤ, List, [], ◌∷◌, map, Result, Ok, Err}
 use Rattle.std.specs.Str.{IsUtf8}
 use Rattle.std.specs.Str.Lossy.{utf8_valid_len}
@@ -15,34 +15,34 @@ use Rattle.ffi_query.specs.Labels.{label_view}
 use Rattle.ffi_make.specs.declared.given.Entry as entries
 use Rattle.ffi_make.specs.declared.given.Entry.TheVariants.{Integer, Bytes, Text, Encoded}
 
--- the bytes are the item v; or there are none, and v is the item w
+-- The bytes encode the item v. If there are no bytes, v is w.
 abbrev pub IsAny : Item → List ℕ → Item → Type 0
 IsAny w [] v = v ≡ w
 IsAny w (x ∷ xs) v = IsItem (x ∷ xs) v
 
--- there are bytes, and they aren't one item
+-- There are bytes, and they aren't one item.
 abbrev pub AnyFaults : List ℕ → CoseError → Type 0
 AnyFaults [] e = ⊥
 AnyFaults (x ∷ xs) e = IsWholeFault (x ∷ xs) e
 
--- Reading bytes as one item, or as w where there are none
+-- Decoding bytes as one item. If there are no bytes, the result is w.
 abbrev pub ReadsAny : {T : Type 0} → Item → List ℕ → (T → Item) → Result T CoseError → Type 0
 ReadsAny w b item_of (Ok x) = IsAny w b (item_of x)
 ReadsAny w b item_of (Err e) = UnlessMemory e (AnyFaults b)
 
--- the byte string that holds these
+-- The byte string with this content.
 abbrev pub byte_string : List ℕ → Item
 byte_string b = bytes b
 
--- the item is the text string of these bytes, which are UTF-8
+-- The item is the text string with this content, which is UTF-8.
 abbrev pub IsText : List ℕ → Item → Type 0
 IsText t v = (v ≡ text t) × IsUtf8 t
 
--- the bytes aren't UTF-8, and the error says where they stop being it
+-- The bytes aren't UTF-8. The error has the offset at which they stop being UTF-8.
 abbrev pub IsTextFault : List ℕ → CoseError → Type 0
 IsTextFault t e = (IsUtf8 t → ⊥) × (e ≡ DecodeFailed (Syntax (utf8_valid_len t)))
 
--- the item is that label: label = int / tstr (RFC 8152, section 1.4)
+-- The item is this label: label = int / tstr (RFC 8152, section 1.4).
 abbrev pub IsKey : Name → Item → Type 0
 IsKey (number n) v = v ≡ integer n
 IsKey (text_label t) v = IsText t v
@@ -51,7 +51,7 @@ abbrev pub KeyFaults : Name → CoseError → Type 0
 KeyFaults (number n) e = ⊥
 KeyFaults (text_label t) e = IsTextFault t e
 
--- a value of a map by what it holds, without its memory
+-- The view of a pair's value.
 pub data EntryView : Type 0 where
   an_integer : ℤ → EntryView
   a_string : List ℕ → EntryView
@@ -64,14 +64,14 @@ entry_view (Bytes b) = a_string b.now
 entry_view (Text t) = a_text t.now
 entry_view (Encoded b) = an_encoding b.now
 
--- a label and a value without their memory
+-- The view of a label and its value.
 abbrev pub pair_view : labels.Label × entries.Entry → Name × EntryView
 pair_view p = (label_view p.0, entry_view p.1)
 
 abbrev pub pairs_view : List (labels.Label × entries.Entry) → List (Name × EntryView)
 pairs_view ps = map pair_view ps
 
--- the item is that value
+-- The item is this value.
 abbrev pub IsEntry : EntryView → Item → Type 0
 IsEntry (an_integer n) v = v ≡ integer n
 IsEntry (a_string b) v = v ≡ bytes b

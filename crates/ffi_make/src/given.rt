@@ -1,4 +1,4 @@
-//! What calls are given: bytes that should be one item, labels, and values by what they hold.
+//! The arguments of calls: bytes that should be one item, labels, and values of map pairs.
 
 ghost use Rattle.std.specs.Prelude.{◌≡◌, IfErr, IfOk, MatchResult};
 ghost use Rattle.coset.specs.Answers.{ReadsWhole};
@@ -15,33 +15,34 @@ use coset_codec::traits::whole_item;
 use ffi_query::Label;
 use std::alloc::Global;
 
-/// A value of a map, by what it holds.
+/// A value of a map pair.
 #[derive(Clone, Copy, Debug)]
 pub enum Entry<'a> {
     /// An integer.
     Integer(i64),
-    /// A byte string, which holds these.
+    /// A byte string with this content.
     Bytes(&'a [u8]),
-    /// A text string, by its UTF-8 bytes.
+    /// A text string, as its UTF-8 bytes.
     Text(&'a [u8]),
-    /// The item that the bytes are.
+    /// Any item, as its encoding.
     Encoded(&'a [u8]),
 }
 
-/// The item that the bytes are.
+/// Decodes the one item that the bytes encode.
 ///
 /// # Errors
-/// Why they aren't one item, or `OutOfMemory`.
+/// - The reason why the bytes aren't one item.
+/// - `OutOfMemory` if an allocation fails.
 pub(crate) fn value_in(alloc: Global, bytes: &[u8]) -> Result<Value>
     ensures { ReadsWhole value_item bytes.now result }
 {
     Ok(whole_item(bytes)?.to_value(alloc)?)
 }
 
-/// The item that the bytes are, and where there are none, this one.
+/// Decodes the one item that the bytes encode, or returns `empty` if there are no bytes.
 ///
 /// # Errors
-/// The same as [`value_in`].
+/// The errors of [`value_in`].
 pub(crate) fn value_or(alloc: Global, bytes: &[u8], empty: Value) -> Result<Value>
     ensures { ReadsAny (value_item empty) bytes.now value_item result }
 {
@@ -51,10 +52,11 @@ pub(crate) fn value_or(alloc: Global, bytes: &[u8], empty: Value) -> Result<Valu
     value_in(alloc, bytes)
 }
 
-/// A text string of these bytes.
+/// Returns a text string with this content.
 ///
 /// # Errors
-/// `DecodeFailed`, with the offset at which they stop being UTF-8, or `OutOfMemory`.
+/// - `DecodeFailed` with the offset at which the bytes stop being UTF-8.
+/// - `OutOfMemory` if an allocation fails.
 fn text_value(alloc: Global, text: &[u8]) -> Result<Value>
     ensures { MatchResult result (λ v. IsText text.now (value_item v)) (λ e.
         UnlessMemory e (IsTextFault text.now)) }
@@ -65,10 +67,10 @@ fn text_value(alloc: Global, text: &[u8]) -> Result<Value>
     }
 }
 
-/// A byte string of these bytes.
+/// Returns a byte string with this content.
 ///
 /// # Errors
-/// `OutOfMemory` alone.
+/// `OutOfMemory` if an allocation fails.
 pub(crate) fn bytes_value(alloc: Global, bytes: &[u8]) -> Result<Value>
     ensures value { IfOk result (λ v. value_item v ≡ byte_string bytes.now) }
     ensures memory { IfErr result (λ e. e ≡ OutOfMemory) }
@@ -76,10 +78,11 @@ pub(crate) fn bytes_value(alloc: Global, bytes: &[u8]) -> Result<Value>
     Ok(Value::Bytes(Vec::from_slice(alloc, bytes)?))
 }
 
-/// A label as the key of a pair.
+/// Returns a label as the key of a pair.
 ///
 /// # Errors
-/// That a text isn't UTF-8, or `OutOfMemory`.
+/// - `DecodeFailed` if a text isn't UTF-8.
+/// - `OutOfMemory` if an allocation fails.
 pub(crate) fn key_value(alloc: Global, label: Label<'_>) -> Result<Value>
     ensures { MatchResult result (λ v. IsKey (label_view label.entry) (value_item v)) (λ e.
         UnlessMemory e (KeyFaults (label_view label.entry))) }
@@ -90,10 +93,12 @@ pub(crate) fn key_value(alloc: Global, label: Label<'_>) -> Result<Value>
     }
 }
 
-/// A value of a pair.
+/// Returns the value of a pair.
 ///
 /// # Errors
-/// That a text isn't UTF-8, why bytes aren't one item, or `OutOfMemory`.
+/// - `DecodeFailed` if a text isn't UTF-8.
+/// - The reason why an encoding isn't one item.
+/// - `OutOfMemory` if an allocation fails.
 pub(crate) fn entry_value(alloc: Global, entry: Entry<'_>) -> Result<Value>
     ensures { MatchResult result (λ v. IsEntry (entry_view entry.entry) (value_item v)) (λ e.
         UnlessMemory e (EntryFaults (entry_view entry.entry))) }

@@ -8,10 +8,11 @@ use coset::{CborOrdering, CborSerializable, CoseKey, Result};
 use ffi_query::{Refusal, write_found};
 use std::alloc::Global;
 
-/// The shortest encoding of the key that the bytes are, with its labels in order.
+/// Returns the shortest encoding of the key, with its labels in order.
 ///
 /// # Errors
-/// Why they are no key, or `OutOfMemory`.
+/// - The reason why the bytes aren't a key.
+/// - `OutOfMemory` if an allocation fails.
 fn find_canonical(alloc: Global, ordering: CborOrdering, bytes: &[u8]) -> Result<Option<Vec<u8>>>
     ensures { FindsText (λ b. b.items) (IsCanonicalKey ordering bytes.now) ⊥ (IsNoKey bytes.now)
         result }
@@ -22,13 +23,17 @@ fn find_canonical(alloc: Global, ordering: CborOrdering, bytes: &[u8]) -> Result
     Ok(Some(key.to_vec(alloc)?))
 }
 
-/// Writes the key that the bytes are to the front of `out`, with its labels in the order of their encodings, as the shortest
-/// encoding (RFC 8949, section 4.2.1; RFC 7049, section 3.9), and returns the length of that: equal bytes for keys that
-/// agree but for the order of their pairs. Label 0, which is reserved, follows the labels 1 to 5.
+/// Writes a key in canonical order to the front of `out`, and returns its length.
+///
+/// The key is written in its shortest encoding, with its labels ordered by their encodings (RFC
+/// 8949, sections 4.2.1 and 4.2.3; RFC 7049, section 3.9). Keys that differ only in the order of
+/// their pairs give equal bytes. Label 0, which is reserved, follows the labels 1 to 5.
 ///
 /// # Errors
-/// `Short` where `out` has no room for it; `Cose` where the bytes are no key, or where memory runs out. `out` is then as it
-/// was.
+/// - `Short` with the length needed, if `out` is too small.
+/// - `Cose` if the bytes aren't a key, or an allocation fails.
+///
+/// `out` is then unchanged.
 pub fn canonical_key(
     alloc: Global,
     ordering: CborOrdering,

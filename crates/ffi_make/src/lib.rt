@@ -1,13 +1,17 @@
-//! Items of COSE, made of their parts in one call each: headers, keys and claims pair by pair; messages, signatures and
-//! recipients of their headers, their content and a signature or a tag; and what is signed, authenticated or goes with a
-//! ciphertext of a message that isn't made yet.
+//! Makes items of COSE from their parts, in one call each.
 //!
-//! Each call is a function of the bytes that it is given, as those of `ffi_query` are. So who signs does it in two
-//! steps, without a callback and with nothing kept in between: [`structure_of`] returns what is signed, and once that is,
-//! [`make`] makes the message of the same parts and of the signature. [`laws`] says that both mean the same.
+//! Headers, keys and claims sets are made pair by pair. Messages, signatures and recipients are
+//! made from their headers, their content, and a signature or a tag. Other calls write what is
+//! signed, what is authenticated, or what goes with a ciphertext, for a message that isn't made
+//! yet.
 //!
-//! What is made is written, and read as an item of the kind that is named, before the call returns it: so what isn't one
-//! is refused for the fault that a reader would name.
+//! Like the calls of `ffi_query`, each call is a function of the bytes that it is given. So signing
+//! takes two steps, without a callback and without any state in between. [`structure_of`] returns
+//! the bytes to sign. Then [`make`] makes the message from the same parts and the signature.
+//! [`laws`] says that the two agree.
+//!
+//! Before a call returns an item, it writes it and reads it as an item of the kind. So an item that
+//! isn't of the kind is refused for the fault that a reader would name.
 #![tactic(auto)]
 
 mod given;

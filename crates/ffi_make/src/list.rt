@@ -8,10 +8,10 @@ ghost use Rattle.ffi_make.specs.Messages.{and_item};
 use coset::Result;
 use coset::cbor::value::Value;
 
-/// The values, and one more behind them.
+/// Returns the values with one more at the end.
 ///
 /// # Errors
-/// `OutOfMemory` alone.
+/// `OutOfMemory` if an allocation fails.
 pub(crate) fn and_value(mut values: Vec<Value>, value: Value) -> Result<Vec<Value>>
     ensures values { IfOk result (λ vs. value_items vs.items
         ≡ and_item (value_items values.items) (value_item value)) }

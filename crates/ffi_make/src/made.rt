@@ -1,4 +1,4 @@
-//! What was made, written as its shortest encoding, once it is known to be of its kind.
+//! Writes a new item in its shortest encoding, once it is checked to be of its kind.
 
 ghost use Rattle.std.specs.Prelude.{◌≡◌, option_map};
 ghost use Rattle.coset.specs.View.{value_item};
@@ -10,10 +10,11 @@ use coset::{CborSerializable, Result};
 use ffi_query::{Kind, Refusal, check, write_found};
 use std::alloc::Global;
 
-/// The shortest encoding of the item that was made, which is one of that kind.
+/// Returns the shortest encoding of the new item, if it is of this kind.
 ///
 /// # Errors
-/// Why it is none, or `OutOfMemory`.
+/// - The reason why the item isn't of the kind.
+/// - `OutOfMemory` if an allocation fails.
 fn encoded(alloc: Global, kind: Kind, made: Option<Value>) -> Result<Option<Vec<u8>>>
     ensures { let o = option_map value_item made in
         FindsText (λ b. b.items) (IsMade kind o) (o ≡ None) (IsMisfit kind o) result }
@@ -28,11 +29,15 @@ fn encoded(alloc: Global, kind: Kind, made: Option<Value>) -> Result<Option<Vec<
     }
 }
 
-/// Writes the item that was made to the front of `out`, as its shortest encoding, and returns the length of that.
+/// Writes a new item to the front of `out` in its shortest encoding, and returns its length.
 ///
 /// # Errors
-/// `Short` where `out` has no room for it; `Absent` where none was made; or why it is no item of that kind. `out` is then
-/// as it was.
+/// - `Short` with the length needed, if `out` is too small.
+/// - `Absent` if no item was made.
+/// - `Cose` with the error that `made` has, or if the item isn't of the kind, or an allocation
+///   fails.
+///
+/// `out` is then unchanged.
 pub(crate) fn write_made(
     alloc: Global,
     kind: Kind,
@@ -47,12 +52,16 @@ pub(crate) fn write_made(
     }
 }
 
-/// Writes the item that the bytes are to the front of `out`, as its shortest encoding (RFC 8949, section 4.2.1, but that
-/// pairs stay in their order), and returns the length of that. The bytes of protected headers stay as they are.
+/// Writes an item to the front of `out` in its shortest encoding, and returns its length.
+///
+/// The encoding is that of RFC 8949, section 4.2.1, except that pairs keep their order. The bytes
+/// of protected headers are unchanged.
 ///
 /// # Errors
-/// `Short` where `out` has no room for it; `Cose` where the bytes aren't one item, or that is none of the kind, or where
-/// memory runs out. `out` is then as it was.
+/// - `Short` with the length needed, if `out` is too small.
+/// - `Cose` if the bytes aren't one item, the item isn't of the kind, or an allocation fails.
+///
+/// `out` is then unchanged.
 pub fn write(alloc: Global, kind: Kind, bytes: &[u8], out: &mut [u8]) -> Result<usize, Refusal>
     ensures { WritesAgain kind bytes.now out.old out.new result }
 {

@@ -1,4 +1,4 @@
-//! One signature, recipient or key more.
+//! Adds a signature, recipient, key or element to an item.
 
 ghost use Rattle.std.specs.Prelude.{◌≡◌, IfOk, IfErr, option_map};
 ghost use Rattle.coset.specs.CoseError.TheVariants.{OutOfMemory};
@@ -15,10 +15,10 @@ use coset::cbor::value::Value;
 use ffi_query::{Kind, Refusal};
 use std::alloc::Global;
 
-/// The places, behind them `last`, and behind that a list of the element alone.
+/// Returns the elements, then `last`, then a list of `member` alone.
 ///
 /// # Errors
-/// `OutOfMemory` alone.
+/// `OutOfMemory` if an allocation fails.
 fn begin_list(alloc: Global, places: Vec<Value>, last: Value, member: Value) -> Result<Vec<Value>>
     ensures places { IfOk result (λ vs. value_items vs.items
         ≡ items_and (value_items places.items)
@@ -30,11 +30,11 @@ fn begin_list(alloc: Global, places: Vec<Value>, last: Value, member: Value) -> 
     and_value(places, Value::Array(list))
 }
 
-/// The places, and behind them one that had become `last`, with the element behind those of its list. Where `last` is no
-/// list, one begins behind it, if that is asked for.
+/// Returns the elements, then the list `last` with `member` at its end. If `last` isn't a list and
+/// `begins` is true, `last` stays and a new list follows it.
 ///
 /// # Errors
-/// `OutOfMemory` alone.
+/// `OutOfMemory` if an allocation fails.
 fn member_in(
     alloc: Global,
     places: Vec<Value>,
@@ -61,10 +61,11 @@ fn member_in(
     }
 }
 
-/// The places with the element in the last one, which holds a list.
+/// Returns the elements with `member` added to the list that is their last. If `begins` is true,
+/// that list may be missing.
 ///
 /// # Errors
-/// `OutOfMemory` alone.
+/// `OutOfMemory` if an allocation fails.
 fn in_last(
     alloc: Global,
     mut places: Vec<Value>,
@@ -81,10 +82,11 @@ fn in_last(
     }
 }
 
-/// The places of an item of that kind, with one element more.
+/// Returns the elements of an item of this kind with one more member, or `None` if they have no
+/// list for it.
 ///
 /// # Errors
-/// `OutOfMemory` alone.
+/// `OutOfMemory` if an allocation fails.
 fn places_with(
     alloc: Global,
     kind: Kind,
@@ -103,10 +105,10 @@ fn places_with(
     }
 }
 
-/// An item of that kind, without a tag, with one element more.
+/// Returns an item of this kind, without a tag, with one more member.
 ///
 /// # Errors
-/// `OutOfMemory` alone.
+/// `OutOfMemory` if an allocation fails.
 fn with_member(alloc: Global, kind: Kind, value: Value, member: Value) -> Result<Option<Value>>
     ensures value { IfOk result (λ o. option_map value_item o
         ≡ with_member kind (value_item member) (value_item value)) }
@@ -121,10 +123,10 @@ fn with_member(alloc: Global, kind: Kind, value: Value, member: Value) -> Result
     }
 }
 
-/// An item of that kind, under a tag or without one, with one element more.
+/// Returns an item of this kind, with or without a tag, with one more member.
 ///
 /// # Errors
-/// `OutOfMemory` alone.
+/// `OutOfMemory` if an allocation fails.
 fn within_tag(alloc: Global, kind: Kind, value: Value, member: Value) -> Result<Option<Value>>
     ensures value { IfOk result (λ o. option_map value_item o
         ≡ within_tag (with_member kind (value_item member)) (value_item value)) }
@@ -141,13 +143,21 @@ fn within_tag(alloc: Global, kind: Kind, value: Value, member: Value) -> Result<
     }
 }
 
-/// Puts one signature, recipient or key behind those that the item has, writes its shortest encoding to the front of `out`,
-/// and returns the length of that. What was signed, authenticated or goes with a ciphertext stays. A set of keys may begin
-/// with no bytes, and so may any array, of a [`Kind::Any`]; a recipient that has no list of others begins one.
+/// Adds a signature, recipient, key or element to an item, writes the new item to the front of
+/// `out`, and returns its length.
+///
+/// The new member follows those that the item has. The item is written in its shortest encoding.
+/// Its structures stay as they were: what was signed, authenticated, or goes with a ciphertext.
+/// `bytes` may be empty for a new set of keys or, for a [`Kind::Any`], a new array. A recipient
+/// without nested recipients gets a list of them.
 ///
 /// # Errors
-/// `Short` where `out` has no room for it; `Absent` where items of the kind have no such list; `Cose` where the bytes of
-/// either aren't one item, where what is made is no item of the kind, or where memory runs out. `out` is then as it was.
+/// - `Short` with the length needed, if `out` is too small.
+/// - `Absent` if items of the kind have no such list, or `bytes` is an item without it.
+/// - `Cose` if `bytes` or `member` aren't one item, the new item isn't of the kind, or an
+///   allocation fails.
+///
+/// `out` is then unchanged.
 pub fn add(
     alloc: Global,
     kind: Kind,

@@ -1,4 +1,4 @@
-//! Messages, signatures and recipients, made of their parts.
+//! Makes messages, signatures and recipients from their parts.
 
 ghost use Rattle.std.specs.Prelude.{◌≡◌, IfOk, IfErr, option_map};
 ghost use Rattle.std.specs.Option.{option_copied};
@@ -14,14 +14,14 @@ use coset::cbor::value::Value;
 use ffi_query::{Form, Kind, Refusal};
 use std::alloc::Global;
 
-/// Whether items of the kind hold a payload or a ciphertext, behind their headers.
+/// Returns true if items of this kind have a payload or a ciphertext after their headers.
 fn has_content(kind: Kind) -> bool
     ensures { result ≡ has_content kind }
 {
     kind.has_headers() && !matches!(kind, Kind::Signature)
 }
 
-/// Whether they hold a signature or a tag.
+/// Returns true if items of this kind have a signature or a tag.
 fn has_proof(kind: Kind) -> bool
     ensures { result ≡ has_proof kind }
 {
@@ -31,14 +31,15 @@ fn has_proof(kind: Kind) -> bool
     )
 }
 
-/// Whether they end with a list of signatures or recipients.
+/// Returns true if items of this kind end with a list of signatures or recipients.
 fn has_list(kind: Kind) -> bool
     ensures { result ≡ has_list kind }
 {
     matches!(kind, Kind::Sign(_) | Kind::Mac(_) | Kind::Encrypt(_))
 }
 
-/// Whether items of the kind have two headers, and a place for each of these that is given.
+/// Returns true if items of this kind have two headers, and a place for each of these parts that is
+/// given.
 fn has_places(kind: Kind, content: Option<&[u8]>, proof: &[u8]) -> bool
     ensures { result ≡ has_places kind (option_copied content.entry) proof.now }
 {
@@ -51,10 +52,10 @@ fn has_places(kind: Kind, content: Option<&[u8]>, proof: &[u8]) -> bool
     kind.has_headers()
 }
 
-/// A payload or a ciphertext: `bstr / nil`.
+/// Returns a payload or a ciphertext: `bstr / nil`.
 ///
 /// # Errors
-/// `OutOfMemory` alone.
+/// `OutOfMemory` if an allocation fails.
 fn content_value(alloc: Global, content: Option<&[u8]>) -> Result<Value>
     ensures value { IfOk result (λ v. value_item v ≡ content_item (option_copied content.entry)) }
     ensures memory { IfErr result (λ e. e ≡ OutOfMemory) }
@@ -65,10 +66,10 @@ fn content_value(alloc: Global, content: Option<&[u8]>) -> Result<Value>
     }
 }
 
-/// The places with one more, where that is asked for.
+/// Returns the elements, with `value` at the end if `is_asked` is true.
 ///
 /// # Errors
-/// `OutOfMemory` alone.
+/// `OutOfMemory` if an allocation fails.
 fn and_place(places: Vec<Value>, is_asked: bool, value: Value) -> Result<Vec<Value>>
     ensures places { IfOk result (λ vs. value_items vs.items
         ≡ and_place is_asked (value_item value) (value_items places.items)) }
@@ -81,10 +82,10 @@ fn and_place(places: Vec<Value>, is_asked: bool, value: Value) -> Result<Vec<Val
     }
 }
 
-/// The places of an item of the kind, by its parts.
+/// Returns the elements of an item of this kind, from its parts.
 ///
 /// # Errors
-/// `OutOfMemory` alone.
+/// `OutOfMemory` if an allocation fails.
 fn places(
     alloc: Global,
     kind: Kind,
@@ -105,7 +106,7 @@ fn places(
     and_place(places, has_list(kind), Value::Array(Vec::new(alloc)))
 }
 
-/// The number of the tag under which a message of the kind is written, if any.
+/// Returns the number of the tag that an item of this kind is written under, or `None`.
 fn tag_written(kind: Kind) -> Option<u64>
     ensures { result ≡ tag_written kind }
 {
@@ -123,10 +124,10 @@ fn tag_written(kind: Kind) -> Option<u64>
     }
 }
 
-/// The item under a tag of that number, where there is a number.
+/// Puts the item under a tag of this number, if there is a number.
 ///
 /// # Errors
-/// `OutOfMemory` alone.
+/// `OutOfMemory` if an allocation fails.
 fn in_tag(alloc: Global, number: Option<u64>, value: Value) -> Result<Value>
     ensures value { IfOk result (λ v. value_item v ≡ in_tag number (value_item value)) }
     ensures memory { IfErr result (λ e. e ≡ OutOfMemory) }
@@ -137,10 +138,11 @@ fn in_tag(alloc: Global, number: Option<u64>, value: Value) -> Result<Value>
     }
 }
 
-/// The item of the kind that has these parts.
+/// Makes the item of this kind from its parts, or returns `None` if it has no place for one of
+/// them.
 ///
 /// # Errors
-/// `OutOfMemory` alone.
+/// `OutOfMemory` if an allocation fails.
 fn message(
     alloc: Global,
     kind: Kind,
@@ -161,18 +163,29 @@ fn message(
     Ok(Some(value))
 }
 
-/// Makes a message, a signature or a recipient of its parts, writes its shortest encoding to the front of `out`, and
-/// returns the length of that. It is under its tag where the kind says [`Form::Tagged`].
+/// Makes a message, a signature or a recipient, writes it to the front of `out`, and returns its
+/// length.
 ///
-/// `protected` is what the byte string of the protected header holds, as it was signed: a map, or nothing for an empty
-/// header. `unprotected` is a map too, or nothing. `content` is the payload or the ciphertext, and `None` where that is
-/// detached. `proof` is the signature or the tag. A message that has a list of signatures or recipients is made with an
-/// empty one: [`add`](crate::add) puts them into it.
+/// The item is written in its shortest encoding. It is under its tag if the kind's form is
+/// [`Form::Tagged`].
+///
+/// - `protected` is the content of the protected header's byte string, as it was signed: a map, or
+///   nothing for an empty header.
+/// - `unprotected` is a map too, or nothing.
+/// - `content` is the payload or the ciphertext, or `None` if that is detached.
+/// - `proof` is the signature or the tag.
+///
+/// A message with a list of signatures or recipients is made with an empty list.
+/// [`add`](crate::add) puts them in.
 ///
 /// # Errors
-/// `Short` where `out` has no room for it; `Absent` where items of the kind have no headers, or no place for the content or
-/// the proof that is given; `Cose` where `unprotected` isn't one item, where what is made is no item of the kind (so a
-/// header is refused for its own fault), or where memory runs out. `out` is then as it was.
+/// - `Short` with the length needed, if `out` is too small.
+/// - `Absent` if items of the kind have no headers, or no place for the content or proof that is
+///   given.
+/// - `Cose` if `unprotected` isn't one item, the new item isn't of the kind, or an allocation
+///   fails. A fault in a header is returned as it is.
+///
+/// `out` is then unchanged.
 pub fn make(
     alloc: Global,
     kind: Kind,

@@ -1,4 +1,4 @@
-//! Headers, keys and claims, pair by pair.
+//! Makes headers, keys and claims sets pair by pair.
 
 ghost use Rattle.std.specs.Prelude.{◌≡◌, IfOk, IfErr, option_map};
 ghost use Rattle.coset.specs.CoseError.TheVariants.{OutOfMemory};
@@ -14,10 +14,10 @@ use coset::cbor::value::Value;
 use ffi_query::{Kind, Label, Refusal};
 use std::alloc::Global;
 
-/// A map with one pair more.
+/// Returns a map with one more pair, or `None` if the item isn't a map.
 ///
 /// # Errors
-/// `OutOfMemory` alone.
+/// `OutOfMemory` if an allocation fails.
 pub(crate) fn with_pair(map: Value, key: Value, value: Value) -> Result<Option<Value>>
     ensures value { IfOk result (λ o. option_map value_item o
         ≡ with_pair (value_item key) (value_item value) (value_item map)) }
@@ -32,13 +32,22 @@ pub(crate) fn with_pair(map: Value, key: Value, value: Value) -> Result<Option<V
     }
 }
 
-/// Puts one pair behind those of a header, a key or a claims set, writes its shortest encoding to the front of `out`, and
-/// returns the length of that. No bytes are an empty map. A key begins with its type, label 1, which it can't be without.
+/// Adds a pair to a header, a key or a claims set, writes it to the front of `out`, and returns its
+/// length.
+///
+/// The pair follows those that the map has. The map is written in its shortest encoding. If `map`
+/// is empty, it is a new map. A new key must begin with its type, label 1, because a key without a
+/// type isn't valid.
 ///
 /// # Errors
-/// `Short` where `out` has no room for it; `Absent` where the bytes are no map; `Cose` where they aren't one item, or those
-/// of the value; where a text isn't UTF-8; where what is made is none of the kind, as it is with a second value for a
-/// label, or with a value that the label doesn't take; or where memory runs out. `out` is then as it was.
+/// - `Short` with the length needed, if `out` is too small.
+/// - `Absent` if `map` isn't a map.
+/// - `Cose` if `map` or the value's encoding isn't one item, or a text isn't UTF-8.
+/// - `Cose` if the new map isn't of the kind, for example because the label has a value already, or
+///   doesn't take this one.
+/// - `Cose` if an allocation fails.
+///
+/// `out` is then unchanged.
 pub fn put(
     alloc: Global,
     kind: Kind,

@@ -1,4 +1,4 @@
-//! Headers, keys and claims, of many pairs at once.
+//! Makes headers, keys and claims sets from many pairs at once.
 
 ghost use Rattle.std.specs.Prelude.{◌≡◌, ◌⊎◌, MatchResult, option_map, option_and_then};
 ghost use Rattle.coset.specs.Errors.{UnlessMemory};
@@ -16,10 +16,12 @@ use coset::cbor::value::Value;
 use ffi_query::{Kind, Label, Refusal};
 use std::alloc::Global;
 
-/// What was made so far, with one pair more.
+/// Returns the map made so far with one more pair.
 ///
 /// # Errors
-/// That a text isn't UTF-8, why bytes aren't one item, or `OutOfMemory`.
+/// - `DecodeFailed` if a text isn't UTF-8.
+/// - The reason why an encoding isn't one item.
+/// - `OutOfMemory` if an allocation fails.
 fn with_one(
     alloc: Global,
     made: Option<Value>,
@@ -40,10 +42,10 @@ fn with_one(
     }
 }
 
-/// An item with these pairs behind those of a map; the same item where there are none.
+/// Returns a map with these pairs at its end. Without pairs the item is unchanged, whatever it is.
 ///
 /// # Errors
-/// The same as [`with_one`].
+/// The errors of [`with_one`].
 fn with_all(alloc: Global, map: Value, pairs: &[(Label<'_>, Entry<'_>)]) -> Result<Option<Value>>
     ensures { let xs = pairs_view pairs.now in
         MatchResult result (λ o. (qs : Pairs) × ArePairs xs qs
@@ -57,14 +59,22 @@ fn with_all(alloc: Global, map: Value, pairs: &[(Label<'_>, Entry<'_>)]) -> Resu
     Ok(made)
 }
 
-/// Puts pairs behind those of a header, a key or a claims set, in this order, writes its shortest encoding to the front of
-/// `out`, and returns the length of that: what [`put`](crate::put) makes pair by pair, but that the bytes are read once, and
-/// what is made is checked and written once, with all of them. No bytes are an empty map.
+/// Adds pairs to a header, a key or a claims set, writes it to the front of `out`, and returns its
+/// length.
+///
+/// The result is that of [`put`](crate::put) called for each pair in this order. But the bytes are
+/// read once, and the new map is checked and written once, with all pairs. The pairs follow those
+/// that the map has. The map is written in its shortest encoding. If `map` is empty, it is a new
+/// map.
 ///
 /// # Errors
-/// `Short` where `out` has no room for it; `Absent` where the bytes are no map; `Cose` where they aren't one item, or those
-/// of a value; where a text isn't UTF-8; where what is made is none of the kind, as it is with two values for a label; or
-/// where memory runs out. `out` is then as it was.
+/// - `Short` with the length needed, if `out` is too small.
+/// - `Absent` if there are pairs, and `map` is an item that isn't a map.
+/// - `Cose` if `map` or a value's encoding isn't one item, or a text isn't UTF-8.
+/// - `Cose` if the new map isn't of the kind, for example because a label has two values.
+/// - `Cose` if an allocation fails.
+///
+/// `out` is then unchanged.
 pub fn put_all(
     alloc: Global,
     kind: Kind,

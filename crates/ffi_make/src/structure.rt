@@ -1,5 +1,5 @@
-//! What is signed, what is authenticated, and what goes with a ciphertext, of a message or of a recipient that isn't made
-//! yet (RFC 8152, sections 4.4, 5.3 and 6.3).
+//! The structures that are signed, authenticated, or go with a ciphertext, for a message or a
+//! recipient that isn't made yet (RFC 8152, sections 4.4, 5.3 and 6.3).
 
 ghost use Rattle.std.specs.Prelude.{◌≡◌, IfOk, IfErr};
 ghost use Rattle.coset.specs.CoseError.TheVariants.{OutOfMemory};
@@ -10,10 +10,11 @@ use coset_core::structure::structure_bytes;
 use ffi_query::{Kind, Refusal, check, write_found};
 use std::alloc::Global;
 
-/// Checks that the bytes are what the byte string of a protected header holds: a header, or nothing.
+/// Checks that the bytes are the content of a protected header's byte string: a header, or nothing.
 ///
 /// # Errors
-/// Why they are none, or `OutOfMemory`.
+/// - The reason why the bytes aren't a header.
+/// - `OutOfMemory` if an allocation fails.
 fn check_header(alloc: Global, bytes: &[u8]) -> Result<()>
     ensures { ChecksHeader bytes.now result }
 {
@@ -23,10 +24,11 @@ fn check_header(alloc: Global, bytes: &[u8]) -> Result<()>
     check(alloc, Kind::Header, bytes)
 }
 
-/// A structure over a content, which has no place for a signer's header.
+/// Encodes a structure over a content. Returns `None` if a signer's header is given, because it has
+/// no place for one.
 ///
 /// # Errors
-/// `OutOfMemory` alone.
+/// `OutOfMemory` if an allocation fails.
 fn over_content(
     alloc: Global,
     context: &str,
@@ -46,10 +48,11 @@ fn over_content(
     Ok(Some(structure_bytes(alloc, context, &parts)?))
 }
 
-/// A structure that goes with a ciphertext, which has no place for a signer's header or a content.
+/// Encodes a structure that goes with a ciphertext. Returns `None` if a signer's header or a
+/// content is given, because it has no place for these.
 ///
 /// # Errors
-/// `OutOfMemory` alone.
+/// `OutOfMemory` if an allocation fails.
 fn beside_ciphertext(
     alloc: Global,
     context: &str,
@@ -71,10 +74,10 @@ fn beside_ciphertext(
     Ok(Some(structure_bytes(alloc, context, &[protected, external_aad])?))
 }
 
-/// What a signer signs, who has a header of its own.
+/// Encodes the structure that a signer with its own header signs.
 ///
 /// # Errors
-/// `OutOfMemory` alone.
+/// `OutOfMemory` if an allocation fails.
 fn of_signer(
     alloc: Global,
     protected: &[u8],
@@ -90,10 +93,10 @@ fn of_signer(
     Ok(Some(structure_bytes(alloc, "Signature", &parts)?))
 }
 
-/// The shortest encoding of a structure of the kind.
+/// Encodes the structure of a message of this kind.
 ///
 /// # Errors
-/// `OutOfMemory` alone.
+/// `OutOfMemory` if an allocation fails.
 fn find_structure(
     alloc: Global,
     kind: Kind,
@@ -119,17 +122,25 @@ fn find_structure(
     }
 }
 
-/// Writes what is signed of a message that isn't made yet, what is authenticated, or what goes with the ciphertext to the
-/// front of `out`, and returns its length: the shortest encoding of `Sig_structure`, `MAC_structure` or `Enc_structure`
-/// (RFC 8152, sections 4.4, 5.3 and 6.3).
+/// Writes the structure of a message that isn't made yet to the front of `out`, and returns its
+/// length.
 ///
-/// `protected` is what the byte string of the message's protected header will hold: a map, or nothing for an empty header.
-/// `signer` is what that of the signer holds, for [`Kind::Sign`] alone. `content` is the payload, whether it will be
-/// carried or is detached; a structure that goes with a ciphertext has none.
+/// The structure is what is signed, authenticated, or goes with the ciphertext: the shortest
+/// encoding of `Sig_structure`, `MAC_structure` or `Enc_structure` (RFC 8152, sections 4.4, 5.3 and
+/// 6.3).
+///
+/// - `protected` is the content of the message's protected header: a map, or nothing for an empty
+///   header.
+/// - `signer` is the same for the signer's header. Only a [`Kind::Sign`] has one.
+/// - `content` is the payload, carried or detached. An `Enc_structure` has none.
 ///
 /// # Errors
-/// `Short` where `out` has no room for it; `Absent` where items of the kind have no structure, or that has no place for the
-/// signer or the content that is given; `Cose` where a header is none, or where memory runs out. `out` is then as it was.
+/// - `Short` with the length needed, if `out` is too small.
+/// - `Absent` if items of the kind have no structure, or it has no place for the signer or content
+///   that is given.
+/// - `Cose` if `protected` or `signer` isn't a header, or an allocation fails.
+///
+/// `out` is then unchanged.
 pub fn structure_of(
     alloc: Global,
     kind: Kind,
@@ -154,10 +165,10 @@ pub fn structure_of(
     )
 }
 
-/// A structure that goes with the ciphertext of a recipient.
+/// Encodes the structure that goes with a recipient's ciphertext.
 ///
 /// # Errors
-/// `OutOfMemory` alone.
+/// `OutOfMemory` if an allocation fails.
 fn of_recipient(
     alloc: Global,
     context: &str,
@@ -171,10 +182,10 @@ fn of_recipient(
     Ok(Some(structure_bytes(alloc, context, &[protected, external_aad])?))
 }
 
-/// The shortest encoding of the structure of a recipient, by what holds it.
+/// Encodes the structure of a recipient, by the kind that contains it.
 ///
 /// # Errors
-/// `OutOfMemory` alone.
+/// `OutOfMemory` if an allocation fails.
 fn find_recipient_structure(
     alloc: Global,
     holder: Kind,
@@ -193,16 +204,24 @@ fn find_recipient_structure(
     }
 }
 
-/// Writes what goes with the ciphertext of a recipient that isn't made yet to the front of `out`, and returns its length:
-/// the shortest encoding of `Enc_structure` (RFC 8152, section 5.3).
+/// Writes the structure of a recipient that isn't made yet to the front of `out`, and returns its
+/// length.
 ///
-/// `protected` is what the byte string of the recipient's protected header will hold: a map, or nothing for an empty header.
-/// The context is `Enc_Recipient` where `holder`, which will hold the recipient, is a [`Kind::Encrypt`] in whichever form,
-/// `Mac_Recipient` where it is a [`Kind::Mac`], and `Rec_Recipient` where it is a [`Kind::Recipient`] itself.
+/// The structure goes with the recipient's ciphertext. It is the shortest encoding of
+/// `Enc_structure` (RFC 8152, section 5.3).
+///
+/// `protected` is the content of the recipient's protected header: a map, or nothing for an empty
+/// header. The context depends on the kind that will contain the recipient:
+/// - `Enc_Recipient` if `holder` is a [`Kind::Encrypt`] in any form,
+/// - `Mac_Recipient` if it is a [`Kind::Mac`] in any form,
+/// - `Rec_Recipient` if it is a [`Kind::Recipient`] itself.
 ///
 /// # Errors
-/// `Short` where `out` has no room for it; `Absent` where items of the kind `holder` hold no recipients; `Cose` where the
-/// header is none, or where memory runs out. `out` is then as it was.
+/// - `Short` with the length needed, if `out` is too small.
+/// - `Absent` if items of the kind `holder` contain no recipients.
+/// - `Cose` if `protected` isn't a header, or an allocation fails.
+///
+/// `out` is then unchanged.
 pub fn recipient_structure_of(
     alloc: Global,
     holder: Kind,

@@ -1,4 +1,4 @@
--- From what is found of an item to what is returned.
+-- From the part found in an item to the result of the call.
 use Rattle.std.proofs.Common.{◌≡◌, ℕ, List, Option, Some, None, Result, Ok, Err, refl, sym, subst}
 use Rattle.std.specs.Prelude.{IfOk, IfErr}
 use Rattle.coset.specs.Item.{Item}
@@ -15,7 +15,7 @@ use Rattle.ffi_query.specs.Labels.{HasNoString, IsStringOf, IsUnder}
 use Rattle.ffi_query.specs.Places.{string_in}
 use Rattle.ffi_query.proofs.EachKind.{memory_refuses}
 
--- what was found of the item, written, is what is returned; where nothing was, for a reason of which Q holds
+-- The text that was found is written and returned. If none was found, the reason has property Q.
 pub answered_or :
     {T : Type 0} (bytes_of : T → List ℕ) (k : kinds.Kind) (b old new : List ℕ) (P : Item → List ℕ → Type 0)
     (Q : Item → refusals.Refusal → Type 0) (v : Item) (found : Result (Option T) CoseError) (r : Result ℕ refusals.Refusal)
@@ -31,14 +31,14 @@ answered_or bytes_of k b old new P Q v (Ok (Some x)) (Err (Cose e)) none i f m w
 answered_or bytes_of k b old new P Q v (Ok None) r none i f m w = subst (AnswersOr k b P Q old new) (sym w.0) (v, i, none f, w.1)
 answered_or bytes_of k b old new P Q v (Err e) r none i f m w = subst (AnswersOr k b P Q old new) (sym w.0) (memory_refuses k b e m, w.1)
 
--- a call that refuses only because there is no text
+-- A call that refuses only because there is no text.
 pub answered :
     {T : Type 0} (bytes_of : T → List ℕ) (k : kinds.Kind) (b old new : List ℕ) (P : Item → List ℕ → Type 0) (v : Item) (found : Result (Option T) CoseError)
     (r : Result ℕ refusals.Refusal) → IsItemOf k b v → IfOk found (Finds bytes_of (P v)) → IfErr found (λ e. e ≡ OutOfMemory)
     → WritesFound bytes_of found old new r → Answers k b P old new r
 answered bytes_of k b old new P v found r i f m w = answered_or bytes_of k b old new P (HasNoText P) v found r (λ none. none) i f m w
 
--- what is under the label was found, and what it holds is written, where it is a string
+-- The value under the label was found. Its content is written if it is a string.
 string_put :
     (k : kinds.Kind) (b old new : List ℕ) (m : maps.Map) (l : Name) (v w : Item) (o : Option (List ℕ)) (r : Result ℕ refusals.Refusal) → IsItemOf k b v
     → IsUnder k m l v w
@@ -53,7 +53,7 @@ string_put k b old new m l v w (Some t) (Err (Cose x)) i u e p = absurd p
 string_put k b old new m l v w None r i u e p =
     subst (AnswersOr k b (IsStringOf k m l) (HasNoString k m l) old new) (sym p.0) (v, i, (w, u, e), p.1)
 
--- the string under a label, where one was looked for
+-- The string under a label, after a value was looked up.
 pub string_answered :
     {T : Type 0} (view : T → Item) (k : kinds.Kind) (b old new : List ℕ) (m : maps.Map) (l : Name) (v : Item) (found : Result (Option T) CoseError)
     (r : Result ℕ refusals.Refusal) → IsItemOf k b v → IfOk found (Finds view (IsUnder k m l v)) → IfErr found (λ e. e ≡ OutOfMemory)

@@ -1,4 +1,4 @@
--- What holds of each kind.
+-- Properties of each kind.
 use Rattle.std.proofs.Common.{◌≡◌, ℕ, List, Result, Ok, Err, refl, subst, sym}
 use Rattle.std.specs.Prelude.{IsErrAnd, MatchResult}
 use Rattle.coset.specs.Item.{Item}
@@ -13,7 +13,7 @@ use Rattle.ffi_query.specs.declared.kind.Kind.TheVariants.{Sign1, Sign, Mac0, Ma
 use Rattle.ffi_query.specs.declared.kind.Kind.TheVariants.{Header, Key, KeySet, Claims, Any, KdfContext}
 use Rattle.ffi_query.specs.Kinds.{ChecksAs, HoldsOf, IsItemOf, IsOf, IsRefused, tag_of, without_tag}
 
--- what holds of each shape holds of a kind's
+-- A property of every shape is one of the kind's shape.
 holds_of_all : (k : kinds.Kind) (P : (A : Type 0) → Shape A → Type 0) → ((A : Type 0) (s : Shape A) → P A s) → HoldsOf k P
 holds_of_all (Sign1 f) P h = h _ _
 holds_of_all (Sign f) P h = h _ _
@@ -30,7 +30,7 @@ holds_of_all Claims P h = h _ _
 holds_of_all Any P h = h _ _
 holds_of_all KdfContext P h = h _ _
 
--- what follows for each shape follows of a kind's
+-- If Q follows from P for every shape, it follows for the kind's shape.
 follows_of : (k : kinds.Kind) (P : (A : Type 0) → Shape A → Type 0) (Q : Type 0) → ((A : Type 0) (s : Shape A) → P A s → Q) → HoldsOf k P → Q
 follows_of (Sign1 f) P Q h p = h _ _ p
 follows_of (Sign f) P Q h p = h _ _ p
@@ -47,28 +47,28 @@ follows_of Claims P Q h p = h _ _ p
 follows_of Any P Q h p = h _ _ p
 follows_of KdfContext P Q h p = h _ _ p
 
--- bytes of a kind are one item
+-- Bytes of a kind are one item.
 is_item : (k : kinds.Kind) (b : List ℕ) → IsOf k b → (v : Item) × IsItem b v
 is_item k b = follows_of k (λ A s. (x : A) × Describes s b x) ((v : Item) × IsItem b v) (λ A s p. (p.1.0, p.1.1))
 
--- bytes that are an item are one of any kind
+-- Bytes that are an item are of the kind `Any`.
 pub any_item : (b : List ℕ) (w : Item) → IsItem b w → IsOf Any b
 any_item b w is = (w, (w, is, refl))
 
--- out of memory refuses any bytes
+-- `OutOfMemory` refuses any bytes.
 pub memory_refuses : (k : kinds.Kind) (b : List ℕ) (e : CoseError) → e ≡ OutOfMemory → IsRefused k b e
 memory_refuses k b e is = holds_of_all k (λ A s. UnlessMemory e (λ f. SliceFaults s b f × DescribesNothing s b)) (λ A s n. absurd (n is))
 
--- bytes of a kind aren't refused as a whole
+-- Bytes of a kind have no fault that would keep them from being one item.
 pub not_whole :
     (k : kinds.Kind) (b : List ℕ) (e : CoseError) → IsOf k b → UnlessMemory e (IsWholeFault b) → (e ≡ OutOfMemory → ⊥) → IsRefused k b e
 not_whole k b e is fault other = let i = is_item k b is in absurd ((fault other).1 i.0 i.1)
 
--- the item of a kind that bytes are, without its tag
+-- The item of a kind that the bytes encode, without its tag.
 pub inside : (k : kinds.Kind) (b : List ℕ) (whole v : Item) → IsOf k b → IsOnlyItem b whole → v ≡ without_tag (tag_of k) whole → IsItemOf k b v
 inside k b whole v is only e = record { whole = whole; is_item = only.0; is_of = is; is_inside = e }
 
--- ---- errors that are passed on
+-- ---- errors returned unchanged
 
 pub refuses : {T : Type 0} (P : T → Type 0) (Q : CoseError → Type 0) (e : CoseError) (r : Result T CoseError) → IsErrAnd r (λ x. x ≡ e) → Q e
     → MatchResult r P Q

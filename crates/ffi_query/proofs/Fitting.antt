@@ -27,7 +27,7 @@ use Rattle.ffi_query.proofs.Viewed.{same_number, under_some}
 none_is : {A : Type 0} {x : A} → None ≡ Some x → ⊥
 none_is p = some-none refl (sym p)
 
--- a byte string isn't null
+-- A byte string isn't nil.
 pub not_nil : (v : Item) (s : List ℕ) → as_bytes v ≡ Some s → is_nil v ≡ false
 not_nil (bytes t) s e = refl
 not_nil (integer n) s e = refl
@@ -39,7 +39,7 @@ not_nil (tag t v) s e = refl
 not_nil (array vs) s e = refl
 not_nil (dict ps) s e = refl
 
--- what an item begins with, and what is behind that
+-- The first three elements, and the elements after them.
 pub begins :
     {A : Type 0} (ps : Elements A) (v : Item) (t : Three) (b : Bool) → b ≡ true → IsThree v t → FitsThree t b
     → (x : A) × ps.describes (elements_left t.behind) x
@@ -50,7 +50,7 @@ begins ps v t b e is f x =
     let o = f.2 e in
     ((p.0, (u.0, (o.0, x.0))), (_, is, (p.1, (u.1, (o.1, x.1)))))
 
--- a byte string, and nothing behind it
+-- A byte string, and no element after it.
 pub one_string :
     (v : Item) (vs ws : Items) (a b : Bool) → vs ≡ item v ws → a ≡ true → Fits bstr v a → FitsElements end ws b
     → FitsElements (bstr then end) vs b
@@ -91,7 +91,7 @@ pub in_form_of :
     → FitsForm f n ps v w
 in_form_of ps f n v w i e d = (subst (IsInForm f n v) (sym e) i, d)
 
--- a message in a form
+-- A message in a form.
 pub in_its_form :
     {A : Type 0} (s : Shape A) (f : forms.Form) (n : ℕ) (v w : Item) → IsInForm f n v w → (x : A) × s.describes w x
     → (x : A) × (in_form f n s).describes v x
@@ -101,7 +101,7 @@ in_its_form s Either n v w e d = (d.0, subst (λ u. s.describes u d.0) e d.1)
 
 -- ---- the three kinds
 
--- what follows of an item where something was found
+-- A consequence of having found the first three elements.
 pub known_by : {P Q : Type 0} (r : Option Three) → (P → Q) → IfSome r (λ t. P) → IfSome r (λ t. Q)
 known_by (Some t) h p = h p
 known_by None h p = p
@@ -115,7 +115,7 @@ fits_mac0 k f v w e d = subst (λ j. FitsKind j v) (sym e) (in_its_form mac0 f 1
 pub fits_encrypt0 : (k : kinds.Kind) (f : forms.Form) (v w : Item) → k ≡ Encrypt0 f → FitsForm f 16 (or_nil bstr then end) v w → FitsKind k v
 fits_encrypt0 k f v w e d = subst (λ j. FitsKind j v) (sym e) (in_its_form encrypt0 f 16 v w d.0 (encrypt0_of d.1.0, d.1.1))
 
--- ---- what follows for each shape
+-- ---- consequences for each shape
 
 follows :
     (k : kinds.Kind) (P Q : (A : Type 0) → Shape A → Type 0) → ((A : Type 0) (s : Shape A) → P A s → Q A s) → HoldsOf k P → HoldsOf k Q
@@ -134,7 +134,7 @@ follows Claims P Q h p = h _ _ p
 follows Any P Q h p = h _ _ p
 follows KdfContext P Q h p = h _ _ p
 
--- the bytes of an item of a kind are of it
+-- Bytes that encode an item of a kind are of that kind.
 pub of_kind : (k : kinds.Kind) (b : List ℕ) (w : Item) → IsOnlyItem b w → FitsKind k w → IsOf k b
 of_kind k b w is =
     follows k (λ A s. (x : A) × s.describes w x) (λ A s. (x : A) × Describes s b x) (λ A s d. (d.0, (w, is.0, d.1)))

@@ -15,12 +15,12 @@ if-and : (t p q : Bool) → p ≡ q → (if t then p else false) ≡ (t && q)
 if-and true p q e = e
 if-and false p q e = refl
 
--- each of a list of values
+-- Each of a list of values.
 pub each_all : (ns : List ℤ) (vs : List Value) → each_known ns (value_items vs) ≡ list_all (λ v. is_known ns (value_item v)) vs
 each_all ns [] = refl
 each_all ns (v ∷ vs) = if-and (is_known ns (value_item v)) _ _ (each_all ns vs)
 
--- the headers of a message that has no signers
+-- The headers of a message without signers.
 pub of_one :
     (k : kinds.Kind) (ns : List ℤ) (v s : Item) (has understood : Bool) → ((f : forms.Form) → k ≡ Sign f → ⊥) → IsCriticalIn k ns v has understood
     → IsCriticalOf k ns v s has understood

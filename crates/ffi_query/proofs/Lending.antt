@@ -1,4 +1,4 @@
--- What is found of a message as parts of the input.
+-- What is borrowed from the input b to verify or decrypt a message.
 use Rattle.std.proofs.Common.{◌≡◌, ◌∙◌, ◌++◌, ◌+◌, ℕ, ℤ, List, [], length, Option, Some}
 use Rattle.std.proofs.Common.{None, Bor, true, false, ap, sym, subst, refl, inl, inr, arith}
 use Rattle.std.proofs.lemmas.List.{length-append}
@@ -48,7 +48,7 @@ knows_algorithm v w named.Absent u h = absurd h
 knows_algorithm v w (named.Number n) u h = (w, u, h)
 knows_algorithm v w named.Text u h = (w, u, h)
 
--- ---- what headers have under labels
+-- ---- the values under labels in headers
 
 found_within :
     (l : Name) (p : List ℕ) (m : Item) (o : Option Located) → IsOnlyItem p m → option_map located_item o ≡ value_under l m
@@ -94,7 +94,7 @@ pub signed_is :
 signed_is place d (Some c) h = h
 signed_is place d None h = tt
 
--- ---- of an item of a kind with two headers
+-- ---- the algorithm, crit and the key identifier of an item with two headers
 
 module _ (k : kinds.Kind) (v : Item) (has : has_headers k ≡ true) where
   algorithm_known : (a : algorithms.Algorithm) → KnowsAlgorithm v a → HasAlgorithm k v a
@@ -150,7 +150,7 @@ module _ (context aad p t : List ℕ) (d : Option (List ℕ)) (v place : Item) (
   beside : IsEncodingOf (structure_of_one context aad (Some p)) t → IsEncodingOf (encryption_structure context aad v) t
   beside h = subst (λ o. IsEncodingOf o t) (sym (ap (structure_of_one context aad) is)) h
 
--- ---- all of it
+-- ---- the whole view
 
 total : (s p c t : List ℕ) (n a q d e : ℕ) → n ≡ a + (q + (d + e)) → a ≡ length s → q ≡ length p → d ≡ length c → e ≡ length t
     → n ≡ length (s ++ (p ++ (c ++ t)))

@@ -12,11 +12,11 @@ use Rattle.coset_cbor.specs.declared.chunks.ByteChunks.{ByteChunks}
 use Rattle.ffi_query.specs.Places.{string_in}
 use Rattle.ffi_query.specs.Located.{AreLocated, IsContentOf, IsNoContent, IsNoString, IsString, head_len, head_len_by, opens_chunks}
 
--- all of the input
+-- The whole input.
 pub whole_located : (b s : List ℕ) → s ≡ b → AreLocated b s b
 whole_located b s e = record { before = []; behind = []; ends = refl; begins = sym e ∙ sym (append-nil s) }
 
--- what begins a part, and what ends it
+-- The front of a part, and its end.
 pub located_front : (b s u r : List ℕ) → AreLocated b (s ++ u) r → AreLocated b s r
 located_front b s u r l = record {
   before = l.before;
@@ -36,11 +36,11 @@ located_behind b t u r l =
       begins = rest;
     }
 
--- the one part of two was passed
+-- The second of two parts, after the first was passed.
 pub located_next : (b s t u r x : List ℕ) → s ≡ t ++ u → x ≡ drop (length t) r → AreLocated b s r → AreLocated b u x
 located_next b s t u r x e is l = subst (AreLocated b u) (sym is) (located_behind b t u r (subst (λ y. AreLocated b y r) e l))
 
--- a key, its value, and what is behind these
+-- A key, its value, and the pairs after them.
 pub record PairIn (b k v more r x y : List ℕ) : Type 0 where
   pub key : AreLocated b k r
   pub value : AreLocated b v x
@@ -71,7 +71,7 @@ head_size two m n s h = ap head_len_by (info_of m 25 (omega arith))
 head_size four m n s h = ap head_len_by (info_of m 26 (omega arith))
 head_size eight m n s h = ap head_len_by (info_of m 27 (omega arith))
 
--- what an array or a map holds follows its head
+-- The elements or pairs of an array or a map follow its head.
 record Held (s c : List ℕ) : Type 0 where
   head : List ℕ
   last : List ℕ
@@ -102,7 +102,7 @@ located_held m n b s c r l h =
     let there : AreLocated b (s ++ x.last) (drop (length x.head) r) = located_behind b x.head (s ++ x.last) r whole in
     subst (λ k. AreLocated b s (drop k r)) x.size (located_front b s x.last (drop (length x.head) r) there)
 
--- what ends a part, by its length
+-- The end of a part, by its length.
 pub located_end : (b c t u r : List ℕ) (n : ℕ) → c ≡ t ++ u → n ≡ length c - length u → AreLocated b c r → AreLocated b u (drop n r)
 located_end b c t u r n e is l =
     let size : n ≡ length t = is ∙ (ap (λ x. length x - length u) e ∙ (ap (λ k. k - length u) (length-append t u) ∙ (omega arith))) in
@@ -122,7 +122,7 @@ opened : (is_text : Bool) (c : List ℕ) → opens_chunks is_text ((32 * string_
 opened false c = refl
 opened true c = refl
 
--- a string whose length is announced ends with what it holds
+-- A string of definite length ends with its content.
 pub string_is :
     (is_text : Bool) (b s : List ℕ) (v : Item) (ls ms : List (List ℕ)) → HasChunks is_text b ls → opens_chunks is_text b ≡ false → ls ≡ s ∷ ms
     → Some (joined_chunks ls) ≡ as_string is_text v → IsString is_text b v s
@@ -135,7 +135,7 @@ string_is is_text b s v ls ms (inl h) closed first w =
 string_is is_text b s v ls ms (inr h) closed first w =
     absurd (true≢false (sym (ap (opens_chunks is_text) h.2 ∙ opened is_text (h.0 ++ 255 ∷ [])) ∙ closed))
 
--- and so it has a chunk
+-- A string of definite length has a chunk.
 pub some_chunk : (is_text : Bool) (b : List ℕ) (ls : List (List ℕ)) → HasChunks is_text b ls → opens_chunks is_text b ≡ false → ls ≡ [] → ⊥
 some_chunk is_text b ls (inl h) closed none = true≢false (ap is_nil (sym none ∙ h.1))
 some_chunk is_text b ls (inr h) closed none = true≢false (sym (ap (opens_chunks is_text) h.2 ∙ opened is_text (h.0 ++ 255 ∷ [])) ∙ closed)
@@ -147,7 +147,7 @@ pub chunk_found :
 chunk_found b v old new None has closed w y = absurd (some_chunk false b (chunks_left old) has closed y.0)
 chunk_found b v old new (Some s) has closed w y = string_is false b s.now v (chunks_left old) (chunks_left new) has closed y.0 w
 
--- what strings of either type hold
+-- The content of a string of either type.
 pub string_held : (is_text : Bool) (v : Item) (s : List ℕ) → as_string is_text v ≡ Some s → string_in v ≡ Some s
 string_held false (bytes x) s e = e
 string_held true (text x) s e = e

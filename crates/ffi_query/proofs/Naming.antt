@@ -10,7 +10,7 @@ if_or : (b : Bool) (v : Item) (o : Option Item) → (if b then Some v else o) �
 if_or true v o = refl
 if_or false v o = refl
 
--- what is first among the pairs is what was found so far; or else what the next pair has; or else what is first behind it
+-- The first value found is the one found so far, else the value of the next pair, else the first one after that.
 step_of :
     (test : Item → Bool) (o : Option Item) (k v : Item) (ps : Pairs) (t : Bool) → t ≡ test k
     → option_or o (first_value test (pair k v ps)) ≡ option_or (option_or o (value_if t v)) (first_value test ps)

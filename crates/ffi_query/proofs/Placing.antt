@@ -19,7 +19,7 @@ use Rattle.ffi_query.specs.Located.{IsLocated, located_item}
 use Rattle.ffi_query.specs.Parts.{has_headers}
 use Rattle.ffi_query.specs.Places.{bytes_in}
 
--- the item that begins at that place
+-- The item that begins at this offset.
 pub item_there :
     (b : List ℕ) (at : ℕ) (s rest : List ℕ) (w : Item) (n : ℕ) → at ≤ length b → drop at b ≡ s ++ rest → IsItem s w → n ≡ length s
     → IsItemAt b (record { at = at; len = n }) w
@@ -45,7 +45,7 @@ module _ (b : List ℕ) (k : kinds.Kind) where
   in_protected l v (Ok None) has h = (λ w u. h.0 w u.1, h.1)
   in_protected l v (Err e) has h = subst (HasNoValueAt b k of.Protected l v) (sym h.0) (refl, h.1)
 
-  -- what is under a label in the protected header, where that is the map that is asked for
+  -- The value under a label, if the map that is searched is the protected header.
   pub under_protected :
       (m : maps.Map) (l : Name) (v : Item) (r : Result (Option Located) refusals.Refusal) → m ≡ of.Protected → has_headers k ≡ true
       → MatchResult r (λ o. Finds located_item (IsProtected l (bytes_in 0 v)) o × IfSome o (IsLocated b))

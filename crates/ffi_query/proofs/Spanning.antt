@@ -1,4 +1,4 @@
--- Texts that are named by their places.
+-- Texts that are given by their places.
 use Rattle.std.proofs.Common.{◌≡◌, ◌∙◌, ◌++◌, ◌-◌, ◌+◌, ℕ, ℤ, List, [], length}
 use Rattle.std.proofs.Common.{Option, Result, Ok, Err, true, ap, sym, subst, refl, arith}
 use Rattle.std.proofs.lemmas.List.{append-nil, append_assoc, length-append}
@@ -19,7 +19,7 @@ use Rattle.ffi_query.specs.Spans.{AreLentSpans, IsAt, IsMessageSpans, IsStart, c
 use Rattle.ffi_query.specs.View.{IsMessageView}
 use Rattle.ffi_query.proofs.EachKind.{memory_refuses}
 
--- where a text of the input begins
+-- The place where a text of the input begins.
 pub begins_at : (b s r : List ℕ) (n : ℕ) → n ≡ length b - length r → AreLocated b s r → IsAt b n s
 begins_at b s r n is l =
     let all = ap length l.ends ∙ length-append l.before r in record {
@@ -38,7 +38,7 @@ at_front t s e = record { before = []; behind = []; parts = sym (append-nil s �
 module _
     (k : kinds.Kind) (i : ℕ) (aad : List ℕ) (d : Option (List ℕ)) (ns : List ℤ) (b old new : List ℕ) (Q : Item → refusals.Refusal → Type 0)
   where
-    -- what is lent, by its spans
+    -- Borrowed texts, by their places.
     lent_is :
         (v : Item) (x : declared.Lent) (m : MessageSpans) → IsLent k i aad d ns b v x → TellsTagOf (tag_of k) b x.view.is_tagged → AreLentSpans b x m
         → IsMessageSpans k i aad d ns b v m (x.structure.front.items ++ x.structure.end.now)
@@ -71,7 +71,7 @@ module _
     lent_answered x m (Err Empty) l spans w = absurd w
     lent_answered x m (Err Misuse) l spans w = absurd w
 
-    -- what was written one behind the other, by its places
+    -- Texts that were written one after another, by their places.
     copied_is : (v : Item) (n : MessageView) (t : List ℕ) → IsMessageView k i aad d ns b v n t → IsMessageSpans k i aad d ns b v (copied_spans n) t
     copied_is v n t h =
         let view = h.0 in

@@ -13,11 +13,11 @@ use Rattle.ffi_query.specs.Answers.{Finds}
 use Rattle.ffi_query.specs.Labels.{IsProtected, IsStringOf, IsUnder, IsUnderIn, value_under}
 use Rattle.ffi_query.specs.Places.{bytes_in, string_in}
 
--- the law of `one_item`
+-- The law of `one_item`.
 abbrev pub OneItem : Type 0
 OneItem = (v w : Item) (b c x y : List ℕ) → IsEncoding v b → IsEncoding w c → b ++ x ≡ c ++ y → (v ≡ w) × (b ≡ c)
 
--- ---- one value is under a label
+-- ---- a label has one value
 
 same_within : OneItem → (l : Name) (b : List ℕ) (w x : Item) → IsUnderIn l b w → IsUnderIn l b x → w ≡ x
 same_within law l b w x p q =

@@ -1,4 +1,4 @@
--- What is said of a message.
+-- The view of a message.
 use Rattle.std.proofs.Common.{◌≡◌, ◌∙◌, ◌++◌, ◌==◌, ℕ, ℤ, List, Option, Some, None, Result}
 use Rattle.std.proofs.Common.{Ok, Err, Bool, true, false, ap, ap₂, sym, subst, arith, true≢false}
 use Rattle.std.proofs.lemmas.Bool.{eqb-true}
@@ -56,7 +56,7 @@ algorithm_found k v w named.Absent u h = absurd h
 algorithm_found k v w (named.Number n) u h = (w, u, h)
 algorithm_found k v w named.Text u h = (w, u, h)
 
--- ---- from what is said to what is returned
+-- ---- from the view to the result
 
 pub viewed :
     {N : Type 0} (k : kinds.Kind) (b old new : List ℕ) (P : Item → N → List ℕ → Type 0) (Q : Item → refusals.Refusal → Type 0) (v : Item) (n : N)
@@ -73,7 +73,7 @@ module _
     (k : kinds.Kind) (i : ℕ) (aad : List ℕ) (d : Option (List ℕ)) (ns : List ℤ) (b old new : List ℕ) (Q : Item → refusals.Refusal → Type 0)
     (x : declared.Lent)
   where
-    -- the four texts of what is lent
+    -- The four texts of a borrowed view.
     lent_view : (l : IsLentOf k i aad d ns b x) → IsMessageView k i aad d ns b l.item x.view (lent_text x)
     lent_view l =
         let says = l.lent.says in

@@ -1,4 +1,4 @@
--- Labels that must be understood: crit (RFC 8152, section 3.1).
+-- The header parameter crit: labels that must be understood (RFC 8152, section 3.1).
 use Rattle.std.specs.Prelude.{◌≡◌, ◌⊎◌, ℤ, pos, List, Option, Some, None, Bool, true, false, if◌then◌else◌}
 use Rattle.std.specs.List.{list_any}
 use Rattle.std.specs.Ordering.{int_eq}
@@ -14,48 +14,49 @@ use Rattle.ffi_query.specs.Labels.{IsUnder}
 abbrev pub crit_label : Name
 crit_label = number (pos 2)
 
--- the number is among these
+-- The number is one of ns.
 abbrev pub is_among : List ℤ → Option ℤ → Bool
 is_among ns None = false
 is_among ns (Some n) = list_any (λ m. int_eq m n) ns
 
--- the label is an integer among these
+-- The label is an integer in ns.
 abbrev pub is_known : List ℤ → Item → Bool
 is_known ns v = is_among ns (as_integer v)
 
--- each of the labels is
+-- Each of the labels is an integer in ns.
 abbrev pub each_known : List ℤ → Items → Bool
 each_known ns no_items = true
 each_known ns (item v vs) = if is_known ns v then each_known ns vs else false
 
--- they are an array, and each is
+-- The item is an array, and each element is an integer in ns.
 abbrev pub are_known : List ℤ → Item → Bool
 are_known ns (array vs) = each_known ns vs
 are_known ns v = false
 
--- something is under crit in that header of the item v
+-- That header of the item v has a value under crit.
 abbrev pub HasCritical : kinds.Kind → maps.Map → Item → Type 0
 HasCritical k m v = (w : Item) × IsUnder k m crit_label v w
 
--- whether it does in either header
+-- The bool says whether either header of the item v has crit.
 abbrev pub IsCritical : kinds.Kind → Item → Bool → Type 0
 IsCritical k v true = HasCritical k of.Protected v ⊎ HasCritical k of.Unprotected v
 IsCritical k v false = (HasCritical k of.Protected v → ⊥) × (HasCritical k of.Unprotected v → ⊥)
 
--- the protected header names none, or labels that are known or not
+-- The protected header has crit, and the bool says whether all labels in it are known.
 abbrev pub NamesKnown : kinds.Kind → List ℤ → Item → Bool → Type 0
 NamesKnown k ns v b = (w : Item) × IsUnder k of.Protected crit_label v w × (are_known ns w ≡ b)
 
--- whether all labels that the item v says must be understood are integers among these, and protected
+-- The bool says whether all critical labels of the item v are integers in ns, and only the protected header names them.
 abbrev pub IsUnderstood : kinds.Kind → List ℤ → Item → Bool → Type 0
 IsUnderstood k ns v true = (HasCritical k of.Unprotected v → ⊥) × ((HasCritical k of.Protected v → ⊥) ⊎ NamesKnown k ns v true)
 IsUnderstood k ns v false = HasCritical k of.Unprotected v ⊎ NamesKnown k ns v false
 
--- whether the item v has such labels, and whether all of them are understood
+-- `has` says whether the item v has critical labels, and `understood` whether all of them are understood.
 abbrev pub IsCriticalIn : kinds.Kind → List ℤ → Item → Bool → Bool → Type 0
 IsCriticalIn k ns v has understood = IsCritical k v has × IsUnderstood k ns v understood
 
--- whether a message v or its signer s has such labels, and whether all of both are understood
+-- `has` says whether the message v or its signer s has critical labels, and `understood` whether all labels of both are
+-- understood.
 pub record IsCriticalOfBoth (k : kinds.Kind) (ns : List ℤ) (v : Item) (s : Item) (has : Bool) (understood : Bool) : Type 0 where
   pub in_message : Bool
   pub of_message : Bool

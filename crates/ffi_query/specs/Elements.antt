@@ -1,4 +1,4 @@
--- Where elements of arrays, pairs of maps and what strings hold are in the input b.
+-- The places in the input b of array elements, map pairs, values and string contents.
 use Rattle.std.specs.Prelude.{◌≡◌, ◌<◌, ℕ, ℤ, List, drop, length, Some, None, false, true, Result, Ok, Err}
 use Rattle.coset.specs.Answers.{IsByteFault}
 use Rattle.coset.specs.Grammar.{IsItem}
@@ -17,34 +17,34 @@ use Rattle.ffi_query.specs.Pairs.{pair_in}
 use Rattle.ffi_query.specs.Places.{element, member_at, string_in}
 use Rattle.ffi_query.specs.Spans.{IsAt}
 
--- the bytes of b that the span says are an encoding of the item w
+-- The bytes of b in the span p encode the item w.
 pub record IsItemAt (b : List ℕ) (p : Span) (w : Item) : Type 0 where
   pub bytes : List ℕ
   pub is_item : IsItem bytes w
   pub place : IsAt b p.at bytes
   pub len : p.len ≡ length bytes
 
--- What `item_span` returns of the bytes b: where the item is that begins at that place; or that they are fewer; or a fault, and
--- no item begins there
+-- The result of `item_span` for the bytes b: the place of the item that begins at that offset. `Absent`: there are
+-- fewer bytes. `Cose`: no item begins there, because of this fault.
 abbrev pub AnswersItem : List ℕ → ℕ → Result Span refusals.Refusal → Type 0
 AnswersItem b at (Ok p) = (w : Item) × (p.at ≡ at) × IsItemAt b p w
 AnswersItem b at (Err Absent) = length b < at
 AnswersItem b at (Err (Cose e)) = IsByteFault (drop at b) e × HasNoItem (drop at b)
 AnswersItem b at (Err r) = ⊥
 
--- there is the element of that index of the item v of that kind, and it is there
+-- The item v, of kind k, has an element at index i, and p is its place.
 abbrev pub IsMemberAt : List ℕ → kinds.Kind → ℕ → Item → Span → Type 0
 IsMemberAt b k i v p = (w : Item) × (member_at k i v ≡ Some w) × IsItemAt b p w
 
--- there are the key and the value of the pair of that index of the map v
+-- The map v has a pair at index i, and p has the places of its key and value.
 abbrev pub ArePairAt : List ℕ → ℕ → Item → Span × Span → Type 0
 ArePairAt b i v p = (x : Item × Item) × (pair_in i v ≡ Some x) × IsItemAt b p.0 x.0 × IsItemAt b p.1 x.1
 
--- the value under that label in that map of the item v of that kind is there
+-- The item v, of kind k, has a value under the label l in the map m, and p is its place.
 abbrev pub IsValueAt : List ℕ → kinds.Kind → maps.Map → Name → Item → Span → Type 0
 IsValueAt b k m l v p = (w : Item) × IsUnder k m l v w × IsItemAt b p w
 
--- the protected header of the item v, as it is in b, is a byte string in chunks
+-- The protected header of the item v is encoded in b as a byte string in chunks.
 pub record IsProtectedInChunks (b : List ℕ) (v : Item) : Type 0 where
   pub header : Item
   pub bytes : List ℕ
@@ -53,27 +53,30 @@ pub record IsProtectedInChunks (b : List ℕ) (v : Item) : Type 0 where
   pub place : (n : ℕ) × IsAt b n bytes
   pub in_chunks : opens_chunks false bytes ≡ true
 
--- why it isn't anywhere: there is none; or it is in a protected header whose byte string is in chunks
+-- The reason why the value has no place. `Absent`: there is no value. `WrongType`: it is looked up in a protected
+-- header whose byte string is in chunks.
 abbrev pub HasNoValueAt : List ℕ → kinds.Kind → maps.Map → Name → Item → refusals.Refusal → Type 0
 HasNoValueAt b k m l v Absent = (w : Item) → IsUnder k m l v w → ⊥
 HasNoValueAt b k m l v WrongType = (m ≡ of.Protected) × IsProtectedInChunks b v
 HasNoValueAt b k m l v r = ⊥
 
--- what the string v holds is there
+-- p is the place of the content of the string v.
 abbrev pub IsStringAt : List ℕ → Item → Span → Type 0
 IsStringAt b v p = (s : List ℕ) × (string_in v ≡ Some s) × IsAt b p.at s × (p.len ≡ length s)
 
--- why it isn't anywhere: the item v, of which b are the bytes, is no string, or its content is in chunks
+-- The reason why the content has no place. `WrongType`: the item v, encoded as b, isn't a string, or its content is in
+-- chunks.
 abbrev pub HasNoContent : List ℕ → Item → refusals.Refusal → Type 0
 HasNoContent b v WrongType = IsNoContent b v
 HasNoContent b v r = ⊥
 
--- why there is no integer: the item v is none of 64 bits
+-- The reason why there is no integer. `WrongType`: the item v isn't an integer in the range of `i64`.
 abbrev pub HasNoInteger : Item → refusals.Refusal → Type 0
 HasNoInteger v WrongType = (n : ℤ) → IsNumber v n → ⊥
 HasNoInteger v r = ⊥
 
--- why there is no such element, or no such pair: there are no more, or the item v isn't an array, or a map
+-- The reason why there is no element, or no pair. `Absent`: the index is too large, or the item v isn't an array, or a
+-- map.
 abbrev pub HasNoMember : kinds.Kind → ℕ → Item → refusals.Refusal → Type 0
 HasNoMember k i v Absent = member_at k i v ≡ None
 HasNoMember k i v r = ⊥

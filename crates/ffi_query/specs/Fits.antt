@@ -1,4 +1,4 @@
--- What is known of an item that is found to be of a kind.
+-- What is known of an item once its kind was found.
 use Rattle.std.specs.Prelude.{◌≡◌, ℕ, Some, Bool, IsTrue}
 use Rattle.coset.specs.Headers.{HeaderView, ProtectedView, header, protected}
 use Rattle.coset.specs.Item.{Item, Items}
@@ -13,28 +13,29 @@ use Rattle.ffi_query.specs.declared.three.Three.{Three}
 use Rattle.ffi_query.specs.Kinds.{HoldsOf}
 use Rattle.ffi_query.specs.Located.{located_item}
 
--- where that is true, the shape describes something by the item
+-- If the bool is true, the item describes a value of the shape.
 abbrev pub Fits : {A : Type 0} → Shape A → Item → Bool → Type 0
 Fits {A} s v b = IsTrue b → (x : A) × s.describes v x
 
--- the same of the elements of an array
+-- If the bool is true, the elements of an array describe a value.
 abbrev pub FitsElements : {A : Type 0} → Elements A → Items → Bool → Type 0
 FitsElements {A} ps vs b = IsTrue b → (x : A) × ps.describes vs x
 
--- where that is true, the elements are what two headers and a content must be (RFC 8152, section 3)
+-- If the bool is true, the three elements are a protected header, an unprotected header, and a content (RFC 8152,
+-- section 3).
 abbrev pub FitsThree : Three → Bool → Type 0
 FitsThree t b = Fits protected (located_item t.protected) b × Fits header (located_item t.unprotected) b × Fits (or_nil bstr) (located_item t.content) b
 
--- w is the message in the item v of that form, where this is the number of the tag
+-- w is the message in the item v of that form. n is the number of the tag.
 abbrev pub IsInForm : forms.Form → ℕ → Item → Item → Type 0
 IsInForm Plain n v w = w ≡ v
 IsInForm Tagged n v w = as_tag v ≡ Some (n, w)
 IsInForm Either n v w = w ≡ untagged n v
 
--- w is the message in the item v of that form, and is what two headers and what follows them must be
+-- w is the message in the item v of that form, and describes two headers and the elements after them.
 abbrev pub FitsForm : {A : Type 0} → forms.Form → ℕ → Elements A → Item → Item → Type 0
 FitsForm {A} f n ps v w = IsInForm f n v w × ((x : ProtectedView × (HeaderView × A)) × (with_headers ps).describes w x)
 
--- the item is one of that kind
+-- The item is of kind k.
 abbrev pub FitsKind : kinds.Kind → Item → Type 0
 FitsKind k v = HoldsOf k (λ A s. (x : A) × s.describes v x)

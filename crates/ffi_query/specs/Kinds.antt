@@ -24,13 +24,13 @@ use Rattle.ffi_query.specs.declared.kind.Kind as kinds
 use Rattle.ffi_query.specs.declared.kind.Kind.TheVariants.{Sign1, Sign, Mac0, Mac, Encrypt0, Encrypt, Signature, Recipient}
 use Rattle.ffi_query.specs.declared.kind.Kind.TheVariants.{Header, Key, KeySet, Claims, Any, KdfContext}
 
--- the shape of messages in a form, where this is the number of their tag and this their shape (RFC 8152, section 2)
+-- The shape of messages in a form. n is the number of their tag, and s their shape without it (RFC 8152, section 2).
 abbrev pub in_form : {A : Type 0} → forms.Form → ℕ → Shape A → Shape A
 in_form Plain n s = s
 in_form Tagged n s = tagged n s
 in_form Either n s = perhaps_tagged n s
 
--- P holds of the shape of that kind's items
+-- P holds for the shape of items of this kind.
 abbrev pub HoldsOf : kinds.Kind → ((A : Type 0) → Shape A → Type 0) → Type 0
 HoldsOf (Sign1 f) P = P Sign1View (in_form f 18 sign1)
 HoldsOf (Sign f) P = P SignView (in_form f 98 sign)
@@ -47,49 +47,48 @@ HoldsOf Claims P = P ClaimsView claims
 HoldsOf Any P = P Item any
 HoldsOf KdfContext P = P ContextView context
 
--- the bytes describe something; or, out of memory aside, a fault is in them, and they describe nothing
+-- `Ok`: the bytes describe a value. `Err`: they describe none and the fault is in them, unless it is `OutOfMemory`.
 abbrev pub ChecksAs : {A : Type 0} → Shape A → List ℕ → Result (Unit {0}) CoseError → Type 0
 ChecksAs {A} s b (Ok x) = (x : A) × Describes s b x
 ChecksAs s b (Err e) = UnlessMemory e (λ f. SliceFaults s b f × DescribesNothing s b)
 
--- the same for the shape of a kind
+-- The same for the shape of a kind.
 abbrev pub Checks : kinds.Kind → List ℕ → Result (Unit {0}) CoseError → Type 0
 Checks k b r = HoldsOf k (λ A s. ChecksAs s b r)
 
--- the bytes are an item of that kind
+-- The bytes are an item of kind k.
 abbrev pub IsOf : kinds.Kind → List ℕ → Type 0
 IsOf k b = HoldsOf k (λ A s. (x : A) × Describes s b x)
 
--- the bytes are refused as an item of that kind: for a fault that is in them, and only where they are none; or memory
--- ran out
+-- The bytes are refused as an item of kind k. They are none and the fault is in them, unless it is `OutOfMemory`.
 abbrev pub IsRefused : kinds.Kind → List ℕ → CoseError → Type 0
 IsRefused k b e = HoldsOf k (λ A s. UnlessMemory e (λ f. SliceFaults s b f × DescribesNothing s b))
 
--- the item is a tag of that number
+-- The item is a tag of this number.
 abbrev pub is_under : ℕ → Item → Bool
 is_under n (tag t v) = t == n
 is_under n v = false
 
--- the item is under the tag of that number, where there is a number
+-- The item is a tag of this number, if there is a number.
 abbrev pub is_under_some : Option ℕ → Item → Bool
 is_under_some None w = false
 is_under_some (Some n) w = is_under n w
 
--- the bytes are an item under a tag of that number
+-- The bytes are an item under a tag of this number.
 abbrev pub IsTagged : ℕ → List ℕ → Type 0
 IsTagged n b = (w : Item) × IsItem b (tag n w)
 
--- whether they are
+-- The bool says whether the bytes are an item under a tag of this number.
 abbrev pub TellsTag : ℕ → List ℕ → Bool → Type 0
 TellsTag n b true = IsTagged n b
 TellsTag n b false = IsTagged n b → ⊥
 
--- whether they are under the tag that a message may be under
+-- The same for a number that may be missing. The bool is then false.
 abbrev pub TellsTagOf : Option ℕ → List ℕ → Bool → Type 0
 TellsTagOf None b x = x ≡ false
 TellsTagOf (Some n) b x = TellsTag n b x
 
--- the number of the tag that a message may be under (RFC 8152, section 2, table 1)
+-- The number of a message's tag (RFC 8152, section 2, table 1).
 abbrev pub tag_of : kinds.Kind → Option ℕ
 tag_of (Sign1 f) = Some 18
 tag_of (Sign f) = Some 98
@@ -99,12 +98,12 @@ tag_of (Encrypt0 f) = Some 16
 tag_of (Encrypt f) = Some 96
 tag_of k = None
 
--- the item without a tag of that number
+-- The item without a tag of this number.
 abbrev pub without_tag : Option ℕ → Item → Item
 without_tag None v = v
 without_tag (Some n) v = untagged n v
 
--- the bytes are an item of that kind, and v is that item, without the tag that a message may be under
+-- The bytes b are an item of kind k. v is that item, without the tag of a message.
 pub record IsItemOf (k : kinds.Kind) (b : List ℕ) (v : Item) : Type 0 where
   pub whole : Item
   pub is_item : IsItem b whole

@@ -1,4 +1,4 @@
--- What is found of a message as parts of the input b.
+-- What is borrowed from the input b to verify or decrypt a message.
 use Rattle.std.specs.Prelude.{◌≡◌, ◌⊎◌, ◌++◌, ℕ, ℤ, List, [], Option, Some, None, Bool, IfSome, codes, ⊤, if◌then◌else◌}
 use Rattle.std.specs.Option.{option_copied}
 use Rattle.coset.specs.Answers.{IsOnlyItem}
@@ -28,16 +28,16 @@ use Rattle.ffi_query.specs.Places.{bytes_in, element}
 use Rattle.ffi_query.specs.Structures.{content_at, structure_of_one, structure_of_two}
 use Rattle.ffi_query.specs.View.{IsViewOf, alg_label, kid_label, proof_in}
 
--- the bytes are one item, which this is, or none
+-- `Some`: the bytes are exactly this item. `None`: they are no item.
 abbrev pub IsMapOf : List ℕ → Option Located → Type 0
 IsMapOf p None = (m : Item) → IsItem p m → ⊥
 IsMapOf p (Some l) = IsOnlyItem p (located_item l)
 
--- the elements are those behind the third of the array v
+-- es are the elements after the third of the array v.
 abbrev pub IsBehindThree : Item → Items → Type 0
 IsBehindThree v es = (x : Item) × (y : Item) × (z : Item) × (as_array v ≡ Some (item x (item y (item z es))))
 
--- the headers are those of the item v
+-- The headers are those of the item v.
 pub record AreHeaders (b : List ℕ) (v : Item) (h : Headers) : Type 0 where
   pub protected : bytes_in 0 v ≡ Some h.protected.bytes.now
   pub protected_in : IsTextIn b h.protected
@@ -46,43 +46,43 @@ pub record AreHeaders (b : List ℕ) (v : Item) (h : Headers) : Type 0 where
   pub unprotected : element 1 v ≡ Some (located_item h.unprotected)
   pub unprotected_in : IsLocated b h.unprotected
 
--- the value, where the test is passed
+-- The value, if the test is true.
 abbrev pub value_if : Bool → Item → Option Item
 value_if t v = if t then Some v else None
 
--- what a header has under alg, crit and kid, where P says what it has under a label
+-- The values under alg, crit and kid in a header. P tells which value is under a label.
 pub record AreNamed (b : List ℕ) (P : Name → Item → Type 0) (n : Named) : Type 0 where
   pub algorithm : Finds located_item (P alg_label) n.algorithm
   pub critical : Finds located_item (P crit_label) n.critical
   pub key_id : Finds located_item (P kid_label) n.key_id
   pub key_id_in : IfSome n.key_id (IsLocated b)
 
--- nothing, at some place
+-- An empty text in b.
 abbrev pub IsEmptyIn : List ℕ → Text → Type 0
 IsEmptyIn b t = (t.bytes.now ≡ []) × IsTextIn b t
 
--- the algorithm of an item that begins with two headers
+-- The algorithm of an item that begins with two headers.
 abbrev pub KnowsAlgorithm : Item → algorithms.Algorithm → Type 0
 KnowsAlgorithm v named.Absent = (w : Item) → IsProtected alg_label (bytes_in 0 v) w → ⊥
 KnowsAlgorithm v (named.Number n) = (w : Item) × IsProtected alg_label (bytes_in 0 v) w × IsNumber w n
 KnowsAlgorithm v named.Text = (w : Item) × IsProtected alg_label (bytes_in 0 v) w × ((n : ℤ) → IsNumber w n → ⊥)
 
--- where it has the identifier of the key, and t is what that holds
+-- The header of the item v that has the key identifier. t is its content.
 abbrev pub KnowsKeyId : Item → places.KeyIdPlace → List ℕ → Type 0
 KnowsKeyId v found.Absent t = ((w : Item) → IsProtected kid_label (bytes_in 0 v) w → ⊥) × (unprotected_value kid_label v ≡ None) × (t ≡ [])
 KnowsKeyId v found.Protected t = (w : Item) × IsProtected kid_label (bytes_in 0 v) w × (as_bytes w ≡ Some t)
 KnowsKeyId v found.Unprotected t =
     ((w : Item) → IsProtected kid_label (bytes_in 0 v) w → ⊥) × ((w : Item) × (unprotected_value kid_label v ≡ Some w) × (as_bytes w ≡ Some t))
 
--- it has no critical labels
+-- The item has no critical labels.
 abbrev pub HasNoCritical : Item → Type 0
 HasNoCritical v = ((w : Item) → IsProtected crit_label (bytes_in 0 v) w → ⊥) × (unprotected_value crit_label v ≡ None)
 
--- what is carried where this is the content's place: what a byte string holds, or nothing where it is nil
+-- t is the content of the byte string in the content's place v, or empty if v is nil.
 abbrev pub IsCarried : Item → List ℕ → Type 0
 IsCarried v t = (as_bytes v ≡ Some t) ⊎ ((v ≡ null) × (t ≡ []))
 
--- the structure of a message without signers, of what its protected header holds, and of its content
+-- The structure of a message without signers, from its protected bytes and its content.
 abbrev pub structure_by : kinds.Kind → List ℕ → List ℕ → Option (List ℕ) → Option Item
 structure_by (Sign1 f) aad p c = structure_of_two (codes "Signature1") aad (Some p) c
 structure_by (Mac0 f) aad p c = structure_of_two (codes "MAC0") aad (Some p) c
@@ -91,12 +91,12 @@ structure_by (Encrypt0 f) aad p c = structure_of_one (codes "Encrypt0") aad (Som
 structure_by (Encrypt f) aad p c = structure_of_one (codes "Encrypt") aad (Some p)
 structure_by k aad p c = None
 
--- the content that is signed or authenticated, where there is one
+-- If there is content, it is the content that is signed or authenticated.
 abbrev pub IsSigned : Item → Option (List ℕ) → Option (List ℕ) → Type 0
 IsSigned place d None = ⊤
 IsSigned place d (Some c) = content_at place d ≡ Some c
 
--- the texts are those of the item v
+-- The texts are those of the item v.
 pub record AreTexts (k : kinds.Kind) (d : Option (List ℕ)) (b : List ℕ) (v : Item) (x : Texts) : Type 0 where
   pub place : Item
   pub is_protected : bytes_in 0 v ≡ Some x.protected.bytes.now
@@ -111,7 +111,7 @@ pub record AreTexts (k : kinds.Kind) (d : Option (List ℕ)) (b : List ℕ) (v :
   pub key_id_in_b : IsTextIn b x.key_id.text
   pub is_signed : IsSigned place d (option_copied x.signed)
 
--- all that n says of the item v of that kind, with these four texts
+-- n is the view of the item v, of kind k, with these four texts.
 pub record Says (k : kinds.Kind) (i : ℕ) (aad : List ℕ) (d : Option (List ℕ)) (ns : List ℤ) (v : Item) (n : MessageView)
     (s p c t : List ℕ) : Type 0 where
   pub text : List ℕ
@@ -121,7 +121,7 @@ pub record Says (k : kinds.Kind) (i : ℕ) (aad : List ℕ) (d : Option (List �
   pub is_content : view.content ≡ c
   pub is_key_id : view.key_id ≡ t
 
--- what is lent says all of the item v, and its texts are in b, but for the structure
+-- x has the view of the item v. Its texts are in b, except for the structure.
 pub record IsLent (k : kinds.Kind) (i : ℕ) (aad : List ℕ) (d : Option (List ℕ)) (ns : List ℤ) (b : List ℕ) (v : Item)
     (x : declared.Lent) : Type 0 where
   pub says :
@@ -130,13 +130,13 @@ pub record IsLent (k : kinds.Kind) (i : ℕ) (aad : List ℕ) (d : Option (List 
   pub content_in_b : IsTextIn b x.content
   pub key_id_in_b : IsTextIn b x.key_id
 
--- the bytes b are an item of that kind, and what is lent says all of it, and whether they are under the message's tag
+-- The bytes b are an item of kind k. x has the item's view, which says whether it is under the message's tag.
 pub record IsLentOf (k : kinds.Kind) (i : ℕ) (aad : List ℕ) (d : Option (List ℕ)) (ns : List ℤ) (b : List ℕ) (x : declared.Lent) : Type 0 where
   pub item : Item
   pub is_item : IsItemOf k b item
   pub lent : IsLent k i aad d ns b item x
   pub is_tagged : TellsTagOf (tag_of k) b x.view.is_tagged
 
--- the four texts one behind the other
+-- The four texts, one after another.
 abbrev pub lent_text : declared.Lent → List ℕ
 lent_text x = (x.structure.front.items ++ x.structure.end.now) ++ (x.proof.bytes.now ++ (x.content.bytes.now ++ x.key_id.bytes.now))

@@ -1,4 +1,4 @@
--- Parts of the input, each with the bytes from its first one to the input's end.
+-- Parts of the input. Each comes with the bytes from its first one to the end of the input.
 use Rattle.std.specs.Prelude.{◌≡◌, ◌⊎◌, ◌==◌, ◌%◌, ℕ, List, [], ◌∷◌, ◌++◌, Some, None, Bool, false, true, if◌then◌else◌}
 use Rattle.std.specs.Borrow.{Bor}
 use Rattle.coset.specs.Elements.{items_bytes, items_left, pairs_bytes, pairs_left}
@@ -14,35 +14,36 @@ use Rattle.ffi_query.specs.Places.{string_in}
 abbrev pub located_item : Located → Item
 located_item l = pull_item l.item
 
--- r are the last bytes of b, and begin with s
+-- r are the last bytes of b, and begin with s.
 pub record AreLocated (b s r : List ℕ) : Type 0 where
   pub before : List ℕ
   pub behind : List ℕ
   pub ends : b ≡ before ++ r
   pub begins : r ≡ s ++ behind
 
--- the item is in b, and so is the text
+-- The item is in b. The same for a text.
 abbrev pub IsLocated : List ℕ → Located → Type 0
 IsLocated b l = AreLocated b (pull_bytes l.item) l.rest.now
 
 abbrev pub IsTextIn : List ℕ → Text → Type 0
 IsTextIn b t = AreLocated b t.bytes.now t.rest.now
 
--- the elements that are still to come, and where they are in b
+-- The remaining elements, and their place in b.
 abbrev pub elements_left : Elements → Items
 elements_left e = items_left e.members
 
 abbrev pub AreElementsIn : List ℕ → Elements → Type 0
 AreElementsIn b e = AreLocated b (items_bytes e.members) e.rest.now
 
--- the pairs, and where they are in b
+-- The remaining pairs, and their place in b.
 abbrev pub entries_left : Entries → Pairs
 entries_left e = pairs_left e.pairs
 
 abbrev pub AreEntriesIn : List ℕ → Entries → Type 0
 AreEntriesIn b e = AreLocated b (pairs_bytes e.pairs) e.rest.now
 
--- how many bytes a head has with that additional information, and the head that b begins with (RFC 8949, section 3)
+-- The length of a head with this additional information, and of the head that the bytes begin with (RFC 8949, section
+-- 3).
 abbrev pub head_len_by : ℕ → ℕ
 head_len_by info = if info == 24 then 2 else (if info == 25 then 3 else (if info == 26 then 5 else (if info == 27 then 9 else 1)))
 
@@ -50,12 +51,12 @@ abbrev pub head_len : List ℕ → ℕ
 head_len [] = 0
 head_len (x ∷ xs) = head_len_by (x % 32)
 
--- the bytes open a string of indefinite length, a text or a byte string (RFC 8949, section 3.2.3)
+-- The bytes begin a text string or a byte string of indefinite length (RFC 8949, section 3.2.3).
 abbrev pub opens_chunks : Bool → List ℕ → Bool
 opens_chunks is_text [] = false
 opens_chunks is_text (x ∷ xs) = x == (if is_text then 0x7F else 0x5F)
 
--- the string v of that type, of which b are the bytes, holds s, and these end with it
+-- The string v of this type is encoded as b and has the content s. The bytes b end with s.
 pub record IsString (is_text : Bool) (b : List ℕ) (v : Item) (s : List ℕ) : Type 0 where
   pub head : List ℕ
   pub ends : b ≡ head ++ s
@@ -64,10 +65,10 @@ pub record IsString (is_text : Bool) (b : List ℕ) (v : Item) (s : List ℕ) : 
 abbrev pub IsContentOf : Bool → List ℕ → Item → Bor (List ℕ) → Type 0
 IsContentOf is_text b v s = IsString is_text b v s.now
 
--- v isn't a string of that type, or its bytes b are in chunks
+-- v isn't a string of this type, or its encoding b is in chunks.
 abbrev pub IsNoString : Bool → List ℕ → Item → Type 0
 IsNoString is_text b v = (as_string is_text v ≡ None) ⊎ (opens_chunks is_text b ≡ true)
 
--- the same of strings of both types
+-- v isn't a string of either type, or its encoding b is in chunks.
 abbrev pub IsNoContent : List ℕ → Item → Type 0
 IsNoContent b v = (string_in v ≡ None) ⊎ (opens_chunks false b ≡ true) ⊎ (opens_chunks true b ≡ true)

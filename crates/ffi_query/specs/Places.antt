@@ -1,36 +1,36 @@
--- What is at places in an item.
+-- The elements of an item.
 use Rattle.std.specs.Prelude.{ℕ, zero, suc, List, Option, Some, None, option_and_then}
 use Rattle.coset.specs.Item.{Item, bytes, text, Items, no_items, item}
 use Rattle.coset.specs.Parts.{as_array, as_bytes}
 use Rattle.ffi_query.specs.declared.kind.Kind as kinds
 use Rattle.ffi_query.specs.declared.kind.Kind.TheVariants.{Sign, Mac, Encrypt, Recipient, KeySet, Any}
 
--- the one of that index
+-- The element at index n.
 abbrev pub nth : ℕ → Items → Option Item
 nth n no_items = None
 nth zero (item v vs) = Some v
 nth (suc n) (item v vs) = nth n vs
 
--- the element of that index of an array
+-- The element at index n of an array.
 abbrev pub element : ℕ → Item → Option Item
 element n v = option_and_then (nth n) (as_array v)
 
--- what it holds, where it is a byte string
+-- The content of the byte string at index n.
 abbrev pub bytes_in : ℕ → Item → Option (List ℕ)
 bytes_in n v = option_and_then as_bytes (element n v)
 
--- what a byte string or a text string holds
+-- The content of a byte string or a text string.
 abbrev pub string_in : Item → Option (List ℕ)
 string_in (bytes s) = Some s
 string_in (text s) = Some s
 string_in v = None
 
--- what is in it, where it is an array
+-- The elements of the nested array at index n.
 abbrev pub array_in : ℕ → Item → Option Items
 array_in n v = option_and_then as_array (element n v)
 
--- the signatures of a message, the recipients of a message or of a recipient, the keys of a set (RFC 8152, sections 4.1,
--- 5.1, 6.1 and 7), or the elements of any array
+-- The signatures of a message, the recipients of a message or of a recipient, the keys of a set (RFC 8152, sections
+-- 4.1, 5.1, 6.1 and 7), or the elements of any array.
 abbrev pub members : kinds.Kind → Item → Option Items
 members (Sign f) v = array_in 3 v
 members (Encrypt f) v = array_in 3 v
@@ -40,6 +40,6 @@ members KeySet v = as_array v
 members Any v = as_array v
 members k v = None
 
--- the one of that index
+-- The signature, recipient, key or element at index i.
 abbrev pub member_at : kinds.Kind → ℕ → Item → Option Item
 member_at k i v = option_and_then (nth i) (members k v)

@@ -1,4 +1,4 @@
--- What one call says of a message, where the texts are named by places in the input or in what is written.
+-- The result of a call that gives a message's texts by their places, in the input or in the bytes that were written.
 use Rattle.std.specs.Prelude.{◌≡◌, ◌++◌, ◌-◌, ℕ, ℤ, List, length, Option, true, false, Result, Ok, Err, if◌then◌else◌}
 use Rattle.coset.specs.Item.{Item}
 use Rattle.ffi_query.specs.declared.kind.Kind as kinds
@@ -11,19 +11,19 @@ use Rattle.ffi_query.specs.Kinds.{TellsTagOf, tag_of}
 use Rattle.ffi_query.specs.Located.{IsTextIn}
 use Rattle.ffi_query.specs.View.{IsViewOf}
 
--- s is in b, from that offset on
+-- b has the bytes s at the offset `at`.
 pub record IsAt (b : List ℕ) (at : ℕ) (s : List ℕ) : Type 0 where
   pub before : List ℕ
   pub behind : List ℕ
   pub parts : b ≡ before ++ (s ++ behind)
   pub offset : at ≡ length before
 
--- the text s is at that place: in the input b, or else in what is written, t
+-- The text s is at that place: in the input b, or in the bytes t that were written.
 abbrev pub IsStart : List ℕ → List ℕ → Start → List ℕ → Type 0
 IsStart b t p s = IsAt (if p.is_input then b else t) p.at s
 
--- What `message_spans` says of the bytes b, which are the message v of that kind: what `message_view` says, but that t begins
--- with what is signed, authenticated, or goes with the ciphertext, and the other texts are where the spans say
+-- The result of `message_spans` for the bytes b, which are the message v of kind k. The view is that of `message_view`.
+-- t begins with what is signed, authenticated, or goes with the ciphertext. The other texts are at the places in m.
 pub record IsMessageSpans (k : kinds.Kind) (i : ℕ) (aad : List ℕ) (d : Option (List ℕ)) (ns : List ℤ) (b : List ℕ) (v : Item) (m : MessageSpans)
     (t : List ℕ) : Type 0 where
   pub text : List ℕ
@@ -35,7 +35,7 @@ pub record IsMessageSpans (k : kinds.Kind) (i : ℕ) (aad : List ℕ) (d : Optio
   pub key_id : IsStart b t m.key_id view.key_id
   pub len : m.len ≡ length t
 
--- the spans of texts that are in the input
+-- The places of texts that are in the input.
 pub record AreLentSpans (b : List ℕ) (x : declared.Lent) (m : MessageSpans) : Type 0 where
   pub view : m.view ≡ x.view
   pub proof : (m.proof.is_input ≡ true) × (IsTextIn b x.proof → IsAt b m.proof.at x.proof.bytes.now)
@@ -43,11 +43,11 @@ pub record AreLentSpans (b : List ℕ) (x : declared.Lent) (m : MessageSpans) : 
   pub key_id : (m.key_id.is_input ≡ true) × (IsTextIn b x.key_id → IsAt b m.key_id.at x.key_id.bytes.now)
   pub len : m.len ≡ x.view.structure_len
 
--- a place in what is written
+-- A place in the bytes that were written.
 abbrev pub written_at : ℕ → Start
 written_at n = record { is_input = false; at = n }
 
--- the spans of texts that are written one behind the other
+-- The places of texts that were written one after another.
 abbrev pub copied_spans : MessageView → MessageSpans
 copied_spans n = record {
   view = n;

@@ -1,4 +1,4 @@
--- Refusals in one word.
+-- The statuses of refusals.
 use Rattle.coset.specs.EndOfFile.{EndOfFile}
 use Rattle.coset.specs.Error.{Error}
 use Rattle.coset.specs.Error.TheVariants as decoding
@@ -10,7 +10,7 @@ use Rattle.ffi_query.specs.declared.refusal.Status.{Status}
 use Rattle.ffi_query.specs.declared.refusal.Status.TheVariants.{Short, Memory, Ends, Malformed, Deep, Extraneous, Unexpected, Duplicate, OutOfRange}
 use Rattle.ffi_query.specs.declared.refusal.Status.TheVariants.{Unregistered, NotPrivate, Absent, WrongType, Empty, Misuse}
 
--- a fault of bytes
+-- The status of a CBOR decoding error.
 abbrev pub decoding_status : Error EndOfFile → Status
 decoding_status (decoding.Io x) = Ends
 decoding_status (decoding.Syntax n) = Malformed
@@ -18,7 +18,7 @@ decoding_status (decoding.Semantic n t) = Malformed
 decoding_status decoding.RecursionLimitExceeded = Deep
 decoding_status decoding.OutOfMemory = Memory
 
--- an error
+-- The status of an error.
 abbrev pub cose_status : CoseError → Status
 cose_status (cose.DecodeFailed e) = decoding_status e
 cose_status cose.DuplicateMapKey = Duplicate
@@ -30,7 +30,7 @@ cose_status cose.UnregisteredIanaValue = Unregistered
 cose_status cose.UnregisteredIanaNonPrivateValue = NotPrivate
 cose_status cose.OutOfMemory = Memory
 
--- a refusal
+-- The status of a refusal.
 abbrev pub refusal_status : refusals.Refusal → Status
 refusal_status (refused.Short n) = Short
 refusal_status refused.Absent = Absent

@@ -1,5 +1,5 @@
--- What is signed, authenticated, or goes with a ciphertext, of a message as it was received (RFC 8152, sections 4.4, 5.3 and
--- 6.3).
+-- The structures that are signed, authenticated, or go with a ciphertext, for a message as it was received (RFC 8152,
+-- sections 4.4, 5.3 and 6.3).
 use Rattle.std.specs.Prelude.{◌≡◌, ℕ, List, [], ◌∷◌, Option, Some, None, Bool, true, false, codes, option_and_then}
 use Rattle.coset.specs.Item.{Item, null}
 use Rattle.coset.specs.Parts.{as_bytes}
@@ -12,12 +12,13 @@ use Rattle.ffi_query.specs.Answers.{IsEncodingOf}
 use Rattle.ffi_query.specs.Parts.{payload_place}
 use Rattle.ffi_query.specs.Places.{bytes_in, element, member_at}
 
--- what is given where the payload is nil, so that it is detached
+-- The content given as detached, if the payload's place is nil.
 abbrev pub detached_in : Item → List ℕ → Option (List ℕ)
 detached_in null d = Some d
 detached_in v d = None
 
--- what is signed or authenticated where this is the payload's place: what it holds, or what is given where it is nil
+-- The content that is signed or authenticated, by the payload's place: its byte string, or the given content if it is
+-- nil.
 abbrev pub content_at : Item → Option (List ℕ) → Option (List ℕ)
 content_at v None = as_bytes v
 content_at v (Some d) = detached_in v d
@@ -25,7 +26,7 @@ content_at v (Some d) = detached_in v d
 abbrev pub content_in : Option Item → Option (List ℕ) → Option (List ℕ)
 content_in o d = option_and_then (λ v. content_at v d) o
 
--- Enc_structure = [context : tstr, protected : bstr, external_aad : bstr], where the header's bytes are there
+-- Enc_structure = [context : tstr, protected : bstr, external_aad : bstr], if the protected bytes are present.
 abbrev pub structure_of_one : List ℕ → List ℕ → Option (List ℕ) → Option Item
 structure_of_one context aad None = None
 structure_of_one context aad (Some p) = Some (structure context (p ∷ aad ∷ []))
@@ -33,8 +34,8 @@ structure_of_one context aad (Some p) = Some (structure context (p ∷ aad ∷ [
 abbrev pub encryption_structure : List ℕ → List ℕ → Item → Option Item
 encryption_structure context aad v = structure_of_one context aad (bytes_in 0 v)
 
--- MAC_structure = [context : tstr, protected : bstr, external_aad : bstr, payload : bstr], and Sig_structure without a signer's
--- header: of these bytes of the header and this payload, where both are there
+-- MAC_structure = [context : tstr, protected : bstr, external_aad : bstr, payload : bstr], or Sig_structure without a
+-- signer's header, if the protected bytes and the payload are present.
 abbrev pub structure_of_two : List ℕ → List ℕ → Option (List ℕ) → Option (List ℕ) → Option Item
 structure_of_two context aad (Some p) (Some c) = Some (structure context (p ∷ aad ∷ c ∷ []))
 structure_of_two context aad p c = None
@@ -42,11 +43,12 @@ structure_of_two context aad p c = None
 abbrev pub content_structure : List ℕ → List ℕ → Option (List ℕ) → Item → Option Item
 content_structure context aad d v = structure_of_two context aad (bytes_in 0 v) (content_in (element 2 v) d)
 
--- what the protected header of the signer of that index holds
+-- The protected bytes of the signer at index i.
 abbrev pub signer_in : kinds.Kind → ℕ → Item → Option (List ℕ)
 signer_in k i v = option_and_then (bytes_in 0) (member_at k i v)
 
--- Sig_structure = [context : "Signature", body_protected : bstr, sign_protected : bstr, external_aad : bstr, payload : bstr]
+-- Sig_structure = [context : "Signature", body_protected : bstr, sign_protected : bstr,
+--   external_aad : bstr, payload : bstr]
 abbrev pub structure_of_three : List ℕ → Option (List ℕ) → Option (List ℕ) → Option (List ℕ) → Option Item
 structure_of_three aad (Some p) (Some q) (Some c) = Some (structure (codes "Signature") (p ∷ q ∷ aad ∷ c ∷ []))
 structure_of_three aad p q c = None
@@ -54,7 +56,7 @@ structure_of_three aad p q c = None
 abbrev pub signer_structure : kinds.Kind → ℕ → List ℕ → Option (List ℕ) → Item → Option Item
 signer_structure k i aad d v = structure_of_three aad (bytes_in 0 v) (signer_in k i v) (content_in (element 2 v) d)
 
--- the structure of the item v of that kind, by the context's text
+-- The structure of the item v, of kind k. The context depends on the kind.
 abbrev pub structure_in : kinds.Kind → ℕ → List ℕ → Option (List ℕ) → Item → Option Item
 structure_in (Sign1 f) i aad d v = content_structure (codes "Signature1") aad d v
 structure_in (Sign f) i aad d v = signer_structure (Sign f) i aad d v
@@ -64,42 +66,44 @@ structure_in (Encrypt0 f) i aad d v = encryption_structure (codes "Encrypt0") aa
 structure_in (Encrypt f) i aad d v = encryption_structure (codes "Encrypt") aad v
 structure_in k i aad d v = None
 
--- t is its shortest encoding
+-- t is the shortest encoding of that structure.
 abbrev pub IsStructure : kinds.Kind → ℕ → List ℕ → Option (List ℕ) → Item → List ℕ → Type 0
 IsStructure k i aad d v t = IsEncodingOf (structure_in k i aad d v) t
 
--- the place holds something else than nil
+-- The element is present, and isn't nil.
 abbrev pub is_filled : Option Item → Bool
 is_filled None = false
 is_filled (Some null) = false
 is_filled (Some v) = true
 
--- the item v carries something at that place
+-- The item v carries an element other than nil at this index.
 abbrev pub is_carried : Option ℕ → Item → Bool
 is_carried o v = is_filled (option_and_then (λ n. element n v) o)
 
--- what is given is carried there too
+-- Content is given as detached, and the item v carries some at this index too.
 abbrev pub is_given_at : Option ℕ → Option (List ℕ) → Item → Bool
 is_given_at o None v = false
 is_given_at o (Some d) v = is_carried o v
 
--- a payload is given of an item v that carries one
+-- A payload is given as detached, and the item v carries one too.
 abbrev pub is_given_twice : kinds.Kind → Option (List ℕ) → Item → Bool
 is_given_twice k d v = is_given_at (payload_place k) d v
 
--- why there is no structure of the item v: a payload is given, and it carries another; or there is none
+-- The reason why the item v has no structure. `Misuse`: a payload is given, and the item carries another. `Absent`: no
+-- such structure exists.
 abbrev pub HasNoStructure : kinds.Kind → ℕ → List ℕ → Option (List ℕ) → Item → refusals.Refusal → Type 0
 HasNoStructure k i aad d v Misuse = is_given_twice k d v ≡ true
 HasNoStructure k i aad d v Absent = (is_given_twice k d v ≡ false) × ((t : List ℕ) → IsStructure k i aad d v t → ⊥)
 HasNoStructure k i aad d v r = ⊥
 
--- the structure of the recipient v, by what holds it: context : "Enc_Recipient" / "Mac_Recipient" / "Rec_Recipient"
+-- The structure of the recipient v, by the kind that contains it: context : "Enc_Recipient" / "Mac_Recipient" /
+-- "Rec_Recipient".
 abbrev pub recipient_structure_in : kinds.Kind → List ℕ → Item → Option Item
 recipient_structure_in (Encrypt f) aad v = encryption_structure (codes "Enc_Recipient") aad v
 recipient_structure_in (Mac f) aad v = encryption_structure (codes "Mac_Recipient") aad v
 recipient_structure_in Recipient aad v = encryption_structure (codes "Rec_Recipient") aad v
 recipient_structure_in k aad v = None
 
--- t is the shortest encoding of the structure of a recipient
+-- t is the shortest encoding of the recipient's structure.
 abbrev pub IsRecipientStructure : kinds.Kind → List ℕ → Item → List ℕ → Type 0
 IsRecipientStructure h aad v t = IsEncodingOf (recipient_structure_in h aad v) t

@@ -1,4 +1,4 @@
--- What one call says of a message (RFC 8152, sections 3.1 and 4 to 6).
+-- The result of a call that says everything about a message (RFC 8152, sections 3.1 and 4 to 6).
 use Rattle.std.specs.Prelude.{◌≡◌, ◌⊎◌, ℕ, ℤ, pos, List, [], ◌++◌, length, Option, Some, None, true, false}
 use Rattle.coset.specs.Item.{Item}
 use Rattle.coset.specs.Names.{Name, number}
@@ -22,38 +22,37 @@ use Rattle.ffi_query.specs.Parts.{IsPart, place_of}
 use Rattle.ffi_query.specs.Places.{bytes_in, member_at}
 use Rattle.ffi_query.specs.Structures.{IsStructure, is_given_twice}
 
--- the labels alg and kid (section 3.1, table 2)
+-- The labels alg and kid (section 3.1, table 2).
 abbrev pub alg_label : Name
 alg_label = number (pos 1)
 
 abbrev pub kid_label : Name
 kid_label = number (pos 4)
 
--- the value w of alg is that: an integer of 64 bits, or none
+-- The algorithm that w, the value of alg, names. It is a number if w is an integer in the range of `i64`, else a text.
 abbrev pub IsAlgorithm : Item → algorithms.Algorithm → Type 0
 IsAlgorithm w named.Absent = ⊥
 IsAlgorithm w (named.Number n) = IsNumber w n
 IsAlgorithm w named.Text = (n : ℤ) → IsNumber w n → ⊥
 
--- the algorithm that the protected header of the item v names: nothing is under alg; or the integer of 64 bits n; or what is
--- none
+-- The algorithm that the protected header of the item v names. `Absent`: the header has no alg.
 abbrev pub HasAlgorithm : kinds.Kind → Item → algorithms.Algorithm → Type 0
 HasAlgorithm k v named.Absent = (w : Item) → IsUnder k of.Protected alg_label v w → ⊥
 HasAlgorithm k v (named.Number n) = IsNumberOf k of.Protected alg_label v n
 HasAlgorithm k v named.Text = (w : Item) × IsUnder k of.Protected alg_label v w × IsAlgorithm w named.Text
 
--- that header of the item v has no string under kid
+-- That header of the item v has no string under kid.
 abbrev pub HasNoKeyId : kinds.Kind → maps.Map → Item → Type 0
 HasNoKeyId k m v = (t : List ℕ) → IsStringOf k m kid_label v t → ⊥
 
--- where the identifier of the key is, and t is what it holds: in the protected header; or else in the unprotected one; or
--- else in neither, and t is empty
+-- The header that has the key identifier. t is its content: from the protected header, else from the unprotected
+-- header, else empty.
 abbrev pub IsKeyId : kinds.Kind → Item → places.KeyIdPlace → List ℕ → Type 0
 IsKeyId k v found.Absent t = HasNoKeyId k of.Protected v × HasNoKeyId k of.Unprotected v × (t ≡ [])
 IsKeyId k v found.Protected t = IsStringOf k of.Protected kid_label v t
 IsKeyId k v found.Unprotected t = HasNoKeyId k of.Protected v × IsStringOf k of.Unprotected kid_label v t
 
--- what names the algorithm and the key: the signer of that index, where a message has signers; else the message v itself
+-- The item that names the algorithm and the key: the signer at index i, or the message v itself if it has no signers.
 abbrev pub bearer : kinds.Kind → ℕ → Item → Option Item
 bearer (Sign f) i v = member_at (Sign f) i v
 bearer k i v = Some v
@@ -62,7 +61,7 @@ abbrev pub kind_of_bearer : kinds.Kind → kinds.Kind
 kind_of_bearer (Sign f) = Signature
 kind_of_bearer k = k
 
--- the signature or the tag, and nothing where items of the kind have none
+-- The signature or the tag. It is empty for items of a kind without either.
 abbrev pub proof_at : Option ℕ → Item → Option (List ℕ)
 proof_at None v = Some []
 proof_at (Some n) v = bytes_in n v
@@ -70,20 +69,23 @@ proof_at (Some n) v = bytes_in n v
 abbrev pub proof_in : kinds.Kind → Item → Option (List ℕ)
 proof_in k v = proof_at (place_of Proof k) v
 
--- the part that is the content
+-- The part that is the message's content.
 abbrev pub content_part : kinds.Kind → parts.Part
 content_part (Encrypt0 f) = Ciphertext
 content_part (Encrypt f) = Ciphertext
 content_part k = Payload
 
--- t is the content that the item v carries; or it carries none, and t is empty
+-- t is the content that the item v carries, or empty if it carries none.
 abbrev pub IsContent : kinds.Kind → Item → List ℕ → Type 0
 IsContent k v t = IsPart k (content_part k) v t ⊎ (((s : List ℕ) → IsPart k (content_part k) v s → ⊥) × (t ≡ []))
 
--- what is said of the item v of that kind by n, and by the text t, which is four, one behind the other: what is signed of it (by
--- the signer of that index), authenticated, or goes with its ciphertext, over external_aad and, where it is detached, the
--- payload d; the signature or the tag; the content that it carries; and the identifier of the key. The caller understands the
--- labels ns
+-- n is the view of the item v, of kind k. t has its four texts, one after another. ns are the labels that the caller
+-- understands.
+-- - What is signed by the signer at index i, authenticated, or goes with the ciphertext. It is over aad, and over d if
+--   the payload is detached.
+-- - The signature or the tag.
+-- - The content that the item carries.
+-- - The key identifier.
 pub record IsViewOf (k : kinds.Kind) (i : ℕ) (aad : List ℕ) (d : Option (List ℕ)) (ns : List ℤ) (v : Item) (n : MessageView)
     (t : List ℕ) : Type 0 where
   pub signer : Item
@@ -105,13 +107,14 @@ pub record IsViewOf (k : kinds.Kind) (i : ℕ) (aad : List ℕ) (d : Option (Lis
   pub key_id_len : n.key_id_len ≡ length key_id
   pub len : n.len ≡ length t
 
--- What `message_view` says of the bytes b, which are the message v of that kind: all that, and whether they are under the
--- message's tag (section 2, table 1)
+-- The result of `message_view` for the bytes b, which are the message v of kind k. It is the view, which says whether
+-- the bytes are under the message's tag (section 2, table 1), and the texts.
 abbrev pub IsMessageView :
     kinds.Kind → ℕ → List ℕ → Option (List ℕ) → List ℤ → List ℕ → Item → MessageView → List ℕ → Type 0
 IsMessageView k i aad d ns b v n t = IsViewOf k i aad d ns v n t × TellsTagOf (tag_of k) b n.is_tagged
 
--- why there is none: a payload is given, and the message carries another; or it has no structure, or no such signer or proof
+-- The reason why there is no view. `Misuse`: a payload is given, and the message carries another. `Absent`: the message
+-- has no structure, no such signer, or no signature or tag.
 abbrev pub HasNoView : kinds.Kind → ℕ → List ℕ → Option (List ℕ) → List ℤ → Item → refusals.Refusal → Type 0
 HasNoView k i aad d ns v Misuse = is_given_twice k d v ≡ true
 HasNoView k i aad d ns v Absent = (is_given_twice k d v ≡ false) × ((n : MessageView) (t : List ℕ) → IsViewOf k i aad d ns v n t → ⊥)

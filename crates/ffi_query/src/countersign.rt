@@ -1,5 +1,5 @@
-//! What a countersignature of a message, of a signature or of a recipient is over (RFC 8152, sections 4.4 and 4.5; RFC
-//! 9338, section 3.3).
+//! The structures that countersignatures of messages, signatures and recipients sign (RFC 8152,
+//! sections 4.4 and 4.5, and appendix A.2; RFC 9338, section 3.3).
 
 ghost use Rattle.std.specs.Prelude.{◌≡◌, ◌≢◌, [], map, option_map, Some, IfOk, IfErr};
 ghost use Rattle.std.specs.Cow.{cow_slice_items};
@@ -26,20 +26,20 @@ use coset::{
 use std::alloc::Global;
 use std::borrow::CowSlice;
 
-/// Which countersignature it is, by the label of a header that holds it.
+/// The type of a countersignature, named by the header label that it is stored under.
 #[derive(Clone, Copy, Debug, PartialEq, Eq)]
 pub enum Countersignature {
     /// Label 7: `counter signature` (RFC 8152, section 4.5).
     Full,
-    /// Label 9: `CounterSignature0`, the same without a header of its own.
+    /// Label 9: `CounterSignature0`, the same without headers of its own (RFC 8152, appendix A.2).
     Abbreviated,
-    /// Label 11: a countersignature of version 2 (RFC 9338, section 3.1).
+    /// Label 11: a full countersignature of version 2 (RFC 9338, sections 2 and 3.1).
     FullV2,
-    /// Label 12: an abbreviated one of version 2 (RFC 9338, section 3.2).
+    /// Label 12: an abbreviated countersignature of version 2 (RFC 9338, sections 2 and 3.2).
     AbbreviatedV2,
 }
 
-/// A protected header of which only its bytes matter: those that were received.
+/// Returns a protected header that is encoded as these received bytes. Its fields are empty.
 fn received(alloc: Global, bytes: Vec<u8>) -> ProtectedHeader
     ensures { protected_bytes (protected_view result) ≡ Some bytes.items }
 {
@@ -49,10 +49,10 @@ fn received(alloc: Global, bytes: Vec<u8>) -> ProtectedHeader
     }
 }
 
-/// The structure without other fields.
+/// Encodes the structure without `other_fields`.
 ///
 /// # Errors
-/// `OutOfMemory` alone.
+/// `OutOfMemory` if an allocation fails.
 fn without_others(
     alloc: Global,
     body: &[u8],
@@ -77,10 +77,10 @@ fn without_others(
     }
 }
 
-/// The structure with other fields.
+/// Encodes the structure with `others` as its `other_fields`. `others` must not be empty.
 ///
 /// # Errors
-/// `OutOfMemory` alone.
+/// `OutOfMemory` if an allocation fails.
 fn with_others(
     alloc: Global,
     body: Vec<u8>,
@@ -105,10 +105,11 @@ fn with_others(
     }
 }
 
-/// The structure, with the header of its own that a countersignature has unless it is an abbreviated one.
+/// Encodes the structure. `signer` is `None` for an abbreviated countersignature, which has no
+/// headers of its own.
 ///
 /// # Errors
-/// `OutOfMemory` alone.
+/// `OutOfMemory` if an allocation fails.
 fn countersigned(
     alloc: Global,
     body: Vec<u8>,
@@ -129,10 +130,11 @@ fn countersigned(
     }
 }
 
-/// The structure of such a countersignature; none where an abbreviated one is given a header of its own.
+/// Encodes the structure for this type of countersignature. Returns `None` if an abbreviated one is
+/// given a nonempty `signer`.
 ///
 /// # Errors
-/// `OutOfMemory` alone.
+/// `OutOfMemory` if an allocation fails.
 fn countersigned_by(
     alloc: Global,
     countersignature: Countersignature,
@@ -161,10 +163,11 @@ fn countersigned_by(
     }
 }
 
-/// The structure, where its three parts are there.
+/// Encodes the structure. Returns `None` if `body`, `payload` or `others` is `None`, or if an
+/// abbreviated countersignature is given a nonempty `signer`.
 ///
 /// # Errors
-/// `OutOfMemory` alone.
+/// `OutOfMemory` if an allocation fails.
 fn countersigned_of(
     alloc: Global,
     countersignature: Countersignature,
@@ -200,14 +203,15 @@ fn countersigned_of(
     }
 }
 
-/// The place of the second byte string of an item's array.
+/// Returns the index of the item's second byte string, or `None` if items of the kind have no
+/// headers.
 fn second_place(kind: Kind) -> Option<usize>
     ensures { result ≡ second_place kind }
 {
     if kind.has_headers() { Some(2) } else { None }
 }
 
-/// The place of the byte string behind the second.
+/// Returns the index of the byte string after the second, or `None` if there is none.
 fn third_place(kind: Kind) -> Option<usize>
     ensures { result ≡ third_place kind }
 {
@@ -217,10 +221,11 @@ fn third_place(kind: Kind) -> Option<usize>
     }
 }
 
-/// What is at that place, where there is one.
+/// Returns the byte string at `place` as a list of one element. Without a `place` the list is
+/// empty. Returns `None` if the element isn't a byte string.
 ///
 /// # Errors
-/// `OutOfMemory` alone.
+/// `OutOfMemory` if an allocation fails.
 fn fields_at(alloc: Global, place: Option<usize>, item: Pull<'_>) -> Result<Option<Vec<Vec<u8>>>>
     ensures fields { IfOk result (λ o. option_map
         (λ fields. map (λ field. field.items) fields.items) o
@@ -236,10 +241,11 @@ fn fields_at(alloc: Global, place: Option<usize>, item: Pull<'_>) -> Result<Opti
     }
 }
 
-/// All byte strings behind the second, where the countersignature is over them.
+/// Returns all byte strings after the second if the countersignature is of version 2, else an empty
+/// list.
 ///
 /// # Errors
-/// `OutOfMemory` alone.
+/// `OutOfMemory` if an allocation fails.
 fn other_fields(
     alloc: Global,
     countersignature: Countersignature,
@@ -259,10 +265,11 @@ fn other_fields(
     }
 }
 
-/// The payload of the structure: what the second byte string holds, or what is given where that is `nil`.
+/// Returns the payload of the structure: the second byte string, or `detached` if that field is
+/// `nil`.
 ///
 /// # Errors
-/// `OutOfMemory` alone.
+/// `OutOfMemory` if an allocation fails.
 fn second_field<'a>(
     alloc: Global,
     kind: Kind,
@@ -280,10 +287,11 @@ fn second_field<'a>(
     }
 }
 
-/// What such a countersignature of an item of that kind is over.
+/// Encodes the structure that this countersignature of the item signs, or returns `None` if there
+/// is none.
 ///
 /// # Errors
-/// `OutOfMemory` alone.
+/// `OutOfMemory` if an allocation fails.
 fn find_countersigned(
     alloc: Global,
     kind: Kind,
@@ -312,19 +320,31 @@ fn find_countersigned(
     )
 }
 
-/// Writes what a countersignature of a message, of a signature or of a recipient is over to the front of `out`, and returns
-/// its length: the shortest encoding of `Countersign_structure` (RFC 9338, section 3.3), which for a counter signature of RFC
-/// 8152 is the `Sig_structure` of section 4.4, with the bytes of the protected header as they were received.
+/// Writes the structure that a countersignature signs to the front of `out`, and returns its
+/// length.
 ///
-/// `signer` is what the byte string of the countersignature's own protected header holds; an abbreviated one has none. What
-/// is countersigned is the payload, the ciphertext, or the signature of a [`Kind::Signature`], where `detached` is `None`;
-/// and `detached`, where that is `nil`. Version 2 is over the signature of a [`Kind::Sign1`] besides, and over the tag of a
+/// `bytes` are a message, a signature or a recipient of the kind. The structure is written as the
+/// shortest encoding of `Countersign_structure` (RFC 9338, section 3.3). For a counter signature of
+/// RFC 8152 that is the `Sig_structure` of its section 4.4. It has the bytes of the item's
+/// protected header as they were received.
+///
+/// `signer` is the content of the byte string that holds the countersignature's own protected
+/// header. It is empty for an abbreviated countersignature, which has no such header.
+///
+/// The structure's payload is the item's payload or ciphertext, or the signature of a
+/// [`Kind::Signature`]. If that field is `nil`, `detached` is the payload; else `detached` is
+/// `None`. Version 2 also covers the signature of a [`Kind::Sign1`], and the tag of a
 /// [`Kind::Mac0`] or a [`Kind::Mac`].
 ///
 /// # Errors
-/// `Short` where `out` has no room for it; `Misuse` where the item carries what is given as detached; `Absent` where items of
-/// the kind aren't countersigned, where an abbreviated countersignature is given a `signer`, and where the item carries
-/// `nil` and nothing is given; `Cose` as [`check`](crate::check) says. `out` is then as it was.
+/// - `Short` with the length needed, if `out` is too small.
+/// - `Misuse` if the item carries a payload and `detached` gives another.
+/// - `Absent` if items of the kind aren't countersigned, or if an abbreviated countersignature is
+///   given a `signer`.
+/// - `Absent` if the item carries `nil` and `detached` is `None`.
+/// - `Cose` with an error of [`check`](crate::check).
+///
+/// `out` is then unchanged.
 pub fn countersign_structure_of(
     alloc: Global,
     kind: Kind,

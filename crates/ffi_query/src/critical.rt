@@ -1,4 +1,4 @@
-//! Labels that must be understood: `crit` (RFC 8152, section 3.1).
+//! The header parameter `crit`: labels that must be understood (RFC 8152, section 3.1).
 
 ghost use Rattle.std.specs.Prelude.{◌≡◌, IfOk, IfErr, true, false, if◌then◌else◌};
 ghost use Rattle.coset.specs.CoseError.TheVariants.{OutOfMemory};
@@ -13,14 +13,14 @@ use coset::cbor::de::Pull;
 use coset::cbor::value::Value;
 use std::alloc::Global;
 
-/// Whether there are labels that must be understood, and whether all of them are.
+/// Whether headers have critical labels, and whether all of them are understood.
 #[derive(Clone, Copy)]
 pub(crate) struct Critical {
     pub(crate) is_there: bool,
     pub(crate) is_understood: bool,
 }
 
-/// Whether the label is an integer among these.
+/// Returns true if the label is one of the integers in `known`.
 fn is_known(known: &[i64], label: &Value) -> bool
     ensures { result ≡ is_known known.now (value_item label.now) }
 {
@@ -32,7 +32,7 @@ fn is_known(known: &[i64], label: &Value) -> bool
     }
 }
 
-/// Whether the labels are an array, and each is an integer among these.
+/// Returns true if `labels` is an array, and each element is one of the integers in `known`.
 fn are_known(known: &[i64], labels: &Value) -> bool
     ensures { result ≡ are_known known.now (value_item labels.now) }
 {
@@ -42,11 +42,13 @@ fn are_known(known: &[i64], labels: &Value) -> bool
     }
 }
 
-/// The labels that the headers of an item of that kind say must be understood. They are where each is an integer among
-/// these, and none is named by the unprotected header, whose labels nobody signs.
+/// Looks for `crit` in both headers of the item.
+///
+/// The critical labels are understood if each is in `known`, and the unprotected header has no
+/// `crit`. No signature covers the unprotected header.
 ///
 /// # Errors
-/// `OutOfMemory` alone.
+/// `OutOfMemory` if an allocation fails.
 fn critical_in(alloc: Global, kind: Kind, item: Pull<'_>, known: &[i64]) -> Result<Critical>
     ensures critical { IfOk result (λ c.
         IsCriticalIn kind known.now (pull_item item.entry) c.is_there c.is_understood) }
@@ -71,24 +73,23 @@ fn critical_in(alloc: Global, kind: Kind, item: Pull<'_>, known: &[i64]) -> Resu
     }
 }
 
-/// Whether one of the two is so.
 fn either(a: bool, b: bool) -> bool
     ensures { result ≡ (if a then true else b) }
 {
     a || b
 }
 
-/// Whether both are.
 fn both(a: bool, b: bool) -> bool
     ensures { result ≡ (if a then b else false) }
 {
     a && b
 }
 
-/// Whether a message of that kind, or its signer where it has signers, has critical labels, and whether all are understood.
+/// Looks for `crit` in the headers of a message. For a [`Kind::Sign`], the headers of the signer
+/// `bearer` count too.
 ///
 /// # Errors
-/// `OutOfMemory` alone.
+/// `OutOfMemory` if an allocation fails.
 pub(crate) fn critical_of(
     alloc: Global,
     kind: Kind,

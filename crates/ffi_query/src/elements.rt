@@ -1,5 +1,5 @@
-//! Where the elements of arrays, the pairs of maps, the values of integer labels and the contents of strings are in the input:
-//! nothing is copied.
+//! Places in the input: of array elements, map pairs, values of integer labels, and contents of
+//! strings. Nothing is copied.
 
 ghost use Rattle.std.specs.Prelude.{◌≡◌, List, ℕ, IfSome, MatchResult, length, option_map};
 ghost use Rattle.coset.specs.Names.{number};
@@ -26,17 +26,17 @@ use coset::CoseError;
 use coset::cbor::de::Pull;
 use std::alloc::Global;
 
-/// A part of the input: `coset_span` of `include/coset.h`.
+/// A range of the input's bytes: `coset_span` of `include/coset.h`.
 #[repr(C)]
 #[derive(Clone, Copy, Debug, PartialEq, Eq)]
 pub struct Span {
-    /// How many bytes are before it.
+    /// The offset of the first byte.
     pub at: usize,
-    /// How many bytes it has.
+    /// The number of bytes.
     pub len: usize,
 }
 
-/// Where an item is in the input.
+/// Returns the place of an item in the input.
 fn span_of(item: Located<'_>, input: &[u8]) -> Span
     ensures { IsLocated input.now item.entry
         → IsItemAt input.now result (located_item item.entry) }
@@ -47,11 +47,14 @@ fn span_of(item: Located<'_>, input: &[u8]) -> Span
     }
 }
 
-/// Where the signature, recipient or key of that index is, counted from 0, in the bytes: a [`Kind::Signature`],
-/// [`Kind::Recipient`] or [`Kind::Key`], as it was received. Of a [`Kind::Any`] it is the element of an array.
+/// Returns the place of the signature, recipient or key at `index`, counted from 0.
+///
+/// The bytes there are a [`Kind::Signature`], [`Kind::Recipient`] or [`Kind::Key`], as received.
+/// For a [`Kind::Any`] they are an element of an array.
 ///
 /// # Errors
-/// `Absent` where there are no more than `index`; `Cose` as [`check`](crate::check) says.
+/// - `Absent` if there is none at `index`.
+/// - `Cose` with an error of [`check`](crate::check).
 pub fn member_span(alloc: Global, kind: Kind, bytes: &[u8], index: usize) -> Result<Span, Refusal>
     ensures { AnswersNumber kind bytes.now (IsMemberAt bytes.now kind index)
         (HasNoMember kind index) result }
@@ -66,10 +69,11 @@ pub fn member_span(alloc: Global, kind: Kind, bytes: &[u8], index: usize) -> Res
     }
 }
 
-/// The value under an integer label in the protected header of an item that begins with two.
+/// Finds the value under an integer label in the protected header of an item that begins with two
+/// headers.
 ///
 /// # Errors
-/// `WrongType` where what the header's byte string holds is in chunks.
+/// `WrongType` if the header's byte string has indefinite length.
 fn protected_located(item: Located<'_>, label: i64) -> Result<Option<Located<'_>>, Refusal>
     ensures { (b : List ℕ) → IsLocated b item.entry → MatchResult result
         (λ o. Finds located_item
@@ -95,7 +99,8 @@ fn protected_located(item: Located<'_>, label: i64) -> Result<Option<Located<'_>
     }
 }
 
-/// The value under an integer label in the unprotected header of an item that begins with two.
+/// Finds the value under an integer label in the unprotected header of an item that begins with two
+/// headers.
 fn unprotected_located(item: Located<'_>, label: i64) -> Option<Located<'_>>
     ensures value { option_map located_item result
         ≡ unprotected_value (number label) (located_item item.entry) }
@@ -107,10 +112,10 @@ fn unprotected_located(item: Located<'_>, label: i64) -> Option<Located<'_>>
     }
 }
 
-/// The value under an integer label in that map of an item of that kind.
+/// Finds the value under an integer label in this map of the item.
 ///
 /// # Errors
-/// `WrongType` where it is the protected header, and what its byte string holds is in chunks.
+/// `WrongType` if the map is a protected header whose byte string has indefinite length.
 fn label_located(
     kind: Kind,
     item: Located<'_>,
@@ -141,11 +146,14 @@ fn label_located(
     }
 }
 
-/// Where the value is, as it was received, that is under an integer label in that map of the item that the bytes are.
+/// Returns the place of the value under an integer label, as received. `map` says which map of the
+/// item is searched.
 ///
 /// # Errors
-/// `Absent` where the item has no such map, or that no such label; `WrongType` where it is the protected header, and what its
-/// byte string holds is in chunks; `Cose` as [`check`](crate::check) says.
+/// - `Absent` if the item has no such map, or the map has no such label.
+/// - `WrongType` if the map is a protected header whose byte string has indefinite length, so that
+///   it is in chunks.
+/// - `Cose` with an error of [`check`](crate::check).
 pub fn value_span(
     alloc: Global,
     kind: Kind,
@@ -167,11 +175,11 @@ pub fn value_span(
     }
 }
 
-/// Where the key and the value are, as they were received, of the pair of that index, counted from 0, of the map that the
-/// bytes are.
+/// Returns the places of a map's key and value, as received. `index` counts the pairs from 0.
 ///
 /// # Errors
-/// `Absent` where the item is no map, or has no more than `index` pairs; `Cose` as [`check`](crate::check) says.
+/// - `Absent` if the item isn't a map, or has no pair at `index`.
+/// - `Cose` with an error of [`check`](crate::check).
 pub fn pair_spans(
     alloc: Global,
     kind: Kind,
@@ -190,7 +198,7 @@ pub fn pair_spans(
     }
 }
 
-/// Where the bytes of a text are in the input.
+/// Returns the place of a string's content in the input.
 pub(crate) fn text_span(text: Text<'_>, input: &[u8]) -> Span
     ensures at { IsTextIn input.now text.entry → IsAt input.now result.at text.entry.bytes.now }
     ensures len { result.len ≡ length text.entry.bytes.now }
@@ -201,11 +209,14 @@ pub(crate) fn text_span(text: Text<'_>, input: &[u8]) -> Span
     }
 }
 
-/// Where the item is that begins so many bytes behind the first: as it was received. Its end is where the next element of an
-/// array begins, or the next key or value of a map; so all of them are found in one walk.
+/// Returns the place of the item that begins at the offset `at`, as received.
+///
+/// The next element of an array, or the next key or value of a map, begins where the item ends. So
+/// a caller finds all of them in one walk.
 ///
 /// # Errors
-/// `Absent` where there are fewer bytes; `Cose` why no item begins there.
+/// - `Absent` if there are fewer than `at` bytes.
+/// - `Cose` with the reason why no item begins there.
 pub fn item_span(bytes: &[u8], at: usize) -> Result<Span, Refusal>
     ensures { AnswersItem bytes.now at result }
 {
@@ -221,12 +232,13 @@ pub fn item_span(bytes: &[u8], at: usize) -> Result<Span, Refusal>
     }
 }
 
-/// Where the content is of the byte string or the text string that the bytes are, whose length is announced (RFC 8949, section
-/// 3.1). Of a text it is UTF-8.
+/// Returns the place of a string's content. The bytes are a byte string or a text string of
+/// definite length (RFC 8949, section 3.1). The content of a text string is UTF-8.
 ///
 /// # Errors
-/// `WrongType` where the item is no string, or its length isn't announced, so that its content is in chunks; `Cose` as
-/// [`check`](crate::check) of a [`Kind::Any`] says.
+/// - `WrongType` if the item isn't a string, or has indefinite length, so that its content is in
+///   chunks.
+/// - `Cose` with an error of [`check`](crate::check) for a [`Kind::Any`].
 pub fn string_span(alloc: Global, bytes: &[u8]) -> Result<Span, Refusal>
     ensures { AnswersNumber Any bytes.now (IsStringAt bytes.now) (HasNoContent bytes.now)
         result }
@@ -241,10 +253,11 @@ pub fn string_span(alloc: Global, bytes: &[u8]) -> Result<Span, Refusal>
     }
 }
 
-/// The integer that the bytes are.
+/// Returns the integer that the bytes encode.
 ///
 /// # Errors
-/// `WrongType` where the item is no integer of 64 bits; `Cose` as [`check`](crate::check) of a [`Kind::Any`] says.
+/// - `WrongType` if the item isn't an integer, or is outside the range of `i64`.
+/// - `Cose` with an error of [`check`](crate::check) for a [`Kind::Any`].
 pub fn integer_at(alloc: Global, bytes: &[u8]) -> Result<i64, Refusal>
     ensures { AnswersNumber Any bytes.now IsNumber HasNoInteger result }
 {

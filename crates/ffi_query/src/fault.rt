@@ -1,12 +1,18 @@
-//! Where bytes stop being one item of CBOR.
+//! Where bytes stop being one data item of CBOR.
 
 ghost use Rattle.ffi_query.specs.Faults.{IsOffset};
 
 use coset::cbor::de::{Error, Pull};
 
-/// Where the bytes stop being one item of CBOR (RFC 8949, section 5.3): the offset of the first byte of the head at fault;
-/// their length, where they end too early; or the offset of the first byte that follows the item. `None` where they are one
-/// item, and where that nests too deep. It takes no memory.
+/// Returns the offset at which the bytes stop being one data item (RFC 8949, section 3 and appendix
+/// F), or `None`.
+///
+/// The offset is one of these:
+/// - the first byte of the head at fault,
+/// - the end of the bytes, if they end too early,
+/// - the first byte after the item, if bytes follow it.
+///
+/// `None` means that the bytes are one item, or that it nests too deep. Allocates nothing.
 pub fn fault_offset(bytes: &[u8]) -> Option<usize>
     ensures { IsOffset bytes.now result }
 {

@@ -1,4 +1,4 @@
-//! Whether an item is a message, found without a copy of its content.
+//! Checks that an item is a message, without copying its content.
 
 ghost use Rattle.std.specs.Prelude.{◌≡◌, List, ℕ, IfSome, true};
 ghost use Rattle.coset.specs.Headers.{header, protected};
@@ -18,7 +18,7 @@ use coset::cbor::de::Pull;
 use coset::{FromPull, Header, ProtectedHeader};
 use std::alloc::Global;
 
-/// Whether an item may be a message of the form, which is under the message's tag, or isn't.
+/// Returns true if the form allows a message that is or isn't under its tag, as `is_tagged` says.
 fn is_in_form(form: Form, is_tagged: bool) -> bool
     ensures { (n : ℕ) (v : Item) → is_tagged ≡ is_under n v → result ≡ true
         → IsInForm form n v (untagged n v) }
@@ -30,28 +30,30 @@ fn is_in_form(form: Form, is_tagged: bool) -> bool
     }
 }
 
-/// Whether the item is what the place of a protected header holds.
+/// Returns true if the item is a valid protected header. False may also mean that an allocation
+/// failed.
 fn is_protected(alloc: Global, place: Pull<'_>) -> bool
     ensures { Fits protected (pull_item place.entry) result }
 {
     ProtectedHeader::from_pull_bstr(alloc, place).is_ok()
 }
 
-/// Whether the item is what the place of an unprotected header holds.
+/// Returns true if the item is a valid unprotected header. False may also mean that an allocation
+/// failed.
 fn is_unprotected(alloc: Global, place: Pull<'_>) -> bool
     ensures { Fits header (pull_item place.entry) result }
 {
     Header::from_pull(alloc, place).is_ok()
 }
 
-/// Whether the item is a byte string.
+/// Returns true if the item is a byte string.
 fn is_string(place: Pull<'_>) -> bool
     ensures { Fits bstr (pull_item place.entry) result }
 {
     place.bytes_chunks().is_some()
 }
 
-/// Whether the item is a byte string or `nil`.
+/// Returns true if the item is a byte string or `nil`.
 fn is_content(place: Pull<'_>) -> bool
     ensures { Fits (or_nil bstr) (pull_item place.entry) result }
 {
@@ -61,7 +63,8 @@ fn is_content(place: Pull<'_>) -> bool
     place.is_null()
 }
 
-/// Whether the three elements are two headers and a content.
+/// Returns true if the three elements are two headers and a content. False may also mean that an
+/// allocation failed.
 fn are_headers(alloc: Global, three: &Three<'_>) -> bool
     ensures { FitsThree three.now result }
 {
@@ -73,7 +76,7 @@ fn are_headers(alloc: Global, three: &Three<'_>) -> bool
     false
 }
 
-/// Whether there are no elements.
+/// Returns true if no elements are left.
 fn is_end(elements: Elements<'_>) -> bool
     ensures { FitsElements end (elements_left elements.entry) result }
 {
@@ -83,7 +86,7 @@ fn is_end(elements: Elements<'_>) -> bool
     }
 }
 
-/// Whether the elements are a byte string alone.
+/// Returns true if a single byte string is left.
 fn is_one_string(elements: Elements<'_>) -> bool
     ensures { FitsElements (bstr then end) (elements_left elements.entry) result }
 {
@@ -98,7 +101,8 @@ fn is_one_string(elements: Elements<'_>) -> bool
     }
 }
 
-/// What an array begins with that is two headers, a content, and a signature or a tag.
+/// Returns the first three elements of an array of two headers, a content, and a signature or a
+/// tag.
 fn with_proof<'a>(
     alloc: Global,
     form: Form,
@@ -124,7 +128,7 @@ fn with_proof<'a>(
     None
 }
 
-/// What an array begins with that is two headers and a content.
+/// Returns the first three elements of an array of two headers and a content.
 fn without_proof<'a>(
     alloc: Global,
     form: Form,
@@ -150,9 +154,11 @@ fn without_proof<'a>(
     None
 }
 
-/// What an item begins with that is known to be a message of that kind: one with a single signature, or with a MAC or encrypted
-/// for receivers that know the key. It is given without its tag, and whether it is under that. Its headers are read, and its
-/// content is only looked at. Where there is nothing, it may be a message all the same.
+/// Returns the first three elements of a message, if the item is found to be one of this kind.
+///
+/// The messages found here are `COSE_Sign1`, `COSE_Mac0` and `COSE_Encrypt0`. `item` is without the
+/// message's tag, and `is_tagged` says whether it was under it. The headers are decoded, and the
+/// content isn't copied. If the result is `None`, the item may be a message all the same.
 pub(crate) fn fits<'a>(
     alloc: Global,
     kind: Kind,

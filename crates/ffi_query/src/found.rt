@@ -1,4 +1,4 @@
-//! The item of a kind that bytes are, and what is known of it by then.
+//! Finds the item of a kind that bytes encode, and its first elements.
 
 ghost use Rattle.std.specs.Prelude.{◌≡◌, IfOk, MatchResult};
 ghost use Rattle.coset.specs.Answers.{IsOnlyItem};
@@ -17,21 +17,21 @@ use coset::cbor::de::Pull;
 use coset_codec::traits::whole_item;
 use std::alloc::Global;
 
-/// The item of a kind that bytes are.
+/// An item that was checked to be of a kind.
 #[derive(Clone, Copy)]
 pub(crate) struct Found<'a> {
-    /// The item, without the tag that a message may be under.
+    /// The item, without the tag of a message.
     pub(crate) item: Located<'a>,
-    /// Whether it is under that tag.
+    /// Whether the item is a message under its tag.
     pub(crate) is_tagged: bool,
-    /// What it begins with, where it is an array of three elements or more.
+    /// The first three elements, if the item is an array that has them.
     pub(crate) three: Option<Three<'a>>,
 }
 
-/// The one item that the bytes are.
+/// Returns the one item that the bytes encode.
 ///
 /// # Errors
-/// The same as [`check`].
+/// The errors of [`check`].
 pub(crate) fn whole_of(alloc: Global, kind: Kind, bytes: &[u8]) -> Result<Pull<'_>>
     ensures whole { MatchResult result (λ item. IsOnlyItem bytes.now (pull_item item)) (λ e.
         IsRefused kind bytes.now e) }
@@ -44,10 +44,10 @@ pub(crate) fn whole_of(alloc: Global, kind: Kind, bytes: &[u8]) -> Result<Pull<'
     Ok(whole_item(bytes)?)
 }
 
-/// Checks that bytes which are one item are of that kind.
+/// Checks that bytes, which are one item, are of this kind.
 ///
 /// # Errors
-/// The same as [`check`].
+/// The errors of [`check`].
 fn check_item(alloc: Global, kind: Kind, bytes: &[u8]) -> Result<()>
     ensures { (w : Item) → IsItem bytes.now w → Checks kind bytes.now result }
 {
@@ -57,11 +57,13 @@ fn check_item(alloc: Global, kind: Kind, bytes: &[u8]) -> Result<()>
     }
 }
 
-/// Finds the item of that kind that the bytes are. Whether it is one is found without a copy of its content, where it can be;
-/// else, and for the fault of what is none, it is read whole.
+/// Finds the item of this kind that the bytes encode.
+///
+/// If `fits` finds a message, its content isn't copied. Else the item is decoded whole, which also
+/// finds its fault. A [`Kind::Any`] needs neither.
 ///
 /// # Errors
-/// The same as [`check`].
+/// The errors of [`check`].
 pub(crate) fn find_item(alloc: Global, kind: Kind, bytes: &[u8]) -> Result<Found<'_>>
     ensures { MatchResult result (IsFound kind bytes.now) (λ e. IsRefused kind bytes.now e) }
 {

@@ -1,4 +1,4 @@
-//! The item of a kind that bytes are, lent, and what is at places in it.
+//! The item of a kind that bytes encode, borrowed, and the elements in it.
 
 ghost use Rattle.std.specs.Prelude.{◌≡◌, option_map, IfOk, IfErr, MatchResult};
 ghost use Rattle.coset.specs.CoseError.TheVariants.{OutOfMemory};
@@ -18,10 +18,11 @@ use coset::cbor::ser::write_value;
 use coset::cbor::value::Value;
 use std::alloc::Global;
 
-/// The item of that kind that the bytes are, without the tag that a message may be under, and where it is in them.
+/// Returns the item of this kind that the bytes encode, and its place in them. A message is without
+/// its tag.
 ///
 /// # Errors
-/// The same as [`check`](crate::check).
+/// The errors of [`check`](crate::check).
 pub(crate) fn item_located(alloc: Global, kind: Kind, bytes: &[u8]) -> Result<Located<'_>>
     ensures { MatchResult result
         (λ l. IsItemOf kind bytes.now (located_item l) × IsLocated bytes.now l)
@@ -33,10 +34,10 @@ pub(crate) fn item_located(alloc: Global, kind: Kind, bytes: &[u8]) -> Result<Lo
     }
 }
 
-/// The item of that kind that the bytes are, without the tag that a message may be under.
+/// Returns the item of this kind that the bytes encode. A message is without its tag.
 ///
 /// # Errors
-/// The same as [`check`](crate::check).
+/// The errors of [`check`](crate::check).
 pub(crate) fn item_of(alloc: Global, kind: Kind, bytes: &[u8]) -> Result<Pull<'_>>
     ensures { MatchResult result (λ item. IsItemOf kind bytes.now (pull_item item)) (λ e.
         IsRefused kind bytes.now e) }
@@ -47,7 +48,7 @@ pub(crate) fn item_of(alloc: Global, kind: Kind, bytes: &[u8]) -> Result<Pull<'_
     }
 }
 
-/// The element of that index of an array.
+/// Returns the element of an array at `index`, or `None`.
 pub(crate) fn element(item: Pull<'_>, index: usize) -> Option<Pull<'_>>
     ensures { option_map pull_item result ≡ element index (pull_item item.entry) }
 {
@@ -57,10 +58,11 @@ pub(crate) fn element(item: Pull<'_>, index: usize) -> Option<Pull<'_>>
     }
 }
 
-/// What the element of that index of an array holds, where it is a byte string.
+/// Copies the content of the byte string at `index` of an array. Returns `None` if there is no byte
+/// string.
 ///
 /// # Errors
-/// `OutOfMemory` alone.
+/// `OutOfMemory` if an allocation fails.
 pub(crate) fn bytes_in(alloc: Global, item: Pull<'_>, index: usize) -> Result<Option<Vec<u8>>>
     ensures bytes { IfOk result (λ o. option_map (λ b. b.items) o
         ≡ bytes_in index (pull_item item.entry)) }
@@ -72,7 +74,8 @@ pub(crate) fn bytes_in(alloc: Global, item: Pull<'_>, index: usize) -> Result<Op
     }
 }
 
-/// The signature, recipient or key of that index in an item of that kind, or the element of any array.
+/// Returns the signature, recipient or key at `index` of an item of this kind. For a [`Kind::Any`]
+/// it is an array's element.
 pub(crate) fn member_at(kind: Kind, item: Pull<'_>, index: usize) -> Option<Pull<'_>>
     ensures { option_map pull_item result ≡ member_at kind index (pull_item item.entry) }
 {
@@ -82,10 +85,10 @@ pub(crate) fn member_at(kind: Kind, item: Pull<'_>, index: usize) -> Option<Pull
     }
 }
 
-/// The shortest encoding of a value (RFC 8949, section 4.2.1).
+/// Returns the shortest encoding of a value (RFC 8949, section 4.2.1).
 ///
 /// # Errors
-/// `OutOfMemory` alone.
+/// `OutOfMemory` if an allocation fails.
 pub(crate) fn encoding(alloc: Global, value: &Value) -> Result<Vec<u8>>
     ensures shortest { IfOk result (λ b. IsShortest b.items (value_item value.now)) }
     ensures memory { IfErr result (λ e. e ≡ OutOfMemory) }

@@ -1,4 +1,4 @@
-//! A key of a set by its identifier (RFC 8152, section 7).
+//! Finds a key of a set by its key identifier (RFC 8152, section 7).
 
 ghost use Rattle.std.specs.Prelude.{◌≡◌, IfOk, IfErr, option_map};
 ghost use Rattle.coset.specs.CoseError.TheVariants.{OutOfMemory};
@@ -18,7 +18,7 @@ use coset::cbor::de::{Items, Pull};
 use coset::cbor::value::Value;
 use std::alloc::Global;
 
-/// Whether the value is the byte string that holds these.
+/// Returns true if the value is a byte string with this content.
 fn holds(bytes: &[u8], value: &Value) -> bool
     ensures { result ≡ holds bytes.now (value_item value.now) }
 {
@@ -28,10 +28,10 @@ fn holds(bytes: &[u8], value: &Value) -> bool
     }
 }
 
-/// Whether the key has that identifier: `kid`, label 2.
+/// Returns true if the key has this identifier: `kid`, label 2.
 ///
 /// # Errors
-/// `OutOfMemory` alone.
+/// `OutOfMemory` if an allocation fails.
 fn has_key_id(alloc: Global, key_id: &[u8], key: Pull<'_>) -> Result<bool>
     ensures same { IfOk result (λ b. b ≡ has_key_id key_id.now (pull_item key.entry)) }
     ensures memory { IfErr result (λ e. e ≡ OutOfMemory) }
@@ -42,10 +42,10 @@ fn has_key_id(alloc: Global, key_id: &[u8], key: Pull<'_>) -> Result<bool>
     }
 }
 
-/// The first key that has that identifier.
+/// Returns the first key with this identifier.
 ///
 /// # Errors
-/// `OutOfMemory` alone.
+/// `OutOfMemory` if an allocation fails.
 fn first_key(alloc: Global, key_id: &[u8], keys: Items<'_>) -> Result<Option<Value>>
     ensures value { IfOk result (λ o. option_map value_item o
         ≡ first_key key_id.now (items_left keys.entry)) }
@@ -59,10 +59,10 @@ fn first_key(alloc: Global, key_id: &[u8], keys: Items<'_>) -> Result<Option<Val
     Ok(None)
 }
 
-/// The same of the set that the item is.
+/// Returns the first key of the set with this identifier.
 ///
 /// # Errors
-/// `OutOfMemory` alone.
+/// `OutOfMemory` if an allocation fails.
 fn key_in(alloc: Global, key_id: &[u8], set: Pull<'_>) -> Result<Option<Value>>
     ensures value { IfOk result (λ o. option_map value_item o
         ≡ key_in key_id.now (pull_item set.entry)) }
@@ -74,10 +74,10 @@ fn key_in(alloc: Global, key_id: &[u8], set: Pull<'_>) -> Result<Option<Value>>
     }
 }
 
-/// The shortest encoding of that.
+/// Returns the shortest encoding of the first key of the set with this identifier.
 ///
 /// # Errors
-/// `OutOfMemory` alone.
+/// `OutOfMemory` if an allocation fails.
 fn find_key(alloc: Global, key_id: &[u8], set: Pull<'_>) -> Result<Option<Vec<u8>>>
     ensures found { IfOk result (Finds (λ b. b.items)
         (IsKeyBy key_id.now (pull_item set.entry))) }
@@ -89,13 +89,17 @@ fn find_key(alloc: Global, key_id: &[u8], set: Pull<'_>) -> Result<Option<Vec<u8
     }
 }
 
-/// Writes the first key of the set that the bytes are, a [`Kind::KeySet`], whose identifier is this, to the front of `out`,
-/// as its shortest encoding (RFC 8949, section 4.2.1), and returns the length of that. Other keys may have the same one
-/// (RFC 8152, section 7.1).
+/// Writes the first key with this identifier to the front of `out`, and returns its length.
+///
+/// `bytes` are a [`Kind::KeySet`]. The key is written in its shortest encoding (RFC 8949, section
+/// 4.2.1). Other keys of the set may have the same identifier (RFC 8152, section 7.1).
 ///
 /// # Errors
-/// `Short` where `out` has no room for it; `Absent` where no key has that identifier; `Cose` as [`check`](crate::check)
-/// says. `out` is then as it was.
+/// - `Short` with the length needed, if `out` is too small.
+/// - `Absent` if no key has this identifier.
+/// - `Cose` with an error of [`check`](crate::check).
+///
+/// `out` is then unchanged.
 pub fn key_of(alloc: Global, bytes: &[u8], key_id: &[u8], out: &mut [u8]) -> Result<usize, Refusal>
     ensures { Answers Kind.KeySet bytes.now (IsKeyBy key_id.now) out.old out.new result }
 {

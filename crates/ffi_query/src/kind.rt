@@ -1,4 +1,4 @@
-//! Kinds of items, and whether bytes are an item of one.
+//! Kinds of items, and the check that bytes are an item of one.
 
 ghost use Rattle.std.specs.Prelude.{◌≡◌};
 ghost use Rattle.coset.specs.PerhapsTagged.{perhaps_tagged};
@@ -17,26 +17,26 @@ use std::alloc::Global;
 /// Whether a message is under its tag (RFC 8152, section 2).
 #[derive(Clone, Copy, Debug, PartialEq, Eq)]
 pub enum Form {
-    /// It isn't: `COSE_Untagged_Message`.
+    /// Without its tag: `COSE_Untagged_Message`.
     Plain,
-    /// It is: `COSE_Tagged_Message`.
+    /// Under its tag: `COSE_Tagged_Message`.
     Tagged,
-    /// Either is taken.
+    /// Both are accepted.
     Either,
 }
 
-/// What the bytes should be an item of.
+/// The kind of item that the bytes should be.
 #[derive(Clone, Copy, Debug, PartialEq, Eq)]
 pub enum Kind {
     /// A message with one signature: `COSE_Sign1` (RFC 8152, section 4.2).
     Sign1(Form),
     /// A message with any number of signatures: `COSE_Sign` (RFC 8152, section 4.1).
     Sign(Form),
-    /// A message with a MAC, for receivers that know the key: `COSE_Mac0` (RFC 8152, section 6.2).
+    /// A message with a MAC, whose receivers know the key: `COSE_Mac0` (RFC 8152, section 6.2).
     Mac0(Form),
     /// A message with a MAC and recipients: `COSE_Mac` (RFC 8152, section 6.1).
     Mac(Form),
-    /// An encrypted message, for receivers that know the key: `COSE_Encrypt0` (RFC 8152, section 5.2).
+    /// An encrypted message, whose receivers know the key: `COSE_Encrypt0` (RFC 8152, section 5.2).
     Encrypt0(Form),
     /// An encrypted message with recipients: `COSE_Encrypt` (RFC 8152, section 5.1).
     Encrypt(Form),
@@ -52,15 +52,15 @@ pub enum Kind {
     KeySet,
     /// The claims of a web token (RFC 8392, section 3).
     Claims,
-    /// Any item of CBOR.
+    /// Any data item of CBOR.
     Any,
-    /// What a key is derived for: `COSE_KDF_Context` (RFC 8152, section 11.2).
+    /// The context of a key derivation: `COSE_KDF_Context` (RFC 8152, section 11.2).
     KdfContext,
 }
 
 impl Kind {
-    /// The number of the tag that such a message may be under (RFC 8152, section 2, table 1), in whichever form; `None` of
-    /// all other kinds.
+    /// Returns the number of a message's tag, in every form (RFC 8152, section 2, table 1). Returns
+    /// `None` for all other kinds.
     pub fn tag(self) -> Option<u64>
         ensures { result ≡ tag_of self }
     {
@@ -115,10 +115,12 @@ fn check_message<T: CborSerializable + TaggedCborSerializable + Drop>(
     }
 }
 
-/// Checks that the bytes are an item of that kind.
+/// Checks that the bytes are an item of this kind.
 ///
 /// # Errors
-/// Why they are none: of several faults the one that reading names. Or `OutOfMemory`.
+/// - The reason why they are none. If there are several, it is the one that decoding the type
+///   returns.
+/// - `OutOfMemory` if an allocation fails.
 pub fn check(alloc: Global, kind: Kind, bytes: &[u8]) -> Result<()>
     ensures { Checks kind bytes.now result }
 {

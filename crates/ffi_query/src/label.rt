@@ -1,4 +1,4 @@
-//! The values of labels, in headers, keys and claims.
+//! Finds the values of labels in headers, keys and claims sets.
 
 ghost use Rattle.std.specs.Prelude.{◌≡◌, IfOk, IfErr, option_map};
 ghost use Rattle.coset.specs.CoseError.TheVariants.{OutOfMemory};
@@ -20,14 +20,14 @@ use coset::laws::one_item;
 use coset_codec::traits::whole_item;
 use std::alloc::Global;
 
-/// Which map of an item.
+/// A map of an item.
 #[derive(Clone, Copy, Debug, PartialEq, Eq)]
 pub enum Map {
-    /// The protected header's, of a message, a signature or a recipient (RFC 8152, section 3).
+    /// The protected header of a message, a signature or a recipient (RFC 8152, section 3).
     Protected,
-    /// The unprotected header's.
+    /// The unprotected header of a message, a signature or a recipient.
     Unprotected,
-    /// The item itself: a header, a key or a claims set.
+    /// The item itself: a header, a key, a claims set, or any map.
     Item,
 }
 
@@ -36,14 +36,14 @@ pub enum Map {
 pub enum Label<'a> {
     /// An integer.
     Number(i64),
-    /// A text, as its UTF-8 bytes.
+    /// A text string, as its UTF-8 bytes.
     Text(&'a [u8]),
 }
 
-/// Whether the key is the label.
+/// Returns true if the key is this label.
 ///
 /// # Errors
-/// `OutOfMemory` alone.
+/// `OutOfMemory` if an allocation fails.
 fn is_label(alloc: Global, label: Label<'_>, key: Pull<'_>) -> Result<bool>
     ensures same { IfOk result (λ b. b ≡ is_label (label_view label.entry) (pull_item key.entry)) }
     ensures memory { IfErr result (λ e. e ≡ OutOfMemory) }
@@ -60,10 +60,10 @@ fn is_label(alloc: Global, label: Label<'_>, key: Pull<'_>) -> Result<bool>
     }
 }
 
-/// The value of the first pair whose key is the label.
+/// Returns the value of the first pair whose key is this label.
 ///
 /// # Errors
-/// `OutOfMemory` alone.
+/// `OutOfMemory` if an allocation fails.
 fn value_among(alloc: Global, label: Label<'_>, pairs: Pairs<'_>) -> Result<Option<Value>>
     ensures value { IfOk result (λ o. option_map value_item o
         ≡ first_value (is_label (label_view label.entry)) (pairs_left pairs.entry)) }
@@ -77,10 +77,10 @@ fn value_among(alloc: Global, label: Label<'_>, pairs: Pairs<'_>) -> Result<Opti
     Ok(None)
 }
 
-/// The value that is under the label in a map.
+/// Returns the value under this label in a map.
 ///
 /// # Errors
-/// `OutOfMemory` alone.
+/// `OutOfMemory` if an allocation fails.
 pub(crate) fn value_under(alloc: Global, label: Label<'_>, map: Pull<'_>) -> Result<Option<Value>>
     ensures value { IfOk result (λ o. option_map value_item o
         ≡ value_under (label_view label.entry) (pull_item map.entry)) }
@@ -92,10 +92,10 @@ pub(crate) fn value_under(alloc: Global, label: Label<'_>, map: Pull<'_>) -> Res
     }
 }
 
-/// The value that is under the label in the map that the bytes are.
+/// Returns the value under this label in the map that the bytes encode.
 ///
 /// # Errors
-/// `OutOfMemory` alone.
+/// `OutOfMemory` if an allocation fails.
 fn value_within(alloc: Global, label: Label<'_>, bytes: &[u8]) -> Result<Option<Value>>
     ensures value { IfOk result (Finds value_item (IsUnderIn (label_view label.entry) bytes.now)) }
     ensures memory { IfErr result (λ e. e ≡ OutOfMemory) }
@@ -106,10 +106,11 @@ fn value_within(alloc: Global, label: Label<'_>, bytes: &[u8]) -> Result<Option<
     }
 }
 
-/// The value that is under the label in the protected header of an item that begins with two.
+/// Returns the value under this label in the protected header of an item that begins with two
+/// headers.
 ///
 /// # Errors
-/// `OutOfMemory` alone.
+/// `OutOfMemory` if an allocation fails.
 fn protected_value(alloc: Global, label: Label<'_>, item: Pull<'_>) -> Result<Option<Value>>
     ensures value { IfOk result (Finds value_item
         (IsProtected (label_view label.entry) (bytes_in 0 (pull_item item.entry)))) }
@@ -121,10 +122,11 @@ fn protected_value(alloc: Global, label: Label<'_>, item: Pull<'_>) -> Result<Op
     }
 }
 
-/// The value that is under the label in the unprotected header of an item that begins with two.
+/// Returns the value under this label in the unprotected header of an item that begins with two
+/// headers.
 ///
 /// # Errors
-/// `OutOfMemory` alone.
+/// `OutOfMemory` if an allocation fails.
 fn unprotected_value(alloc: Global, label: Label<'_>, item: Pull<'_>) -> Result<Option<Value>>
     ensures value { IfOk result (λ o. option_map value_item o
         ≡ unprotected_value (label_view label.entry) (pull_item item.entry)) }
@@ -136,10 +138,10 @@ fn unprotected_value(alloc: Global, label: Label<'_>, item: Pull<'_>) -> Result<
     }
 }
 
-/// The value that is under the label in that map of an item of that kind.
+/// Returns the value under this label in this map of the item.
 ///
 /// # Errors
-/// `OutOfMemory` alone.
+/// `OutOfMemory` if an allocation fails.
 pub(crate) fn find_value(
     alloc: Global,
     kind: Kind,
@@ -170,10 +172,10 @@ pub(crate) fn find_value(
     }
 }
 
-/// The shortest encoding of that value.
+/// Returns the shortest encoding of the value under this label in this map of the item.
 ///
 /// # Errors
-/// `OutOfMemory` alone.
+/// `OutOfMemory` if an allocation fails.
 fn find_encoding(
     alloc: Global,
     kind: Kind,
@@ -191,12 +193,17 @@ fn find_encoding(
     }
 }
 
-/// Writes the value that is under the label in that map of the item that the bytes are to the front of `out`, as its
-/// shortest encoding (RFC 8949, section 4.2.1), and returns the length of that.
+/// Writes the value under a label to the front of `out`, and returns its length.
+///
+/// `bytes` are an item of the kind, and `map` says which of its maps is searched. The value is
+/// written in its shortest encoding (RFC 8949, section 4.2.1).
 ///
 /// # Errors
-/// `Short` where `out` has no room for it; `Absent` where the item has no such map, or that no such label; `Cose` as
-/// [`check`](crate::check) says. `out` is then as it was.
+/// - `Short` with the length needed, if `out` is too small.
+/// - `Absent` if the item has no such map, or the map has no such label.
+/// - `Cose` with an error of [`check`](crate::check).
+///
+/// `out` is then unchanged.
 pub fn value_of(
     alloc: Global,
     kind: Kind,
@@ -214,7 +221,7 @@ pub fn value_of(
     }
 }
 
-/// What a byte string or a text string holds.
+/// Returns the content of a byte string or a text string, or `None` for any other value.
 fn string_in(value: Value) -> Option<Vec<u8>>
     ensures { option_map (λ b. b.items) result ≡ string_in (value_item value) }
 {
@@ -225,11 +232,15 @@ fn string_in(value: Value) -> Option<Vec<u8>>
     }
 }
 
-/// Writes what the value that was found holds to the front of `out`, where it is a string, and returns its length.
+/// Writes the content of the string that was found to the front of `out`, and returns its length.
 ///
 /// # Errors
-/// `Short`; `WrongType` where it is no string; `Absent` where none was found; or why nothing is known of it. `out` is then as
-/// it was.
+/// - `Short` with the length needed, if `out` is too small.
+/// - `WrongType` if the value isn't a string.
+/// - `Absent` if no value was found.
+/// - `Cose` with the error that `found` has.
+///
+/// `out` is then unchanged.
 fn write_string(found: Result<Option<Value>>, out: &mut [u8]) -> Result<usize, Refusal>
     ensures { WritesString value_item found out.old out.new result }
 {
@@ -243,10 +254,11 @@ fn write_string(found: Result<Option<Value>>, out: &mut [u8]) -> Result<usize, R
     }
 }
 
-/// What that value holds, where it is a string.
+/// Returns the content of the string under this label in this map of the item. Returns `None` if no
+/// string is there.
 ///
 /// # Errors
-/// `OutOfMemory` alone.
+/// `OutOfMemory` if an allocation fails.
 pub(crate) fn find_string(
     alloc: Global,
     kind: Kind,
@@ -265,11 +277,13 @@ pub(crate) fn find_string(
     }
 }
 
-/// Writes what the byte string or the text string holds that is under the label in that map of the item that the bytes
-/// are to the front of `out`, and returns its length.
+/// Writes the content of the string under a label to the front of `out`, and returns its length.
+///
+/// The value is a byte string or a text string. `bytes` are an item of the kind, and `map` says
+/// which of its maps is searched.
 ///
 /// # Errors
-/// The same as [`value_of`], and `WrongType` where the value is no string.
+/// The errors of [`value_of`], or `WrongType` if the value isn't a string.
 pub fn string_of(
     alloc: Global,
     kind: Kind,
@@ -287,7 +301,7 @@ pub fn string_of(
     }
 }
 
-/// The number of an integer, where it has 64 bits.
+/// Returns the integer that the value is, if it fits in an `i64`.
 pub(crate) fn number_in(value: &Value) -> Option<i64>
     ensures { Finds (λ n. n) (IsNumber (value_item value.now)) result }
 {
@@ -297,11 +311,13 @@ pub(crate) fn number_in(value: &Value) -> Option<i64>
     }
 }
 
-/// The integer that is under the label in that map of the item that the bytes are.
+/// Returns the integer under a label. `bytes` are an item of the kind, and `map` says which of its
+/// maps is searched.
 ///
 /// # Errors
-/// `Absent` where the item has no such map, or that no such label; `WrongType` where the value is no integer of 64 bits;
-/// `Cose` as [`check`](crate::check) says.
+/// - `Absent` if the item has no such map, or the map has no such label.
+/// - `WrongType` if the value isn't an integer, or is outside the range of `i64`.
+/// - `Cose` with an error of [`check`](crate::check).
 pub fn integer_of(
     alloc: Global,
     kind: Kind,

@@ -1,5 +1,7 @@
-//! All that verifying or decrypting a message takes, as parts of the input: of messages without a list of signatures, whose
-//! strings have their lengths announced, and which name no critical labels. Others are read by copies (`view`).
+//! Everything that verifying or decrypting a message takes, borrowed from the input.
+//!
+//! This covers messages without a list of signatures and without `crit`, whose strings have
+//! definite lengths. All other messages are read by copies (`view`).
 
 ghost use Rattle.std.specs.Prelude.{◌≡◌, ◌<◌, ◌+◌, ◌^◌, ◌++◌, ◌∷◌, [], ℕ, ℤ, List, Some, IfOk, IfErr, IfSome, OnOk, false, length};
 ghost use Rattle.std.specs.Option.{option_copied};
@@ -31,7 +33,7 @@ use coset_codec::traits::whole_item;
 use coset_core::structure::{begin_structure, structure_bytes};
 use std::alloc::Global;
 
-/// The headers of a message: what the protected one's byte string holds, the map which that is, and the unprotected one.
+/// A message's headers: the protected bytes, the map encoded in them, and the unprotected map.
 #[derive(Clone, Copy)]
 struct Headers<'a> {
     protected: Text<'a>,
@@ -39,21 +41,21 @@ struct Headers<'a> {
     unprotected: Located<'a>,
 }
 
-/// The identifier of a key, and where it is.
+/// A key identifier, and where it is.
 #[derive(Clone, Copy)]
 struct KeyId<'a> {
     place: KeyIdPlace,
     text: Text<'a>,
 }
 
-/// A structure, but for the content that it ends with, and that.
+/// An encoded structure in two parts. `end` is the content that it ends with, or empty.
 #[derive(Drop)]
 pub(crate) struct Structure<'a> {
     pub(crate) front: Vec<u8>,
     pub(crate) end: &'a [u8],
 }
 
-/// What a message says: a view, the structure, and three texts.
+/// A message's view, its structure, and its three other texts.
 #[derive(Drop)]
 pub(crate) struct Lent<'a> {
     pub(crate) view: MessageView,
@@ -63,7 +65,7 @@ pub(crate) struct Lent<'a> {
     pub(crate) key_id: Text<'a>,
 }
 
-/// The map that a protected header's bytes are; `None` where they are none.
+/// Returns the map encoded in a protected header's bytes, or `None` if they aren't one item.
 pub(crate) fn map_located(protected: Text<'_>) -> Option<Located<'_>>
     ensures map { IsMapOf protected.entry.bytes.now result }
     ensures place { (b : List ℕ) → IsTextIn b protected.entry → IfSome result (IsLocated b) }
@@ -77,7 +79,8 @@ pub(crate) fn map_located(protected: Text<'_>) -> Option<Located<'_>>
     }
 }
 
-/// The headers of an item that begins with these two elements.
+/// Returns the headers that these two elements are. Returns `None` if the protected header's byte
+/// string has indefinite length.
 fn headers_of<'a>(first: Located<'a>, second: Located<'a>) -> Option<Headers<'a>>
     ensures { (b : List ℕ) (v : Item) → IsLocated b first.entry → IsLocated b second.entry
         → element 0 v ≡ Some (located_item first.entry)
@@ -91,7 +94,7 @@ fn headers_of<'a>(first: Located<'a>, second: Located<'a>) -> Option<Headers<'a>
     })
 }
 
-/// What the protected header has under the labels.
+/// Returns the protected header's values under `alg`, `crit` and `kid`.
 fn protected_named(headers: Headers<'_>) -> Named<'_>
     ensures { (b : List ℕ) (v : Item) → AreHeaders b v headers.entry
         → AreNamed b (λ l. IsProtected l (bytes_in 0 v)) result }
@@ -102,7 +105,7 @@ fn protected_named(headers: Headers<'_>) -> Named<'_>
     }
 }
 
-/// What the unprotected header has under the labels.
+/// Returns the unprotected header's values under `alg`, `crit` and `kid`.
 fn unprotected_named(headers: Headers<'_>) -> Named<'_>
     ensures { (b : List ℕ) (v : Item) → AreHeaders b v headers.entry
         → AreNamed b (λ l w. unprotected_value l v ≡ Some w) result }
@@ -110,7 +113,7 @@ fn unprotected_named(headers: Headers<'_>) -> Named<'_>
     named_in(headers.unprotected)
 }
 
-/// The number of an integer, where it has 64 bits.
+/// Returns the integer that the item is, if it fits in an `i64`.
 pub(crate) fn number_of(item: Pull<'_>) -> Option<i64>
     ensures { Finds (λ n. n) (IsNumber (pull_item item.entry)) result }
 {
@@ -120,7 +123,7 @@ pub(crate) fn number_of(item: Pull<'_>) -> Option<i64>
     }
 }
 
-/// The algorithm that is named by that value.
+/// Returns the algorithm that this value names.
 fn algorithm_by(value: Pull<'_>) -> Algorithm
     ensures { IsAlgorithm (pull_item value.entry) result }
 {
@@ -130,7 +133,7 @@ fn algorithm_by(value: Pull<'_>) -> Algorithm
     }
 }
 
-/// The algorithm that the protected header names, by what it has under the labels.
+/// Returns the algorithm that the protected header names.
 fn algorithm_in(protected: &Named<'_>) -> Algorithm
     ensures { (b : List ℕ) (v : Item)
         → AreNamed b (λ l. IsProtected l (bytes_in 0 v)) protected.now
@@ -142,7 +145,8 @@ fn algorithm_in(protected: &Named<'_>) -> Algorithm
     }
 }
 
-/// The identifier of the key, where it is a byte string whose length is announced, or there is none.
+/// Returns the key identifier, from the protected header if that has one. If neither header has
+/// one, it is `nothing`. Returns `None` if it isn't a byte string of definite length.
 fn key_id_in<'a>(
     protected: &Named<'a>,
     unprotected: &Named<'a>,
@@ -178,7 +182,7 @@ fn key_id_in<'a>(
     }
 }
 
-/// Whether a header has `crit`, labels that must be understood.
+/// Returns true if either header has `crit`.
 fn is_critical(protected: &Named<'_>, unprotected: &Named<'_>) -> bool
     ensures { (b : List ℕ) (v : Item)
         → AreNamed b (λ l. IsProtected l (bytes_in 0 v)) protected.now
@@ -191,7 +195,7 @@ fn is_critical(protected: &Named<'_>, unprotected: &Named<'_>) -> bool
     }
 }
 
-/// Nothing, where the rest of the input begins.
+/// Returns an empty text at the front of `rest`.
 fn nothing_at(rest: &[u8]) -> Text<'_>
     ensures bytes { result.bytes.now ≡ [] }
     ensures rest { result.rest.now ≡ rest.now }
@@ -199,7 +203,8 @@ fn nothing_at(rest: &[u8]) -> Text<'_>
     Text { bytes: &[], rest }
 }
 
-/// What the message carries in this place: what a byte string holds whose length is announced, or nothing where it is `nil`.
+/// Returns the content that a message carries in this place, or `nothing` if the place is `nil`.
+/// Returns `None` if the content isn't a byte string of definite length.
 fn carried<'a>(place: Located<'a>, nothing: Text<'a>) -> Option<Text<'a>>
     ensures { (b : List ℕ) → IsLocated b place.entry → IsEmptyIn b nothing.entry
         → IfSome result (λ t. IsCarried (located_item place.entry) t.bytes.now × IsTextIn b t) }
@@ -215,7 +220,8 @@ fn carried<'a>(place: Located<'a>, nothing: Text<'a>) -> Option<Text<'a>>
     }
 }
 
-/// The content that is signed or authenticated: what the message carries, or else what is given where the place is `nil`.
+/// Returns the content that is signed or authenticated: the carried one, or `detached` if the place
+/// is `nil`. Returns `None` if there are both or neither.
 fn signed_content<'a>(
     place: Pull<'a>,
     carried: &'a [u8],
@@ -231,8 +237,8 @@ fn signed_content<'a>(
     }
 }
 
-/// The signature or the tag, where its length is announced, and nothing where items of the kind have none. It is the first of
-/// the elements behind the third.
+/// Returns the signature or the tag, which is the first element after the third. Returns `nothing`
+/// if items of the kind have neither, and `None` if it isn't a byte string of definite length.
 fn proof_located<'a>(kind: Kind, behind: Elements<'a>, nothing: Text<'a>) -> Option<Text<'a>>
     ensures { (b : List ℕ) (v : Item) → IsBehindThree v (elements_left behind.entry)
         → AreElementsIn b behind.entry → IsEmptyIn b nothing.entry
@@ -248,10 +254,10 @@ fn proof_located<'a>(kind: Kind, behind: Elements<'a>, nothing: Text<'a>) -> Opt
     }
 }
 
-/// Appends the shortest head of a byte string of that length.
+/// Appends the shortest head of a byte string of this length.
 ///
 /// # Errors
-/// `OutOfMemory` alone.
+/// `OutOfMemory` if an allocation fails.
 #[tactic(auto, unfolding(coset_cbor::specs::Least::least_head))]
 fn put_bytes_head(out: &mut Vec<u8>, length: usize) -> Result<()>
     ensures ok { OnOk result (out.new.items ≡ out.old.items ++ least_head 2 length) }
@@ -277,13 +283,13 @@ fn put_bytes_head(out: &mut Vec<u8>, length: usize) -> Result<()>
     Ok(())
 }
 
-/// The longest head (RFC 8949, section 3).
+/// The length of the longest head (RFC 8949, section 3).
 const LONGEST_HEAD: usize = 9;
 
-/// The shortest encoding of a structure over a content, but for the content, which ends it.
+/// Returns the shortest encoding of a structure, without the content that ends it.
 ///
 /// # Errors
-/// `OutOfMemory` alone.
+/// `OutOfMemory` if an allocation fails.
 fn front_of(
     alloc: Global,
     context: &str,
@@ -302,10 +308,10 @@ fn front_of(
     Ok(front)
 }
 
-/// The structure over a content.
+/// Encodes the structure over a content, or returns `None` if there is no content.
 ///
 /// # Errors
-/// `OutOfMemory` alone.
+/// `OutOfMemory` if an allocation fails.
 fn over_content<'a>(
     alloc: Global,
     context: &str,
@@ -327,10 +333,10 @@ fn over_content<'a>(
     }
 }
 
-/// The structure that goes with a ciphertext.
+/// Encodes the structure that goes with a ciphertext.
 ///
 /// # Errors
-/// `OutOfMemory` alone.
+/// `OutOfMemory` if an allocation fails.
 fn beside_ciphertext<'a>(
     alloc: Global,
     context: &str,
@@ -346,10 +352,10 @@ fn beside_ciphertext<'a>(
     Ok(Some(Structure { front, end: &[] }))
 }
 
-/// The structure of a message of that kind, by what it holds in its first and its third place.
+/// Encodes the structure of a message of this kind, from its protected bytes and its content.
 ///
 /// # Errors
-/// `OutOfMemory` alone.
+/// `OutOfMemory` if an allocation fails.
 fn structure_lent<'a>(
     alloc: Global,
     kind: Kind,
@@ -372,21 +378,21 @@ fn structure_lent<'a>(
     }
 }
 
-/// How many bytes the two have, where that is a number of the machine's.
+/// Returns the sum of the two lengths, if it fits in a `usize`.
 fn length_of(front: &[u8], end: &[u8]) -> Option<usize>
     ensures { IfSome result (λ n. n ≡ length front.now + length end.now) }
 {
     front.len().checked_add(end.len())
 }
 
-/// What the sum of these is, where it is a number of the machine's.
+/// Returns the sum, if it fits in a `usize`.
 fn sum_of(a: usize, b: usize, c: usize, d: usize) -> Option<usize>
     ensures { IfSome result (λ n. n ≡ a + (b + (c + d))) }
 {
     a.checked_add(b)?.checked_add(c)?.checked_add(d)
 }
 
-/// The algorithm and the texts of a message, beside the structure.
+/// A message's algorithm and its texts, without the structure.
 #[derive(Clone, Copy)]
 struct Texts<'a> {
     protected: Text<'a>,
@@ -397,7 +403,8 @@ struct Texts<'a> {
     signed: Option<&'a [u8]>,
 }
 
-/// The texts of an item of that kind, where each is a part of the input, and no labels are critical.
+/// Returns the texts of an item of this kind, if the input contains each of them and no header has
+/// `crit`.
 fn texts_of<'a>(kind: Kind, found: &Found<'a>, detached: Option<&'a [u8]>) -> Option<Texts<'a>>
     ensures { (b : List ℕ) → IsFound kind b found.now → IfSome result
         (AreTexts kind (option_copied detached.entry) b (located_item found.now.item)) }
@@ -424,10 +431,11 @@ fn texts_of<'a>(kind: Kind, found: &Found<'a>, detached: Option<&'a [u8]>) -> Op
     })
 }
 
-/// What is said of an item of that kind, where all of it is a part of the input.
+/// Returns everything that verifying or decrypting the item takes, if it can be borrowed from the
+/// input.
 ///
 /// # Errors
-/// `OutOfMemory` alone.
+/// `OutOfMemory` if an allocation fails.
 pub(crate) fn find_lent<'a>(
     alloc: Global,
     kind: Kind,

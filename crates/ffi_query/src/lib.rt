@@ -1,13 +1,16 @@
-//! What is asked of bytes that may be an item of COSE, in one call each: whether they are one, the parts of it, the values
-//! of its labels, and what is signed, authenticated or goes with a ciphertext of it; and all that verifying or decrypting a
-//! message takes, in one call.
+//! Questions about bytes that may be an item of COSE, each answered by one call.
 //!
-//! Each call is a function of its input's bytes. It keeps nothing, and what it returns it writes into the caller's memory,
-//! which is left as it was where the answer has no room there, and where there is none. So these are the calls that a
-//! program in another language makes (`ffi_c`), without anything that it would have to free.
+//! The calls tell whether bytes are an item of a kind. They find its parts and the values of its
+//! labels. They write what is signed, what is authenticated, and what goes with a ciphertext. One
+//! call finds everything that verifying or decrypting a message takes.
 //!
-//! A call goes over its input a fixed number of times: it is read as the kind that is named, so that what isn't one is
-//! refused for its own fault, and then the part that is asked for is looked up in the bytes themselves.
+//! Each call is a function of its input's bytes, and keeps nothing. It writes its result into the
+//! caller's memory. That is unchanged if the result doesn't fit, or if there is none. So programs
+//! in other languages can make these calls (`ffi_c`), and have nothing to free.
+//!
+//! A call passes over its input a fixed number of times. It first decodes the input as the kind
+//! that the caller names, so other input is refused for its own fault. Then it looks up the
+//! requested part in the bytes themselves.
 #![tactic(auto)]
 
 mod countersign;

@@ -1,4 +1,5 @@
-//! Parts of the input, lent, each with the bytes from its first one to the end of the input: so it is known where it is.
+//! Borrowed parts of the input. Each comes with the bytes from its first one to the end of the
+//! input, so its place is known.
 
 ghost use Rattle.std.specs.Ordering.{int_eq};
 ghost use Rattle.std.specs.Prelude.{◌≡◌, ⊤, List, ℕ, Bool, IfSome, MatchOption, drop, false, option_map, true, Some};
@@ -17,14 +18,14 @@ use crate::kind::Kind;
 use coset::cbor::de::{Items, Pairs, Pull};
 use coset::cbor::value::Integer;
 
-/// A lent item, and the bytes from its first one to the end of the input.
+/// A borrowed item, and the bytes from its first one to the end of the input.
 #[derive(Clone, Copy)]
 pub(crate) struct Located<'a> {
     pub(crate) item: Pull<'a>,
     pub(crate) rest: &'a [u8],
 }
 
-/// The item, where its own bytes are the input.
+/// Returns the item as if its own bytes were the whole input.
 pub(crate) fn alone(item: Pull<'_>) -> Located<'_>
     ensures { located_item result ≡ pull_item item.entry }
 {
@@ -34,14 +35,14 @@ pub(crate) fn alone(item: Pull<'_>) -> Located<'_>
     }
 }
 
-/// What a lent string holds, and the bytes from the first of that to the end of the input.
+/// The content of a borrowed string, and the bytes from its first one to the end of the input.
 #[derive(Clone, Copy)]
 pub(crate) struct Text<'a> {
     pub(crate) bytes: &'a [u8],
     pub(crate) rest: &'a [u8],
 }
 
-/// The bytes behind so many.
+/// Returns the bytes after the first `count`.
 pub(crate) fn after(bytes: &[u8], count: usize) -> &[u8]
     ensures { result.now ≡ drop count bytes.now }
 {
@@ -52,7 +53,8 @@ pub(crate) fn after(bytes: &[u8], count: usize) -> &[u8]
     rest
 }
 
-/// How many bytes the head takes that is at the front (RFC 8949, section 3), and the opening of an indefinite length.
+/// Returns the length of the head at the front of the bytes (RFC 8949, section 3). The head of an
+/// item of indefinite length has one byte.
 fn head_len(bytes: &[u8]) -> usize
     ensures { result ≡ head_len bytes.now }
 {
@@ -68,7 +70,7 @@ fn head_len(bytes: &[u8]) -> usize
     }
 }
 
-/// What a tag of that number encloses, and any other item as it is; and whether it is under that tag.
+/// Returns the item without a tag of this number, and whether it had that tag.
 fn untagged_located(number: u64, whole: Located<'_>) -> (Located<'_>, bool)
     ensures item { located_item result.0 ≡ without_tag (Some number) (located_item whole.entry) }
     ensures tag { result.1 ≡ is_under number (located_item whole.entry) }
@@ -84,7 +86,8 @@ fn untagged_located(number: u64, whole: Located<'_>) -> (Located<'_>, bool)
     }
 }
 
-/// The item without the tag of that number, where there is a number, and whether it is under that tag.
+/// Returns the item without a tag of this number, if there is a number, and whether it had that
+/// tag.
 pub(crate) fn without_tag_located(number: Option<u64>, whole: Located<'_>) -> (Located<'_>, bool)
     ensures item { located_item result.0 ≡ without_tag number (located_item whole.entry) }
     ensures tag { result.1 ≡ is_under_some number (located_item whole.entry) }
@@ -96,14 +99,15 @@ pub(crate) fn without_tag_located(number: Option<u64>, whole: Located<'_>) -> (L
     }
 }
 
-/// The elements of an array that are still to come, and the bytes from the first of them to the end of the input.
+/// The remaining elements of an array, and the bytes from the first of them to the end of the
+/// input.
 #[derive(Clone, Copy)]
 pub(crate) struct Elements<'a> {
     pub(crate) members: Items<'a>,
     rest: &'a [u8],
 }
 
-/// The elements of an array.
+/// Returns the elements of an array, or `None` for any other item.
 pub(crate) fn elements_located(array: Located<'_>) -> Option<Elements<'_>>
     ensures elements { option_map elements_left result ≡ as_array (located_item array.entry) }
     ensures place { (b : List ℕ) → IsLocated b array.entry → IfSome result (AreElementsIn b) }
@@ -117,7 +121,7 @@ pub(crate) fn elements_located(array: Located<'_>) -> Option<Elements<'_>>
     }
 }
 
-/// The first of the elements that are still to come, and those behind it.
+/// Returns the first of the remaining elements, and the elements after it.
 pub(crate) fn next_located(elements: Elements<'_>) -> Option<(Located<'_>, Elements<'_>)>
     ensures element { MatchOption result (elements_left elements.entry ≡ no_items)
         (λ x. elements_left elements.entry ≡ item (located_item x.0) (elements_left x.1)) }
@@ -136,7 +140,7 @@ pub(crate) fn next_located(elements: Elements<'_>) -> Option<(Located<'_>, Eleme
     }
 }
 
-/// The element of that index of those that are still to come.
+/// Returns the remaining element at `index`.
 fn nth_located(elements: Elements<'_>, index: usize) -> Option<Located<'_>>
     ensures element { option_map located_item result ≡ nth index (elements_left elements.entry) }
     ensures place { (b : List ℕ) → AreElementsIn b elements.entry
@@ -155,7 +159,7 @@ fn nth_located(elements: Elements<'_>, index: usize) -> Option<Located<'_>>
     None
 }
 
-/// The element of that index of an array.
+/// Returns the element of an array at `index`.
 pub(crate) fn element_located(array: Located<'_>, index: usize) -> Option<Located<'_>>
     ensures element { option_map located_item result
         ≡ element index (located_item array.entry) }
@@ -167,7 +171,7 @@ pub(crate) fn element_located(array: Located<'_>, index: usize) -> Option<Locate
     }
 }
 
-/// The elements of the element of that index, where that is an array.
+/// Returns the elements of the nested array at `index`.
 fn array_located(array: Located<'_>, index: usize) -> Option<Elements<'_>>
     ensures elements { option_map elements_left result
         ≡ array_in index (located_item array.entry) }
@@ -179,7 +183,8 @@ fn array_located(array: Located<'_>, index: usize) -> Option<Elements<'_>>
     }
 }
 
-/// The signatures, recipients or keys of an item of that kind, or the elements of any array.
+/// Returns the signatures, recipients or keys of an item of this kind. For a [`Kind::Any`] they are
+/// an array's elements.
 pub(crate) fn members_located(kind: Kind, item: Located<'_>) -> Option<Elements<'_>>
     ensures members { option_map elements_left result
         ≡ members kind (located_item item.entry) }
@@ -195,7 +200,8 @@ pub(crate) fn members_located(kind: Kind, item: Located<'_>) -> Option<Elements<
     }
 }
 
-/// The signature, recipient or key of that index in an item of that kind, or the element of any array.
+/// Returns the signature, recipient or key at `index` of an item of this kind. For a [`Kind::Any`]
+/// it is an array's element.
 pub(crate) fn member_located(kind: Kind, item: Located<'_>, index: usize) -> Option<Located<'_>>
     ensures member { option_map located_item result
         ≡ member_at kind index (located_item item.entry) }
@@ -214,7 +220,7 @@ pub(crate) struct Entries<'a> {
     pub(crate) rest: &'a [u8],
 }
 
-/// The pairs of a map.
+/// Returns the pairs of a map, or `None` for any other item.
 pub(crate) fn entries_located(map: Located<'_>) -> Option<Entries<'_>>
     ensures entries { option_map entries_left result ≡ as_map (located_item map.entry) }
     ensures place { (b : List ℕ) → IsLocated b map.entry → IfSome result (AreEntriesIn b) }
@@ -228,7 +234,7 @@ pub(crate) fn entries_located(map: Located<'_>) -> Option<Entries<'_>>
     }
 }
 
-/// The pair of that index.
+/// Returns the key and the value of the pair at `index`.
 fn nth_pair_located(entries: Entries<'_>, index: usize) -> Option<(Located<'_>, Located<'_>)>
     ensures pair { option_map (λ p. (located_item p.0, located_item p.1)) result
         ≡ nth_pair index (entries_left entries.entry) }
@@ -254,7 +260,7 @@ fn nth_pair_located(entries: Entries<'_>, index: usize) -> Option<(Located<'_>, 
     None
 }
 
-/// The pair of that index of a map: its key, and its value.
+/// Returns the key and the value of a map's pair at `index`.
 pub(crate) fn pair_located(map: Located<'_>, index: usize) -> Option<(Located<'_>, Located<'_>)>
     ensures pair { option_map (λ p. (located_item p.0, located_item p.1)) result
         ≡ pair_in index (located_item map.entry) }
@@ -267,7 +273,7 @@ pub(crate) fn pair_located(map: Located<'_>, index: usize) -> Option<(Located<'_
     }
 }
 
-/// Whether a key is that label, by the number that it is.
+/// Returns true if the key is the integer `label`.
 pub(crate) fn is_number(key: &Option<Integer>, label: i64) -> bool
     ensures { result ≡ is_same int_eq key.now label }
 {
@@ -277,7 +283,7 @@ pub(crate) fn is_number(key: &Option<Integer>, label: i64) -> bool
     }
 }
 
-/// The value of the first pair whose key is that label.
+/// Returns the value of the first pair whose key is this label.
 fn value_among(entries: Entries<'_>, label: i64) -> Option<Located<'_>>
     ensures value { option_map located_item result
         ≡ first_value (is_label (number label)) (entries_left entries.entry) }
@@ -299,7 +305,7 @@ fn value_among(entries: Entries<'_>, label: i64) -> Option<Located<'_>>
     None
 }
 
-/// The value that is under an integer label in a map.
+/// Returns the value under an integer label in a map.
 pub(crate) fn value_located(map: Located<'_>, label: i64) -> Option<Located<'_>>
     ensures value { option_map located_item result
         ≡ value_under (number label) (located_item map.entry) }
@@ -311,7 +317,8 @@ pub(crate) fn value_located(map: Located<'_>, label: i64) -> Option<Located<'_>>
     }
 }
 
-/// Whether the bytes open a string of indefinite length, a text or a byte string (RFC 8949, section 3.2.3).
+/// Returns true if the bytes begin a string of indefinite length (RFC 8949, section 3.2.3). The
+/// string is a text string if `is_text` is true, else a byte string.
 pub(crate) fn opens_chunks(is_text: bool, bytes: &[u8]) -> bool
     ensures { result ≡ opens_chunks is_text bytes.now }
 {
@@ -321,7 +328,7 @@ pub(crate) fn opens_chunks(is_text: bool, bytes: &[u8]) -> bool
     }
 }
 
-/// What a byte string holds whose length is announced: its one chunk.
+/// Returns the content of a byte string of definite length, which is its only chunk.
 fn only_bytes(item: Pull<'_>) -> Option<&[u8]>
     ensures { MatchOption result (IsNoString false (pull_bytes item.entry) (pull_item item.entry))
         (IsContentOf false (pull_bytes item.entry) (pull_item item.entry)) }
@@ -333,7 +340,7 @@ fn only_bytes(item: Pull<'_>) -> Option<&[u8]>
     chunks.next()
 }
 
-/// What a text string holds whose length is announced, as UTF-8.
+/// Returns the UTF-8 content of a text string of definite length.
 fn only_text(item: Pull<'_>) -> Option<&[u8]>
     ensures { MatchOption result (IsNoString true (pull_bytes item.entry) (pull_item item.entry))
         (IsContentOf true (pull_bytes item.entry) (pull_item item.entry)) }
@@ -348,7 +355,7 @@ fn only_text(item: Pull<'_>) -> Option<&[u8]>
     }
 }
 
-/// What a string holds, which its bytes end with.
+/// Returns the content with its place, which is the end of the string's bytes.
 fn ending<'a>(string: Located<'a>, content: &'a [u8]) -> Text<'a>
     ensures bytes { result.bytes.now ≡ content.now }
     ensures place { (b : List ℕ) (t : Bool) → IsLocated b string.entry
@@ -363,7 +370,7 @@ fn ending<'a>(string: Located<'a>, content: &'a [u8]) -> Text<'a>
     }
 }
 
-/// What a byte string holds whose length is announced; `None` of any other item.
+/// Returns the content of a byte string of definite length, or `None` for any other item.
 pub(crate) fn bytes_located(string: Located<'_>) -> Option<Text<'_>>
     ensures bytes { IfSome result (λ t.
         as_bytes (located_item string.entry) ≡ Some t.bytes.now) }
@@ -377,7 +384,8 @@ pub(crate) fn bytes_located(string: Located<'_>) -> Option<Text<'_>>
     }
 }
 
-/// What a byte string or a text string holds whose length is announced; `None` of any other item.
+/// Returns the content of a byte string or text string of definite length, or `None` for any other
+/// item.
 pub(crate) fn string_located(string: Located<'_>) -> Option<Text<'_>>
     ensures bytes { MatchOption result
         (IsNoContent (pull_bytes string.entry.item) (located_item string.entry))

@@ -1,4 +1,5 @@
-//! All that verifying or decrypting a message takes (RFC 8152, sections 4 to 6), in one call.
+//! Everything that verifying or decrypting a message takes (RFC 8152, sections 4 to 6), in one
+//! call.
 
 ghost use Rattle.std.specs.Prelude.{◌++◌, length};
 ghost use Rattle.std.specs.Option.{option_copied};
@@ -14,10 +15,14 @@ use crate::view::{MessageView, view_of};
 use crate::written::put_texts;
 use std::alloc::Global;
 
-/// Writes the four texts, the first of which is in two parts, to the front of `out`, and returns how many bytes they have together.
+/// Writes the four texts to the front of `out`, and returns their total length. The first text is
+/// in two parts.
 ///
 /// # Errors
-/// `Short` where `out` has no room for them: it is then as it was.
+/// - `Short` with the length needed, if `out` is too small.
+/// - `Cose` with `OutOfMemory` if the length doesn't fit in a `usize`.
+///
+/// `out` is then unchanged.
 fn put_four(
     front: &[u8],
     end: &[u8],
@@ -35,7 +40,10 @@ fn put_four(
 /// Writes the four texts to the front of `out`, and returns the view.
 ///
 /// # Errors
-/// `Short` where `out` has no room for them: it is then as it was.
+/// - `Short` with the length needed, if `out` is too small.
+/// - `Cose` with `OutOfMemory` if the length doesn't fit in a `usize`.
+///
+/// `out` is then unchanged.
 fn put_view(lent: &Lent<'_>, out: &mut [u8]) -> Result<MessageView, Refusal>
     ensures { PutsTexts lent.now.view (lent_text lent.now) out.old out.new result }
 {
@@ -47,24 +55,40 @@ fn put_view(lent: &Lent<'_>, out: &mut [u8]) -> Result<MessageView, Refusal>
     }
 }
 
-/// Writes all that verifying or decrypting a message of that kind takes: writes four texts to the front of `out`, one behind
-/// the other, and returns their lengths, with the algorithm, where the key's identifier is, what there is of `crit`, and
-/// whether the message is under its tag. The texts are what is signed, authenticated, or goes with the ciphertext, as
-/// [`structure_of`](crate::structure_of) writes it; the signature or the tag, and nothing of an encrypted message; the
-/// payload or the ciphertext that the message carries; and the identifier of the key. Of a [`Kind::Sign`] the signer of that
-/// index, counted from 0, has signed, and names the algorithm and the key; other kinds have no use for `index`.
+/// Writes everything that verifying or decrypting a message takes to the front of `out`, and
+/// returns the message's view.
 ///
-/// What is signed or authenticated is over the payload that the message carries, where `detached` is `None`; and over
-/// `detached`, where the payload is `nil`, so that it is detached: the third text is then empty.
+/// Four texts are written, one after another:
+/// - the bytes that are signed, authenticated, or go with the ciphertext, as
+///   [`structure_of`](crate::structure_of) writes them,
+/// - the signature or the tag, or nothing for an encrypted message,
+/// - the payload or ciphertext that the message carries,
+/// - the key identifier.
 ///
-/// The key is one that you trust, and the algorithm one that you allow for it: the message only names them. `known` are the
-/// critical labels that you understand. Refuse a message that names others.
+/// The view has their lengths, the algorithm, and the header that has the key identifier. It says
+/// whether there is `crit`, whether the caller understands it, and whether the message is under its
+/// tag.
+///
+/// For a [`Kind::Sign`] the structure, the algorithm and the key are those of the signer at
+/// `index`, counted from 0. Other kinds ignore `index`.
+///
+/// If `detached` is `None`, the payload that is signed or authenticated is the one that the message
+/// carries. Else the payload is `detached`, the message must carry `nil`, and the third text is
+/// empty. Encrypted messages ignore `detached`.
+///
+/// The message only names its key and its algorithm. Use a key that you trust, and an algorithm
+/// that you allow for it. `known` are the critical labels that you understand. Refuse a message
+/// that names others.
 ///
 /// # Errors
-/// `Short` where `out` has no room for the four, with the length that they have together; `Misuse` where the message carries
-/// a payload and another is given; `Absent` where items of the kind have no structure, where there are no more than `index`
-/// signers, and where the message carries no payload and none is given; `Cose` as [`check`](crate::check) says. `out` is then
-/// as it was.
+/// - `Short` with the total length of the four texts, if `out` is too small.
+/// - `Misuse` if the message carries a payload and `detached` gives another.
+/// - `Absent` if items of the kind have no structure, or if a [`Kind::Sign`] has no signer at
+///   `index`.
+/// - `Absent` if the message carries no payload and `detached` is `None`.
+/// - `Cose` with an error of [`check`](crate::check).
+///
+/// `out` is then unchanged.
 pub fn message_view(
     alloc: Global,
     kind: Kind,

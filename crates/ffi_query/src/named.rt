@@ -1,4 +1,5 @@
-//! What a header has under the labels `alg`, `crit` and `kid` (RFC 8152, section 3.1), found in one walk over its pairs.
+//! The values under the labels `alg`, `crit` and `kid` in a header (RFC 8152, section 3.1), found
+//! in one walk over its pairs.
 
 ghost use Rattle.std.specs.Option.{option_or};
 ghost use Rattle.std.specs.Prelude.{◌≡◌, List, ℕ, IfSome, None, option_map};
@@ -10,7 +11,7 @@ ghost use Rattle.ffi_query.specs.View.{alg_label, kid_label};
 
 use crate::located::{Entries, Located, after, entries_located, is_number};
 
-/// The values under the three labels, each that of the first pair which has the label.
+/// The values under the three labels. Each is from the first pair with that label.
 #[derive(Clone, Copy)]
 pub(crate) struct Named<'a> {
     pub(crate) algorithm: Option<Located<'a>>,
@@ -18,7 +19,7 @@ pub(crate) struct Named<'a> {
     pub(crate) key_id: Option<Located<'a>>,
 }
 
-/// What was found so far; or else the value, where its key is the label.
+/// Returns `found`, or else `value` if its key is the label.
 fn first_of<'a>(
     found: Option<Located<'a>>,
     is_label: bool,
@@ -36,7 +37,7 @@ fn first_of<'a>(
     }
 }
 
-/// The values under the labels among these pairs.
+/// Returns the values under the three labels among these pairs.
 fn named_among(entries: Entries<'_>) -> Named<'_>
     ensures algorithm { option_map located_item result.algorithm
         ≡ first_value (is_label alg_label) (entries_left entries.entry) }
@@ -69,7 +70,7 @@ fn named_among(entries: Entries<'_>) -> Named<'_>
     }
 }
 
-/// The values under the labels in a map; nothing of any other item.
+/// Returns the values under the three labels in a map. Any other item has none.
 pub(crate) fn named_in(map: Located<'_>) -> Named<'_>
     ensures algorithm { option_map located_item result.algorithm
         ≡ value_under alg_label (located_item map.entry) }
@@ -86,7 +87,7 @@ pub(crate) fn named_in(map: Located<'_>) -> Named<'_>
     }
 }
 
-/// Nothing.
+/// Returns no value for any of the labels.
 pub(crate) fn nothing_named<'a>() -> Named<'a>
     ensures algorithm { option_map located_item result.algorithm ≡ None }
     ensures critical { option_map located_item result.critical ≡ None }

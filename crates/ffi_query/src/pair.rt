@@ -1,4 +1,4 @@
-//! The pairs of a map by their index.
+//! Finds the pairs of a map by index.
 
 ghost use Rattle.std.specs.Prelude.{◌≡◌, IfOk, IfErr};
 ghost use Rattle.coset.specs.CoseError.TheVariants.{OutOfMemory};
@@ -15,7 +15,7 @@ use coset::Result;
 use coset::cbor::de::Pull;
 use std::alloc::Global;
 
-/// Which half of a pair.
+/// A half of a map's pair.
 #[derive(Clone, Copy, Debug, PartialEq, Eq)]
 pub enum Half {
     /// The key.
@@ -24,7 +24,7 @@ pub enum Half {
     Value,
 }
 
-/// That half of a pair.
+/// Returns this half of a pair.
 fn half_of<'a>(half: Half, key: Pull<'a>, value: Pull<'a>) -> Pull<'a>
     ensures { pull_item result ≡ half_of half (pull_item key.entry, pull_item value.entry) }
 {
@@ -34,10 +34,10 @@ fn half_of<'a>(half: Half, key: Pull<'a>, value: Pull<'a>) -> Pull<'a>
     }
 }
 
-/// The shortest encoding of that half of the pair of that index.
+/// Returns the shortest encoding of this half of the pair at `index`.
 ///
 /// # Errors
-/// `OutOfMemory` alone.
+/// `OutOfMemory` if an allocation fails.
 fn find_half(alloc: Global, half: Half, item: Pull<'_>, index: usize) -> Result<Option<Vec<u8>>>
     ensures found { IfOk result (Finds (λ b. b.items)
         (IsHalf half index (pull_item item.entry))) }
@@ -52,12 +52,17 @@ fn find_half(alloc: Global, half: Half, item: Pull<'_>, index: usize) -> Result<
     }
 }
 
-/// Writes the key or the value of the pair of that index, counted from 0, of the map that the bytes are to the front of
-/// `out`, as its shortest encoding (RFC 8949, section 4.2.1), and returns the length of that.
+/// Writes the key or the value of a map's pair to the front of `out`, and returns its length.
+///
+/// `index` counts the pairs from 0. The key or value is written in its shortest encoding (RFC 8949,
+/// section 4.2.1).
 ///
 /// # Errors
-/// `Short` where `out` has no room for it; `Absent` where the item is no map, or has no more than `index` pairs; `Cose` as
-/// [`check`](crate::check) says. `out` is then as it was.
+/// - `Short` with the length needed, if `out` is too small.
+/// - `Absent` if the item isn't a map, or has no pair at `index`.
+/// - `Cose` with an error of [`check`](crate::check).
+///
+/// `out` is then unchanged.
 pub fn pair_of(
     alloc: Global,
     kind: Kind,

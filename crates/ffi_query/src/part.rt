@@ -1,4 +1,4 @@
-//! The parts of an item.
+//! The parts of an item: its byte strings, and the elements of its list.
 
 ghost use Rattle.std.specs.Prelude.{◌≡◌, IfOk, IfErr};
 ghost use Rattle.coset.specs.CoseError.TheVariants.{OutOfMemory};
@@ -20,18 +20,19 @@ use std::alloc::Global;
 /// A part of an item that is a byte string.
 #[derive(Clone, Copy, Debug, PartialEq, Eq)]
 pub enum Part {
-    /// What the byte string of the protected header holds (RFC 8152, section 3), as it was received.
+    /// The content of the protected header's byte string (RFC 8152, section 3), as received.
     Protected,
-    /// The payload of a message that is signed or has a MAC, unless it is detached.
+    /// The payload of a message with signatures or a MAC, unless it is detached.
     Payload,
     /// The ciphertext of an encrypted message or of a recipient, unless it is detached.
     Ciphertext,
-    /// The signature of a `COSE_Sign1` or a `COSE_Signature`, or the tag of a `COSE_Mac0` or a `COSE_Mac`.
+    /// The signature of a `COSE_Sign1` or a `COSE_Signature`, or the tag of a `COSE_Mac0` or a
+    /// `COSE_Mac`.
     Proof,
 }
 
 impl Kind {
-    /// Whether its items begin with two headers (RFC 8152, section 3).
+    /// Returns true if items of this kind begin with two headers (RFC 8152, section 3).
     pub fn has_headers(self) -> bool
         ensures { result ≡ has_headers self }
     {
@@ -41,7 +42,7 @@ impl Kind {
         )
     }
 
-    /// Which element of an item's array the part is.
+    /// Returns the part's index in the item's array, or `None` if items of this kind don't have it.
     pub(crate) fn place_of(self, part: Part) -> Option<usize>
         ensures { result ≡ place_of part self }
     {
@@ -64,10 +65,10 @@ impl Kind {
     }
 }
 
-/// The part of an item of that kind.
+/// Returns the part of an item of this kind, or `None` if the item doesn't have it.
 ///
 /// # Errors
-/// `OutOfMemory` alone.
+/// `OutOfMemory` if an allocation fails.
 pub(crate) fn find_part(
     alloc: Global,
     kind: Kind,
@@ -83,10 +84,11 @@ pub(crate) fn find_part(
     }
 }
 
-/// The shortest encoding of the signature, recipient or key of that index in an item of that kind.
+/// Returns the shortest encoding of the signature, recipient, key or element at `index` of an item
+/// of this kind.
 ///
 /// # Errors
-/// `OutOfMemory` alone.
+/// `OutOfMemory` if an allocation fails.
 fn find_member(alloc: Global, kind: Kind, item: Pull<'_>, index: usize) -> Result<Option<Vec<u8>>>
     ensures found { IfOk result (Finds (λ b. b.items)
         (IsMember kind index (pull_item item.entry))) }
@@ -101,11 +103,14 @@ fn find_member(alloc: Global, kind: Kind, item: Pull<'_>, index: usize) -> Resul
     }
 }
 
-/// Writes the part of the item that the bytes are to the front of `out`, and returns its length.
+/// Writes a part of the item that the bytes encode to the front of `out`, and returns its length.
 ///
 /// # Errors
-/// `Short` where `out` has no room for it; `Absent` where the kind has no such part, or where it is detached; `Cose` as
-/// [`check`](crate::check) says. `out` is then as it was.
+/// - `Short` with the length needed, if `out` is too small.
+/// - `Absent` if items of the kind have no such part, or if it is detached.
+/// - `Cose` with an error of [`check`](crate::check).
+///
+/// `out` is then unchanged.
 pub fn part_of(
     alloc: Global,
     kind: Kind,
@@ -121,13 +126,18 @@ pub fn part_of(
     }
 }
 
-/// Writes the signature, recipient or key of that index, counted from 0, to the front of `out`, as its shortest encoding
-/// (RFC 8949, section 4.2.1), and returns the length of that: a [`Kind::Signature`], [`Kind::Recipient`] or [`Kind::Key`].
-/// Of a [`Kind::Any`] it is the element of an array.
+/// Writes the signature, recipient or key at `index` to the front of `out`, and returns its length.
+///
+/// `index` counts from 0. The result is a [`Kind::Signature`], [`Kind::Recipient`] or [`Kind::Key`]
+/// in its shortest encoding (RFC 8949, section 4.2.1). For a [`Kind::Any`] it is an element of an
+/// array.
 ///
 /// # Errors
-/// `Short` where `out` has no room for it; `Absent` where there are no more than `index`; `Cose` as
-/// [`check`](crate::check) says. `out` is then as it was.
+/// - `Short` with the length needed, if `out` is too small.
+/// - `Absent` if there is none at `index`.
+/// - `Cose` with an error of [`check`](crate::check).
+///
+/// `out` is then unchanged.
 pub fn member_of(
     alloc: Global,
     kind: Kind,
@@ -143,10 +153,10 @@ pub fn member_of(
     }
 }
 
-/// How many elements there are.
+/// Returns the number of elements.
 ///
 /// # Errors
-/// `OutOfMemory`, where they are more than any memory holds.
+/// `OutOfMemory` if the number doesn't fit in a `usize`.
 fn count_members(members: Items<'_>) -> Result<usize>
     ensures count { IfOk result (λ n. n ≡ items_count (items_left members.entry)) }
     ensures memory { IfErr result (λ e. e ≡ OutOfMemory) }
@@ -161,12 +171,14 @@ fn count_members(members: Items<'_>) -> Result<usize>
     Ok(count)
 }
 
-/// How many signatures, recipients, keys or elements the item has that the bytes are: one or more. An empty list is refused, so that
-/// who verifies each of them has verified one.
+/// Returns the number of signatures, recipients, keys or elements of an item, which is at least 1.
+///
+/// An empty list is an error. So a caller that verifies each signature has verified at least one.
 ///
 /// # Errors
-/// `Absent` where items of the kind have none, or where a recipient has no list of others; `Empty` where the list is empty;
-/// `Cose` as [`check`](crate::check) says.
+/// - `Absent` if the item has no such list. This includes a recipient without nested recipients.
+/// - `Empty` if the list is empty.
+/// - `Cose` with an error of [`check`](crate::check).
 pub fn count_of(alloc: Global, kind: Kind, bytes: &[u8]) -> Result<usize, Refusal>
     ensures { AnswersNumber kind bytes.now (IsPositiveCount kind) (HasNoCount kind) result }
 {

@@ -1,4 +1,4 @@
-//! Why a call has no answer.
+//! The reasons why calls fail.
 
 ghost use Rattle.std.specs.Prelude.{◌≡◌};
 ghost use Rattle.ffi_query.specs.Status.{cose_status, decoding_status, refusal_status};
@@ -6,60 +6,62 @@ ghost use Rattle.ffi_query.specs.Status.{cose_status, decoding_status, refusal_s
 use coset::cbor::de;
 use coset::{CoseError, EndOfFile};
 
-/// Why a call has no answer.
+/// The reason why a call failed.
 #[derive(Debug, Drop)]
 pub enum Refusal {
-    /// The answer is longer than the memory for it: so many bytes long.
+    /// The result is longer than the memory for it. This is the result's length.
     Short(usize),
-    /// The bytes are of the kind, and what is asked for isn't in them.
+    /// The bytes are of the kind, and don't have the requested part.
     Absent,
-    /// What is asked for is in them, and is of another kind: no string, or no integer of 64 bits.
+    /// The bytes have the requested value, but it isn't a string, or isn't an integer in the range
+    /// of `i64`.
     WrongType,
-    /// The list that is counted is empty.
+    /// The counted list is empty.
     Empty,
-    /// A payload is given as detached, and the message carries one.
+    /// A payload is given as detached, and the message carries one too.
     Misuse,
-    /// The bytes aren't of the kind, for this fault; or a request for memory was refused.
+    /// The bytes aren't of the kind, because of this fault; or an allocation failed.
     Cose(CoseError),
 }
 
-/// A refusal in one word.
+/// A refusal without its details.
 #[derive(Clone, Copy, Debug, PartialEq, Eq)]
 pub enum Status {
-    /// The answer is longer than the memory for it.
+    /// The result is longer than the memory for it.
     Short,
-    /// A request for memory was refused.
+    /// An allocation failed.
     Memory,
-    /// The bytes end before the item does (RFC 8949, section 5.3).
+    /// The bytes end before the item does (RFC 8949, appendix F).
     Ends,
-    /// They aren't well-formed, a text isn't UTF-8, or a simple value has no meaning here.
+    /// The bytes aren't well-formed, a text string isn't UTF-8, or a simple value isn't supported.
     Malformed,
     /// Arrays, maps and tags nest more than 256 levels deep.
     Deep,
     /// Bytes follow the item.
     Extraneous,
-    /// An item isn't as its place asks.
+    /// An item isn't what its place requires.
     Unexpected,
-    /// Two keys of a map are one label (RFC 8152, section 3).
+    /// Two keys of a map are the same label (RFC 8152, section 3).
     Duplicate,
-    /// An integer lies outside the range of its place.
+    /// An integer is outside the range of its place.
     OutOfRange,
-    /// An integer without a name, in a registry without a private range.
+    /// An integer isn't registered, and its registry has no private range.
     Unregistered,
-    /// An integer without a name and outside the private range of its registry.
+    /// An integer isn't registered, and is outside its registry's private range.
     NotPrivate,
-    /// What is asked for isn't there.
+    /// The requested part isn't there.
     Absent,
-    /// It is there, and of another kind.
+    /// The requested value is of another type.
     WrongType,
-    /// The list that is counted is empty.
+    /// The counted list is empty.
     Empty,
-    /// A payload is given as detached, and the message carries one.
+    /// A payload is given as detached, and the message carries one too.
     Misuse,
 }
 
 impl Refusal {
-    /// The refusal in one word. Of a fault in a byte string that holds a header it is the fault's there.
+    /// Returns the refusal's status. A fault in a header's byte string has the same status as the
+    /// fault elsewhere.
     pub fn status(&self) -> Status
         ensures { result ≡ refusal_status self.now }
     {
@@ -74,7 +76,7 @@ impl Refusal {
     }
 }
 
-/// An error in one word.
+/// Returns the status of an error.
 fn cose_status(error: &CoseError) -> Status
     ensures { result ≡ cose_status error.now }
 {
@@ -91,7 +93,7 @@ fn cose_status(error: &CoseError) -> Status
     }
 }
 
-/// A fault of bytes in one word.
+/// Returns the status of a CBOR decoding error.
 fn decoding_status(error: &de::Error<EndOfFile>) -> Status
     ensures { result ≡ decoding_status error.now }
 {

@@ -1,5 +1,5 @@
-//! All that verifying or decrypting a message takes, where what the message itself holds stays where it is: texts are named by
-//! their places.
+//! Everything that verifying or decrypting a message takes, without a copy of the message's own
+//! texts. These are given by their places.
 
 ghost use Rattle.std.specs.Prelude.{◌≡◌, ◌++◌, length, true};
 ghost use Rattle.std.specs.Option.{option_copied};
@@ -19,31 +19,32 @@ use crate::view::{MessageView, view_of};
 use crate::written::put_texts;
 use std::alloc::Global;
 
-/// Where a text begins.
+/// The place where a text begins.
 #[derive(Clone, Copy, Debug, PartialEq, Eq)]
 pub struct Start {
-    /// Whether it is in the input; else it is in what was written.
+    /// Whether the text is in the input. Otherwise it is in the bytes that were written.
     pub is_input: bool,
-    /// How many bytes are before it there.
+    /// The offset of the text's first byte there.
     pub at: usize,
 }
 
-/// What [`message_spans`] says of a message, beside the structure.
+/// The result of [`message_spans`], besides the structure.
 #[derive(Clone, Copy, Debug, PartialEq, Eq)]
 pub struct MessageSpans {
-    /// What [`message_view`](crate::message_view) says: how long the texts are, and all else. Its `len` is the length of the four.
+    /// The view that [`message_view`](crate::message_view) returns. Its `len` is the total length
+    /// of the four texts.
     pub view: MessageView,
-    /// Where the signature or the tag is.
+    /// The place of the signature or the tag.
     pub proof: Start,
-    /// Where the payload or the ciphertext is that the message carries.
+    /// The place of the payload or ciphertext that the message carries.
     pub content: Start,
-    /// Where the identifier of the key is.
+    /// The place of the key identifier.
     pub key_id: Start,
-    /// How many bytes were written.
+    /// The number of bytes that were written.
     pub len: usize,
 }
 
-/// Where a text of the input begins.
+/// Returns the place where a text of the input begins.
 fn start_of(text: Text<'_>, input: &[u8]) -> Start
     ensures input { result.is_input ≡ true }
     ensures at { IsTextIn input.now text.entry → IsAt input.now result.at text.entry.bytes.now }
@@ -54,17 +55,20 @@ fn start_of(text: Text<'_>, input: &[u8]) -> Start
     }
 }
 
-/// Writes a structure, which is in two parts, to the front of `out`, and returns how many bytes it has.
+/// Writes a structure to the front of `out`, and returns its length. The structure is in two parts.
 ///
 /// # Errors
-/// `Short` where `out` has no room for it: it is then as it was.
+/// - `Short` with the length needed, if `out` is too small.
+/// - `Cose` with `OutOfMemory` if the length doesn't fit in a `usize`.
+///
+/// `out` is then unchanged.
 fn put_structure(front: &[u8], end: &[u8], out: &mut [u8]) -> Result<usize, Refusal>
     ensures { let t = front.now ++ end.now in PutsTexts (length t) t out.old out.new result }
 {
     put_texts(&[front, end], out)
 }
 
-/// The spans of texts that are in the input.
+/// Returns the places of texts that are in the input.
 fn lent_spans(lent: &Lent<'_>, input: &[u8]) -> MessageSpans
     ensures { AreLentSpans input.now lent.now result }
 {
@@ -77,10 +81,14 @@ fn lent_spans(lent: &Lent<'_>, input: &[u8]) -> MessageSpans
     }
 }
 
-/// Writes the structure to the front of `out`, and returns where all else is in the input.
+/// Writes the structure to the front of `out`, and returns the places of the other texts in the
+/// input.
 ///
 /// # Errors
-/// `Short` where `out` has no room for it: it is then as it was.
+/// - `Short` with the length needed, if `out` is too small.
+/// - `Cose` with `OutOfMemory` if the length doesn't fit in a `usize`.
+///
+/// `out` is then unchanged.
 fn put_lent(lent: &Lent<'_>, input: &[u8], out: &mut [u8]) -> Result<MessageSpans, Refusal>
     ensures { (m : MessageSpans) × AreLentSpans input.now lent.now m × PutsTexts m
         (lent.now.structure.front.items ++ lent.now.structure.end.now) out.old out.new result }
@@ -92,7 +100,7 @@ fn put_lent(lent: &Lent<'_>, input: &[u8], out: &mut [u8]) -> Result<MessageSpan
     }
 }
 
-/// A place in what was written.
+/// Returns a place in the bytes that were written.
 fn written_at(at: usize) -> Start
     ensures { result ≡ written_at at }
 {
@@ -102,7 +110,7 @@ fn written_at(at: usize) -> Start
     }
 }
 
-/// The spans of texts that were written one behind the other.
+/// Returns the places of texts that were written one after another.
 fn copied_spans(view: MessageView) -> MessageSpans
     ensures { result ≡ copied_spans view }
 {
@@ -116,7 +124,7 @@ fn copied_spans(view: MessageView) -> MessageSpans
     }
 }
 
-/// The same for an answer.
+/// Applies `copied_spans` to the view of a result.
 fn copied(answer: Result<MessageView, Refusal>) -> Result<MessageSpans, Refusal>
     ensures { result ≡ copied answer }
 {
@@ -126,14 +134,19 @@ fn copied(answer: Result<MessageView, Refusal>) -> Result<MessageSpans, Refusal>
     }
 }
 
-/// Writes all that verifying or decrypting a message of that kind takes, as [`message_view`](crate::message_view) does, but
-/// that what the message holds isn't copied: writes what is signed, authenticated, or goes with the ciphertext to the front of
-/// `out`, and says where the signature or the tag, the content and the identifier of the key are, in `bytes` or behind the
-/// structure. They are in `bytes` where the message has no list of signatures, the lengths of its strings are announced (RFC
-/// 8949, section 3.2.3), and it names no critical labels.
+/// Writes a message's structure to the front of `out`, and returns the places of the message's
+/// other texts.
+///
+/// The view is that of [`message_view`](crate::message_view). The structure is what is signed,
+/// authenticated, or goes with the ciphertext. The signature or tag, the content and the key
+/// identifier aren't copied, but given by their places. They are in `bytes`, or after the structure
+/// in `out`.
+///
+/// They are in `bytes` if the message has no list of signatures and no critical labels, and its
+/// strings have definite lengths (RFC 8949, section 3.2.3).
 ///
 /// # Errors
-/// The same as [`message_view`](crate::message_view).
+/// The errors of [`message_view`](crate::message_view).
 pub fn message_spans(
     alloc: Global,
     kind: Kind,

@@ -1,4 +1,5 @@
-//! What is signed, what is authenticated, and what goes with a ciphertext (RFC 8152, sections 4.4, 5.3 and 6.3).
+//! The structures that are signed, authenticated, or go with a ciphertext (RFC 8152, sections 4.4,
+//! 5.3 and 6.3).
 
 ghost use Rattle.std.specs.Prelude.{◌≡◌, [], ◌∷◌, codes, IfOk, IfErr, option_map};
 ghost use Rattle.std.specs.Cow.{cow_slice_items};
@@ -22,10 +23,11 @@ use coset_core::structure::structure_bytes;
 use std::alloc::Global;
 use std::borrow::CowSlice;
 
-/// The content where this is the payload's place: what it holds, or what is given where it is `nil`.
+/// Returns the content of the payload's place: its byte string, or `detached` if it is `nil`.
+/// Returns `None` if there are both or neither.
 ///
 /// # Errors
-/// `OutOfMemory` alone.
+/// `OutOfMemory` if an allocation fails.
 fn content_at<'a>(
     alloc: Global,
     place: Pull<'_>,
@@ -50,10 +52,11 @@ fn content_at<'a>(
     }
 }
 
-/// The content that is signed or authenticated: the third place of the item, or what is given where that is `nil`.
+/// Returns the content that is signed or authenticated: the item's third element, or `detached` if
+/// that is `nil`.
 ///
 /// # Errors
-/// `OutOfMemory` alone.
+/// `OutOfMemory` if an allocation fails.
 pub(crate) fn content_in<'a>(
     alloc: Global,
     item: Pull<'_>,
@@ -69,10 +72,10 @@ pub(crate) fn content_in<'a>(
     }
 }
 
-/// The structure of a context, of what the protected header holds and `external_aad`.
+/// Encodes the structure of a context, the protected bytes and `external_aad`.
 ///
 /// # Errors
-/// `OutOfMemory` alone.
+/// `OutOfMemory` if an allocation fails.
 fn structure_of_one(
     alloc: Global,
     context: &str,
@@ -92,10 +95,10 @@ fn structure_of_one(
     }
 }
 
-/// The shortest encoding of a structure of three byte strings.
+/// Encodes a structure of a context and three byte strings.
 ///
 /// # Errors
-/// `OutOfMemory` alone.
+/// `OutOfMemory` if an allocation fails.
 pub(crate) fn two_encoded(
     alloc: Global,
     context: &str,
@@ -110,10 +113,10 @@ pub(crate) fn two_encoded(
     structure_bytes(alloc, context, &[protected, external_aad, content])
 }
 
-/// The shortest encoding of a structure of four byte strings.
+/// Encodes a structure of a context and four byte strings.
 ///
 /// # Errors
-/// `OutOfMemory` alone.
+/// `OutOfMemory` if an allocation fails.
 pub(crate) fn three_encoded(
     alloc: Global,
     context: &str,
@@ -129,10 +132,10 @@ pub(crate) fn three_encoded(
     structure_bytes(alloc, context, &[body, signer, external_aad, content])
 }
 
-/// The structure of a context, of what the protected header holds, `external_aad` and the content.
+/// Encodes the structure of a context, the protected bytes, `external_aad` and the content.
 ///
 /// # Errors
-/// `OutOfMemory` alone.
+/// `OutOfMemory` if an allocation fails.
 fn structure_of_two(
     alloc: Global,
     context: &str,
@@ -157,10 +160,11 @@ fn structure_of_two(
     }
 }
 
-/// What a signer signs: of what the protected headers of the message and of the signer hold, `external_aad` and the content.
+/// Encodes the structure that a signer signs, from both protected headers, `external_aad` and the
+/// content.
 ///
 /// # Errors
-/// `OutOfMemory` alone.
+/// `OutOfMemory` if an allocation fails.
 fn structure_of_three(
     alloc: Global,
     external_aad: &[u8],
@@ -195,10 +199,10 @@ fn structure_of_three(
     }
 }
 
-/// The structure of this context that goes with a ciphertext.
+/// Encodes the structure that goes with the item's ciphertext, in this context.
 ///
 /// # Errors
-/// `OutOfMemory` alone.
+/// `OutOfMemory` if an allocation fails.
 fn encryption_structure(
     alloc: Global,
     context: &str,
@@ -213,10 +217,10 @@ fn encryption_structure(
     structure_of_one(alloc, context, external_aad, protected)
 }
 
-/// The structure of this context over the content of a message.
+/// Encodes the structure over the content of a message, in this context.
 ///
 /// # Errors
-/// `OutOfMemory` alone.
+/// `OutOfMemory` if an allocation fails.
 fn content_structure(
     alloc: Global,
     context: &str,
@@ -234,10 +238,10 @@ fn content_structure(
     structure_of_two(alloc, context, external_aad, protected, content)
 }
 
-/// What the protected header of the signer of that index holds.
+/// Returns the protected bytes of the signer at `index`.
 ///
 /// # Errors
-/// `OutOfMemory` alone.
+/// `OutOfMemory` if an allocation fails.
 fn signer_in(alloc: Global, kind: Kind, item: Pull<'_>, index: usize) -> Result<Option<Vec<u8>>>
     ensures bytes { IfOk result (λ o. option_map (λ b. b.items) o
         ≡ signer_in kind index (pull_item item.entry)) }
@@ -249,10 +253,10 @@ fn signer_in(alloc: Global, kind: Kind, item: Pull<'_>, index: usize) -> Result<
     }
 }
 
-/// What the signer of that index signs.
+/// Encodes the structure that the signer at `index` signs.
 ///
 /// # Errors
-/// `OutOfMemory` alone.
+/// `OutOfMemory` if an allocation fails.
 fn signer_structure(
     alloc: Global,
     kind: Kind,
@@ -272,10 +276,10 @@ fn signer_structure(
     structure_of_three(alloc, external_aad, protected, signer, content)
 }
 
-/// The structure of an item of that kind.
+/// Encodes the structure of an item of this kind, or returns `None` if it has none.
 ///
 /// # Errors
-/// `OutOfMemory` alone.
+/// `OutOfMemory` if an allocation fails.
 pub(crate) fn find_structure(
     alloc: Global,
     kind: Kind,
@@ -299,7 +303,7 @@ pub(crate) fn find_structure(
     }
 }
 
-/// Whether a place holds something else than `nil`.
+/// Returns true if there is an element, and it isn't `nil`.
 fn is_filled(place: Option<Pull<'_>>) -> bool
     ensures { result ≡ is_filled (option_map pull_item place.entry) }
 {
@@ -309,7 +313,7 @@ fn is_filled(place: Option<Pull<'_>>) -> bool
     }
 }
 
-/// Whether the item carries something at that place.
+/// Returns true if the item has an element other than `nil` at this place.
 fn is_carried(place: Option<usize>, item: Pull<'_>) -> bool
     ensures { result ≡ is_carried place (pull_item item.entry) }
 {
@@ -319,7 +323,7 @@ fn is_carried(place: Option<usize>, item: Pull<'_>) -> bool
     }
 }
 
-/// Whether what is given is carried at that place too.
+/// Returns true if `detached` is given, and the item carries something at this place too.
 pub(crate) fn is_given_at(place: Option<usize>, detached: Option<&[u8]>, item: Pull<'_>) -> bool
     ensures { result ≡ is_given_at place (option_copied detached.entry) (pull_item item.entry) }
 {
@@ -329,7 +333,7 @@ pub(crate) fn is_given_at(place: Option<usize>, detached: Option<&[u8]>, item: P
     }
 }
 
-/// Whether a payload is given of an item of that kind that carries one.
+/// Returns true if `detached` is given, and the item carries a payload too.
 pub(crate) fn is_given_twice(kind: Kind, detached: Option<&[u8]>, item: Pull<'_>) -> bool
     ensures { result
         ≡ is_given_twice kind (option_copied detached.entry) (pull_item item.entry) }
@@ -337,18 +341,28 @@ pub(crate) fn is_given_twice(kind: Kind, detached: Option<&[u8]>, item: Pull<'_>
     is_given_at(kind.place_of(Part::Payload), detached, item)
 }
 
-/// Writes what is signed of a message, what is authenticated, or what goes with the ciphertext to the front of `out`, and
-/// returns its length: the shortest encoding of `Sig_structure`, `MAC_structure` or `Enc_structure`, with the bytes of
-/// protected headers as they were received (RFC 8152, sections 4.4, 5.3 and 6.3).
+/// Writes the structure of a message to the front of `out`, and returns its length.
 ///
-/// Of a [`Kind::Sign`] it is what the signer of that index signs, counted from 0; other kinds have no use for `index`. What
-/// is signed or authenticated is the payload that the message carries, where `detached` is `None`; and `detached`, where the
-/// payload is `nil`, so that it is detached. A structure that goes with a ciphertext has no use for it.
+/// The structure is what is signed, authenticated, or goes with the ciphertext: `Sig_structure`,
+/// `MAC_structure` or `Enc_structure` (RFC 8152, sections 4.4, 5.3 and 6.3). It is written in its
+/// shortest encoding, with the bytes of protected headers as they were received.
+///
+/// For a [`Kind::Sign`] it is the structure that the signer at `index` signs, counted from 0. Other
+/// kinds ignore `index`.
+///
+/// If `detached` is `None`, the payload that is signed or authenticated is the one that the message
+/// carries. Else the payload is `detached`, and the message must carry `nil`. An `Enc_structure`
+/// has no payload, so encrypted messages ignore `detached`.
 ///
 /// # Errors
-/// `Short` where `out` has no room for it; `Misuse` where the message carries a payload and another is given; `Absent` where
-/// items of the kind have no structure, where there are no more than `index` signers, and where the message carries no
-/// payload and none is given; `Cose` as [`check`](crate::check) says. `out` is then as it was.
+/// - `Short` with the length needed, if `out` is too small.
+/// - `Misuse` if the message carries a payload and `detached` gives another.
+/// - `Absent` if items of the kind have no structure, or if a [`Kind::Sign`] has no signer at
+///   `index`.
+/// - `Absent` if the message carries no payload and `detached` is `None`.
+/// - `Cose` with an error of [`check`](crate::check).
+///
+/// `out` is then unchanged.
 pub fn structure_of(
     alloc: Global,
     kind: Kind,
@@ -375,10 +389,10 @@ pub fn structure_of(
     )
 }
 
-/// The structure that goes with the ciphertext of a recipient, by what holds it.
+/// Encodes the structure that goes with the ciphertext of a recipient in a `holder`.
 ///
 /// # Errors
-/// `OutOfMemory` alone.
+/// `OutOfMemory` if an allocation fails.
 fn find_recipient_structure(
     alloc: Global,
     holder: Kind,
@@ -397,15 +411,23 @@ fn find_recipient_structure(
     }
 }
 
-/// Writes what goes with the ciphertext of a recipient to the front of `out`, and returns its length: the shortest encoding
-/// of `Enc_structure` (RFC 8152, section 5.3), with the bytes of the protected header as they were received.
+/// Writes the structure that goes with a recipient's ciphertext to the front of `out`, and returns
+/// its length.
 ///
-/// The bytes are a [`Kind::Recipient`]. Its context is `Enc_Recipient` where `holder` is a [`Kind::Encrypt`] in whichever
-/// form, `Mac_Recipient` where it is a [`Kind::Mac`], and `Rec_Recipient` where it is a [`Kind::Recipient`] itself.
+/// It is the shortest encoding of an `Enc_structure` (RFC 8152, section 5.3), with the bytes of the
+/// protected header as they were received.
+///
+/// `bytes` are a [`Kind::Recipient`]. The context depends on the kind that contains the recipient:
+/// - `Enc_Recipient` if `holder` is a [`Kind::Encrypt`] in any form,
+/// - `Mac_Recipient` if it is a [`Kind::Mac`] in any form,
+/// - `Rec_Recipient` if it is a [`Kind::Recipient`] itself.
 ///
 /// # Errors
-/// `Short` where `out` has no room for it; `Absent` where items of the kind `holder` hold no recipients; `Cose` as
-/// [`check`](crate::check) says. `out` is then as it was.
+/// - `Short` with the length needed, if `out` is too small.
+/// - `Absent` if items of the kind `holder` contain no recipients.
+/// - `Cose` with an error of [`check`](crate::check).
+///
+/// `out` is then unchanged.
 pub fn recipient_structure_of(
     alloc: Global,
     holder: Kind,

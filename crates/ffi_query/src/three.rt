@@ -1,4 +1,4 @@
-//! What a message begins with: two headers and a content (RFC 8152, sections 4 to 6).
+//! The first three elements of a message: two headers and a content (RFC 8152, sections 4 to 6).
 
 ghost use Rattle.std.specs.Prelude.{List, ℕ, IfSome};
 ghost use Rattle.ffi_query.specs.Located.{IsLocated, located_item};
@@ -6,7 +6,7 @@ ghost use Rattle.ffi_query.specs.Three.{AreThreeIn, IsThree};
 
 use crate::located::{Elements, Located, elements_located, next_located};
 
-/// The first three elements of an array, and those behind them.
+/// The first three elements of an array, and the elements after them.
 #[derive(Clone, Copy)]
 pub(crate) struct Three<'a> {
     pub(crate) protected: Located<'a>,
@@ -15,7 +15,7 @@ pub(crate) struct Three<'a> {
     pub(crate) behind: Elements<'a>,
 }
 
-/// The first three elements of an array, and those behind them.
+/// Returns the first three elements of an array, and the elements after them.
 pub(crate) fn three_of(array: Located<'_>) -> Option<Three<'_>>
     ensures elements { IfSome result (IsThree (located_item array.entry)) }
     ensures place { (b : List ℕ) → IsLocated b array.entry → IfSome result (AreThreeIn b) }

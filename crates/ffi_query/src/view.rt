@@ -1,4 +1,4 @@
-//! What is said of a message by copies of its texts.
+//! The view of a message, found by copying its texts.
 
 ghost use Rattle.std.specs.Prelude.{◌≡◌, ◌++◌, IfOk, IfErr, IfSome, List, ℕ, option_map};
 ghost use Rattle.std.specs.Option.{option_copied};
@@ -26,66 +26,71 @@ use std::alloc::Global;
 /// The algorithm that a protected header names: `alg`, label 1 (RFC 8152, section 3.1).
 #[derive(Clone, Copy, Debug, PartialEq, Eq)]
 pub enum Algorithm {
-    /// It names none.
+    /// The header names no algorithm.
     Absent,
-    /// By its number.
+    /// The algorithm's number.
     Number(i64),
-    /// Otherwise: by a text.
+    /// The header names the algorithm by a text.
     Text,
 }
 
-/// Where the identifier of the key is: `kid`, label 4 (RFC 8152, section 3.1).
+/// The header that has the key identifier: `kid`, label 4 (RFC 8152, section 3.1).
 #[derive(Clone, Copy, Debug, PartialEq, Eq)]
 pub enum KeyIdPlace {
-    /// In neither header.
+    /// Neither header.
     Absent,
-    /// In the protected header, whether the unprotected one has one too or not.
+    /// The protected header. The unprotected header may have an identifier too.
     Protected,
-    /// In the unprotected header alone, which isn't signed.
+    /// Only the unprotected header, which isn't signed.
     Unprotected,
 }
 
-/// What [`message_view`](crate::message_view) says of a message, beside four texts.
+/// The result of [`message_view`](crate::message_view), besides the four texts.
 #[derive(Clone, Copy, Debug, PartialEq, Eq)]
 pub struct MessageView {
-    /// The algorithm that the protected header names: the message's, and of a message with signers the signer's.
+    /// The algorithm that the protected header names. In a message with signers it is the signer's
+    /// header.
     pub algorithm: Algorithm,
-    /// Where the identifier of the key is, in the headers of the message or of the signer.
+    /// The header that has the key identifier. In a message with signers it is a header of the
+    /// signer.
     pub key_id_place: KeyIdPlace,
-    /// Whether either header has `crit`, label 2: labels that must be understood (RFC 8152, section 3.1). Of a message with
-    /// signers the headers of both count.
+    /// Whether a header has `crit`, label 2: labels that must be understood (RFC 8152, section
+    /// 3.1). In a message with signers, the headers of the message and of the signer count.
     pub has_critical: bool,
-    /// Whether all of them are among those that the caller understands, and protected; also where there are none.
+    /// Whether the caller understands all critical labels, and only protected headers name them.
+    /// True if there are none. Whether the headers have these labels isn't checked.
     pub is_understood: bool,
     /// Whether the message is under its tag.
     pub is_tagged: bool,
-    /// How many bytes the structure has, the first text.
+    /// The length of the structure, which is the first text.
     pub structure_len: usize,
-    /// How many bytes the signature or the tag has, the second: 0 of an encrypted message.
+    /// The length of the signature or tag, which is the second text. It is 0 for an encrypted
+    /// message.
     pub proof_len: usize,
-    /// How many bytes the payload or the ciphertext has that the message carries, the third: 0 where it is detached.
+    /// The length of the carried payload or ciphertext, which is the third text. It is 0 if that is
+    /// detached.
     pub content_len: usize,
-    /// How many bytes the identifier of the key has, the fourth: 0 where there is none.
+    /// The length of the key identifier, which is the fourth text. It is 0 if there is none.
     pub key_id_len: usize,
-    /// How many bytes the four have together.
+    /// The total length of the four texts.
     pub len: usize,
 }
 
-/// The identifier of a key, and where it is.
+/// A key identifier, and the header that has it.
 #[derive(Drop)]
 struct KeyId {
     place: KeyIdPlace,
     bytes: Vec<u8>,
 }
 
-/// A view, and the four texts one behind the other.
+/// A view, and the four texts one after another.
 #[derive(Drop)]
 struct Copies {
     view: MessageView,
     text: Vec<u8>,
 }
 
-/// The algorithm that is named by that value.
+/// Returns the algorithm that this value names.
 fn algorithm_of(value: &Value) -> Algorithm
     ensures { IsAlgorithm (value_item value.now) result }
 {
@@ -95,10 +100,10 @@ fn algorithm_of(value: &Value) -> Algorithm
     }
 }
 
-/// The algorithm that the protected header names.
+/// Returns the algorithm that the protected header names.
 ///
 /// # Errors
-/// `OutOfMemory` alone.
+/// `OutOfMemory` if an allocation fails.
 fn find_algorithm(alloc: Global, kind: Kind, item: Pull<'_>) -> Result<Algorithm>
     ensures algorithm { IfOk result (HasAlgorithm kind (pull_item item.entry)) }
     ensures memory { IfErr result (λ e. e ≡ OutOfMemory) }
@@ -109,10 +114,10 @@ fn find_algorithm(alloc: Global, kind: Kind, item: Pull<'_>) -> Result<Algorithm
     }
 }
 
-/// The identifier of the key: the one that is protected, where there is one.
+/// Returns the key identifier, from the protected header if that has one.
 ///
 /// # Errors
-/// `OutOfMemory` alone.
+/// `OutOfMemory` if an allocation fails.
 fn find_key_id(alloc: Global, kind: Kind, item: Pull<'_>) -> Result<KeyId>
     ensures key_id { IfOk result (λ i.
         IsKeyId kind (pull_item item.entry) i.place i.bytes.items) }
@@ -136,7 +141,8 @@ fn find_key_id(alloc: Global, kind: Kind, item: Pull<'_>) -> Result<KeyId>
     }
 }
 
-/// What names the algorithm and the key: the signer of that index, where the message has signers; else the message.
+/// Returns the item that names the algorithm and the key: the signer at `index`, or a message
+/// without signers itself.
 fn bearer(kind: Kind, item: Pull<'_>, index: usize) -> Option<Pull<'_>>
     ensures { option_map pull_item result ≡ bearer kind index (pull_item item.entry) }
 {
@@ -146,7 +152,7 @@ fn bearer(kind: Kind, item: Pull<'_>, index: usize) -> Option<Pull<'_>>
     }
 }
 
-/// The kind of that.
+/// Returns the kind of the item that `bearer` returns.
 fn kind_of_bearer(kind: Kind) -> Kind
     ensures { result ≡ kind_of_bearer kind }
 {
@@ -156,10 +162,10 @@ fn kind_of_bearer(kind: Kind) -> Kind
     }
 }
 
-/// The signature or the tag, and nothing where items of the kind have none.
+/// Returns the signature or the tag, or nothing if items of the kind have neither.
 ///
 /// # Errors
-/// `OutOfMemory` alone.
+/// `OutOfMemory` if an allocation fails.
 fn find_proof(alloc: Global, kind: Kind, item: Pull<'_>) -> Result<Option<Vec<u8>>>
     ensures proof { IfOk result (λ o. option_map (λ b. b.items) o
         ≡ proof_in kind (pull_item item.entry)) }
@@ -171,7 +177,7 @@ fn find_proof(alloc: Global, kind: Kind, item: Pull<'_>) -> Result<Option<Vec<u8
     }
 }
 
-/// The part that is a message's content.
+/// Returns the part that is the content of a message of this kind.
 fn content_part(kind: Kind) -> Part
     ensures { result ≡ content_part kind }
 {
@@ -181,10 +187,10 @@ fn content_part(kind: Kind) -> Part
     }
 }
 
-/// The payload or the ciphertext that the message carries, and nothing where it is detached.
+/// Returns the payload or ciphertext that the message carries, or nothing if it is detached.
 ///
 /// # Errors
-/// `OutOfMemory` alone.
+/// `OutOfMemory` if an allocation fails.
 fn find_content(alloc: Global, kind: Kind, item: Pull<'_>) -> Result<Vec<u8>>
     ensures content { IfOk result (λ b. IsContent kind (pull_item item.entry) b.items) }
     ensures memory { IfErr result (λ e. e ≡ OutOfMemory) }
@@ -195,10 +201,10 @@ fn find_content(alloc: Global, kind: Kind, item: Pull<'_>) -> Result<Vec<u8>>
     }
 }
 
-/// The four texts one behind the other.
+/// Joins the four texts.
 ///
 /// # Errors
-/// `OutOfMemory` alone.
+/// `OutOfMemory` if an allocation fails.
 fn joined(
     alloc: Global,
     signed: &[u8],
@@ -223,10 +229,10 @@ fn joined(
     Ok(text)
 }
 
-/// What is said of an item of that kind, with whether it is under its tag as it is given.
+/// Returns the view and the texts of an item of this kind. `is_tagged` is copied into the view.
 ///
 /// # Errors
-/// `OutOfMemory` alone.
+/// `OutOfMemory` if an allocation fails.
 fn find_copies(
     alloc: Global,
     kind: Kind,
@@ -274,7 +280,7 @@ fn find_copies(
 /// Writes the texts to the front of `out`, and returns the view.
 ///
 /// # Errors
-/// `Short` where `out` has no room for them: it is then as it was.
+/// `Short` with the length needed, if `out` is too small. `out` is then unchanged.
 fn put_copies(copies: Copies, out: &mut [u8]) -> Result<MessageView, Refusal>
     ensures { PutsWith copies.view copies.text.items out.old out.new result }
 {
@@ -284,10 +290,11 @@ fn put_copies(copies: Copies, out: &mut [u8]) -> Result<MessageView, Refusal>
     }
 }
 
-/// The same as [`message_view`](crate::message_view) of bytes that were found to be this item of that kind, by copies of its texts.
+/// Does the same as [`message_view`](crate::message_view) for an item that was found, by copying
+/// its texts.
 ///
 /// # Errors
-/// The same as [`message_view`](crate::message_view), but that the bytes are of the kind.
+/// The errors of [`message_view`](crate::message_view). A `Cose` is then always `OutOfMemory`.
 pub(crate) fn view_of(
     alloc: Global,
     kind: Kind,

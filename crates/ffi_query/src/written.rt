@@ -1,4 +1,4 @@
-//! Answers in the caller's memory.
+//! Results in the caller's memory.
 
 ghost use Rattle.std.specs.List.{flat_map};
 ghost use Rattle.std.specs.Prelude.{◌≡◌, IfSome, length};
@@ -7,10 +7,10 @@ ghost use Rattle.ffi_query.specs.Answers.{Puts, PutsTexts, WritesFound};
 use crate::refusal::Refusal;
 use coset::{CoseError, Result};
 
-/// Writes the bytes to the front of `out`, and returns how many they are.
+/// Writes the bytes to the front of `out`, and returns their number.
 ///
 /// # Errors
-/// `Short` where `out` has no room for them: it is then as it was.
+/// `Short` with the length needed, if `out` is too small. `out` is then unchanged.
 pub(crate) fn put(bytes: &[u8], out: &mut [u8]) -> Result<usize, Refusal>
     ensures { Puts bytes.now out.old out.new result }
 {
@@ -22,7 +22,7 @@ pub(crate) fn put(bytes: &[u8], out: &mut [u8]) -> Result<usize, Refusal>
     Ok(bytes.len())
 }
 
-/// How many bytes the texts have together, where that is a number of the machine's.
+/// Returns the total length of the texts, if it fits in a `usize`.
 fn total_len(texts: &[&[u8]]) -> Option<usize>
     ensures { IfSome result (λ n. n ≡ length (flat_map (λ t. t.now) texts.now)) }
 {
@@ -33,10 +33,13 @@ fn total_len(texts: &[&[u8]]) -> Option<usize>
     Some(total)
 }
 
-/// Writes the texts to the front of `out`, one behind the other, and returns how many bytes they have together.
+/// Writes the texts to the front of `out`, one after another, and returns their total length.
 ///
 /// # Errors
-/// `Short` where `out` has no room for them: it is then as it was.
+/// - `Short` with the length needed, if `out` is too small.
+/// - `Cose` with `OutOfMemory` if the length doesn't fit in a `usize`.
+///
+/// `out` is then unchanged.
 pub(crate) fn put_texts(texts: &[&[u8]], out: &mut [u8]) -> Result<usize, Refusal>
     ensures { let t = flat_map (λ t. t.now) texts.now in
         PutsTexts (length t) t out.old out.new result }
@@ -57,10 +60,15 @@ pub(crate) fn put_texts(texts: &[&[u8]], out: &mut [u8]) -> Result<usize, Refusa
     Ok(len)
 }
 
-/// Writes what was found to the front of `out`, and returns its length. `ffi_make` answers by it too.
+/// Writes the bytes that were found to the front of `out`, and returns their number. `ffi_make`
+/// uses this too.
 ///
 /// # Errors
-/// `Short`; `Absent` where nothing was found; or why nothing is known of it. `out` is then as it was.
+/// - `Short` with the length needed, if `out` is too small.
+/// - `Absent` if nothing was found.
+/// - `Cose` with the error that `found` has.
+///
+/// `out` is then unchanged.
 pub fn write_found(found: Result<Option<Vec<u8>>>, out: &mut [u8]) -> Result<usize, Refusal>
     ensures { WritesFound (λ b. b.items) found out.old out.new result }
 {

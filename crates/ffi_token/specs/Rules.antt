@@ -1,4 +1,4 @@
--- What a verifier asks of a token, with algorithms and labels by their numbers.
+-- A verifier's requirements for a token, with algorithms and labels as numbers.
 use Rattle.std.specs.Prelude.{◌≡◌, ℤ, map, option_map, Option, Some, None}
 use Rattle.coset.specs.LabelViews.{algorithm_view}
 use Rattle.coset.specs.Names.{RegisteredName, assigned, private_use}
@@ -12,7 +12,7 @@ use Rattle.cwt_gate.specs.Policy.{PolicyView}
 use Rattle.ffi_token.specs.declared.rules.Lists.{Lists}
 use Rattle.ffi_token.specs.declared.rules.Rules.{Rules}
 
--- the label of the number i: of a value of the registry, where one has it, or else for private use
+-- The label with the number i: a value of the registry if i is assigned, else a private-use number.
 abbrev pub named_as : {T : Type 0} → ℤ → Option T → RegisteredName
 named_as i (Some x) = assigned i
 named_as i None = private_use i
@@ -26,7 +26,7 @@ algorithm_named = named (first_numbered algorithms.number ALGORITHMS)
 abbrev pub parameter_named : ℤ → RegisteredName
 parameter_named = named (first_numbered parameters.number HEADER_PARAMETERS)
 
--- the policy that the rules are
+-- The policy that the rules describe.
 abbrev pub rules_view : Rules → PolicyView
 rules_view r = record {
   signatures = map algorithm_named r.signatures.now;
@@ -44,7 +44,7 @@ rules_view r = record {
   audience = option_map (λ s. s.now) r.audience;
 }
 
--- the lists are those of the rules
+-- The lists are those of the rules.
 pub record ListsOf (r : Rules) (l : Lists) : Type 0 where
   pub signatures : map algorithm_view l.signatures.items ≡ map algorithm_named r.signatures.now
   pub macs : map algorithm_view l.macs.items ≡ map algorithm_named r.macs.now

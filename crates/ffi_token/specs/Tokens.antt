@@ -1,4 +1,4 @@
--- What is returned of a token.
+-- The result of judging a token.
 use Rattle.std.specs.Prelude.{◌≡◌, ℕ, ℤ, List, Result, Ok, Err, None}
 use Rattle.coset.specs.Claims.{ClaimsView, claims, claims_view}
 use Rattle.coset.specs.CoseError.TheVariants as errors
@@ -23,7 +23,7 @@ use Rattle.ffi_token.specs.declared.refusal.Reason.TheVariants as reasons
 use Rattle.ffi_token.specs.declared.refusal.Refusal as refusals
 use Rattle.ffi_token.specs.declared.refusal.Refusal.TheVariants.{Layer, Answer, NotClaims, Policy}
 
--- ---- the error of a token that was judged: a layer that waits, or a refusal
+-- ---- the error of a judged token: a waiting layer, or a refusal
 
 abbrev pub apart_of_caller : waiting.Waiting → aparts.Apart
 apart_of_caller (waits.Layer l) = apart_as.Layer l
@@ -50,9 +50,10 @@ apart policy.TooOld = apart_as.Refused (Policy reasons.TooOld)
 apart policy.Issuer = apart_as.Refused (Policy reasons.Issuer)
 apart policy.Audience = apart_as.Refused (Policy reasons.Audience)
 
--- ---- what is then in the memory, and returned
+-- ---- the memory after the call, and the result
 
--- the claims are at the front of the memory, in their shortest encoding; or it has no room for that; or memory ran out
+-- The claims are at the front of the memory, in their shortest encoding. Or they don't fit, an allocation failed, or
+-- the claims have a label twice and no encoding.
 abbrev pub WritesClaims : ClaimsView → List ℕ → List ℕ → Result ℕ refusals.Refusal → Type 0
 WritesClaims c old new (Ok n) = (t : List ℕ) × IsEncodingOf (claims.image c) t × Puts t old new (Ok n)
 WritesClaims c old new (Err (Answer (answers.Short n))) =
@@ -61,7 +62,7 @@ WritesClaims c old new (Err (Answer (answers.Cose e))) =
     UnlessMemory e (λ f. (f ≡ errors.DuplicateMapKey) × (claims.image c ≡ None)) × (new ≡ old)
 WritesClaims c old new (Err r) = ⊥
 
--- the texts of the layer are at the front of the memory, and this is what is said of it; or it has no room for them
+-- The layer's texts are at the front of the memory, and its view is returned. Or the texts don't fit.
 abbrev pub WritesLayer : layers.Layer → List ℕ → List ℕ → refusals.Refusal → Type 0
 WritesLayer l old new (Layer v) = (v ≡ l.view) × BeginsWith l.text.items old new
 WritesLayer l old new (Answer (answers.Short n)) = Puts l.text.items old new (Err (answers.Short n))
@@ -72,13 +73,13 @@ ReturnsApart a old new (Ok n) = ⊥
 ReturnsApart (apart_as.Layer l) old new (Err r) = WritesLayer l old new r
 ReturnsApart (apart_as.Refused e) old new (Err r) = (r ≡ e) × (new ≡ old)
 
--- what is returned of a token that was judged
+-- The result for a judged token.
 abbrev pub ReturnsJudged : Result KnownClaims (PolicyError waiting.Waiting) → List ℕ → List ℕ → Result ℕ refusals.Refusal → Type 0
 ReturnsJudged (Ok x) old new r = WritesClaims (claims_view x.claims) old new r
 ReturnsJudged (Err e) old new r = ReturnsApart (apart e) old new r
 
--- What a call returns of the token b at a moment, where the caller opened these layers: what is said of the token as the
--- gate judges it by keys that accept those
+-- The result for the token b at the time `now`, after the caller opened these layers. It is that of the gate's
+-- judgement, with keys that accept exactly these layers.
 abbrev pub AnswersToken : List ℕ → List Opened → PolicyView → List ℕ → ℤ → List ℕ → List ℕ → Result ℕ refusals.Refusal → Type 0
 AnswersToken bytes os p b now old new r =
     (j : Result KnownClaims (PolicyError waiting.Waiting)) × JudgesWith (opened_view bytes os) p now b j × ReturnsJudged j old new r

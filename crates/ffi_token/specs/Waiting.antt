@@ -1,4 +1,4 @@
--- What is said of a layer that waits to be opened.
+-- The view of a layer that waits to be opened.
 use Rattle.std.specs.Prelude.{◌≡◌, ◌++◌, ℕ, ℤ, List, [], ◌∷◌, length, Option, Some, None}
 use Rattle.coset.specs.Headers.{fields_in}
 use Rattle.coset.specs.Names.{RegisteredName, assigned, private_use, text_name}
@@ -10,7 +10,7 @@ use Rattle.ffi_token.specs.declared.layer.Layer as declared
 use Rattle.ffi_token.specs.declared.layer.Waiting.{Waiting}
 use Rattle.ffi_token.specs.declared.layer.Waiting.TheVariants.{Layer, OutOfMemory}
 
--- the number of an algorithm, unless a text names it
+-- The number of an algorithm, or `None` if a text names it.
 abbrev pub number_of : RegisteredName → Option ℤ
 number_of (assigned i) = Some i
 number_of (private_use i) = Some i
@@ -20,20 +20,21 @@ abbrev pub number_in : Option RegisteredName → Option ℤ
 number_in (Some a) = number_of a
 number_in None = None
 
--- the header in which the identifier of the key is, by that of the protected one and of the other
+-- The header that has the key identifier, by the identifiers in the protected and in the unprotected header.
 abbrev pub place_of : List ℕ → List ℕ → KeyIdPlace
 place_of (b ∷ bs) u = places.Protected
 place_of [] (b ∷ bs) = places.Unprotected
 place_of [] [] = places.Absent
 
--- the initialization vector, and the partial one (RFC 8152, section 3.1, "IV" and "Partial IV"): as the identifier of the key
+-- The initialization vector and the partial one (RFC 8152, section 3.1, "IV" and "Partial IV"). Each is from the
+-- protected header, else from the unprotected one (section 3).
 abbrev pub iv_of : SealView → List ℕ
 iv_of s = first_nonempty (fields_in s.protected.header).iv (fields_in s.unprotected).iv
 
 abbrev pub partial_iv_of : SealView → List ℕ
 partial_iv_of s = first_nonempty (fields_in s.protected.header).partial_iv (fields_in s.unprotected).partial_iv
 
--- this is what is said of a layer of which keys are handed s
+-- l has the view and the texts of a layer with the parts s.
 pub record IsLayer (of_form : Form) (s : SealView) (l : declared.Layer) : Type 0 where
   pub form : l.view.form ≡ of_form
   pub algorithm : l.view.algorithm ≡ number_in (fields_in s.protected.header).alg
@@ -46,7 +47,7 @@ pub record IsLayer (of_form : Form) (s : SealView) (l : declared.Layer) : Type 0
   pub len : l.view.len ≡ length l.text.items
   pub text : l.text.items ≡ s.structure ++ (s.proof ++ (key_id_of s ++ (iv_of s ++ partial_iv_of s)))
 
--- the layer waits, or memory ran out
+-- The layer waits, or an allocation failed.
 abbrev pub IsWaiting : Form → SealView → Waiting → Type 0
 IsWaiting form s (Layer l) = IsLayer form s l
 IsWaiting form s OutOfMemory = Unit {0}

@@ -11,48 +11,51 @@ use cwt_gate::{Form, Sealed};
 use ffi_query::KeyIdPlace;
 use std::alloc::{AllocError, Global};
 
-/// What is said of a layer that waits, beside its five texts.
+/// The view of a layer that waits to be opened, besides its five texts.
 #[derive(Clone, Copy, Debug, PartialEq, Eq)]
 pub struct LayerView {
-    /// Its form: which says whether a signature or a MAC is to be verified, or a ciphertext to be decrypted.
+    /// The form. It says whether to verify a signature, verify a MAC, or decrypt a ciphertext.
     pub form: Form,
-    /// The number of the algorithm that the protected header names: one that the rules have. `None` where a text names it.
+    /// The number of the algorithm in the protected header, which is one of the rules'. `None` if a
+    /// text names the algorithm.
     pub algorithm: Option<i64>,
-    /// Where the identifier of the key is.
+    /// The header that has the key identifier.
     pub key_id_place: KeyIdPlace,
-    /// How many bytes the structure has, the first text: what is signed or authenticated, or goes with the ciphertext.
+    /// The length of the first text: the structure that is signed, authenticated, or goes with the
+    /// ciphertext.
     pub structure_len: usize,
-    /// How many bytes the signature, the MAC or the ciphertext has, the second.
+    /// The length of the second text: the signature, the MAC or the ciphertext.
     pub proof_len: usize,
-    /// How many bytes the identifier of the key has, the third: 0 where there is none.
+    /// The length of the third text: the key identifier. It is 0 if there is none.
     pub key_id_len: usize,
-    /// How many bytes the initialization vector has, the fourth: 0 where there is none.
+    /// The length of the fourth text: the initialization vector. It is 0 if there is none.
     pub iv_len: usize,
-    /// How many bytes the partial initialization vector has, the fifth: 0 where there is none.
+    /// The length of the fifth text: the partial initialization vector. It is 0 if there is none.
     pub partial_iv_len: usize,
-    /// How many bytes the five have together.
+    /// The total length of the five texts.
     pub len: usize,
 }
 
 /// A layer that waits to be opened.
 #[derive(Debug, Drop)]
 pub struct Layer {
-    /// What is said of it.
+    /// The layer's view.
     pub view: LayerView,
-    /// The five texts one behind the other. Those after the second are of the protected header, or else of the other.
+    /// The five texts, one after another. The last three are from the protected header, else from
+    /// the unprotected one.
     pub text: Vec<u8>,
 }
 
-/// Why a layer isn't opened.
+/// The reason why a layer isn't opened.
 #[derive(Debug, Drop)]
 pub enum Waiting {
-    /// The caller has to open it.
+    /// The caller must open the layer.
     Layer(Layer),
-    /// A request for memory was refused.
+    /// An allocation failed.
     OutOfMemory,
 }
 
-/// The number of an algorithm, unless it is named by a text.
+/// Returns the number of an algorithm, or `None` if a text names it.
 fn number_of(algorithm: &Algorithm) -> Option<i64>
     ensures { result ≡ number_of (algorithm_view algorithm.now) }
 {
@@ -63,7 +66,7 @@ fn number_of(algorithm: &Algorithm) -> Option<i64>
     }
 }
 
-/// The number of the algorithm that there is.
+/// Returns the number of the algorithm, if there is one.
 fn number_in(algorithm: &Option<Algorithm>) -> Option<i64>
     ensures { result ≡ number_in (option_map algorithm_view algorithm.now) }
 {
@@ -73,14 +76,14 @@ fn number_in(algorithm: &Option<Algorithm>) -> Option<i64>
     }
 }
 
-/// The first, unless it is empty, and then the second.
+/// Returns `first`, or `second` if `first` is empty.
 fn first_nonempty<'a>(first: &'a [u8], second: &'a [u8]) -> &'a [u8]
     ensures { result.now ≡ first_nonempty first.now second.now }
 {
     if first.is_empty() { second } else { first }
 }
 
-/// Where the identifier of a key is that is one of the two: in the protected header, or in the other.
+/// Returns the header that has the key identifier, by the identifiers in both headers.
 fn place_of(protected: &[u8], unprotected: &[u8]) -> KeyIdPlace
     ensures { result ≡ place_of protected.now unprotected.now }
 {
@@ -93,10 +96,10 @@ fn place_of(protected: &[u8], unprotected: &[u8]) -> KeyIdPlace
     KeyIdPlace::Absent
 }
 
-/// Five texts one behind the other.
+/// Joins five texts.
 ///
 /// # Errors
-/// `AllocError` alone.
+/// `AllocError` if an allocation fails.
 fn joined(
     alloc: Global,
     structure: &[u8],
@@ -116,10 +119,10 @@ fn joined(
     Ok(text)
 }
 
-/// What is said of a layer of that form.
+/// Returns the view and the texts of a layer of this form.
 ///
 /// # Errors
-/// `AllocError` alone.
+/// `AllocError` if an allocation fails.
 fn layer_of(alloc: Global, form: Form, sealed: &Sealed<'_>) -> Result<Layer, AllocError>
     ensures { IfOk result (λ layer. IsLayer form (seal_view sealed.now) layer) }
 {
@@ -149,7 +152,7 @@ fn layer_of(alloc: Global, form: Form, sealed: &Sealed<'_>) -> Result<Layer, All
     Ok(Layer { view, text })
 }
 
-/// The layer of that form, which waits; or that memory ran out.
+/// Returns the layer of this form as waiting, or `OutOfMemory` if an allocation fails.
 pub(crate) fn wait_for(alloc: Global, form: Form, sealed: &Sealed<'_>) -> Waiting
     ensures { IsWaiting form (seal_view sealed.now) result }
 {

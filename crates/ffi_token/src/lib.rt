@@ -1,9 +1,11 @@
-//! Web tokens, judged as `cwt_gate` judges them, for a caller in another language (`ffi_c`): one that has its own cryptography
-//! and hands over no function. It calls [`claims_of`] with the layers that it opened so far, at first with none. An answer
-//! says which layer waits; the caller opens that, and calls again, until it is given the claims or a reason against the token.
+//! Judges web tokens as `cwt_gate` does, for a caller in another language (`ffi_c`).
 //!
-//! Nothing is kept between calls. A layer counts as opened only where the caller hands back what was written of it, so what
-//! it opened of one token opens nothing of another.
+//! Such a caller has its own cryptography, and can't pass a function. It calls [`claims_of`] with
+//! the layers that it opened so far, at first with none. The result says which layer waits. The
+//! caller opens that layer and calls again, until it gets the claims or a reason against the token.
+//!
+//! Nothing is kept between calls. A layer counts as opened only if the caller gives back the bytes
+//! that were written for it. So a layer opened for one token opens nothing of another.
 #![tactic(auto)]
 
 mod layer;

@@ -9,37 +9,39 @@ use crate::layer::{Waiting, wait_for};
 use cwt_gate::{Form, Keys, Sealed};
 use std::alloc::Global;
 
-/// A layer that the caller opened: it verified the signature or the MAC, or decrypted the ciphertext. Its bytes are in those
-/// of [`OpenedLayers`].
+/// A layer that the caller opened: it verified the signature or the MAC, or decrypted the
+/// ciphertext. The layer's bytes are in [`OpenedLayers`].
 #[repr(C)]
 #[derive(Clone, Copy, Debug, PartialEq, Eq)]
 pub struct Opened {
-    /// The form, as `coset.h` numbers its messages: 1 of `COSE_Sign1`, 3 of `COSE_Mac0`, and 5 of `COSE_Encrypt0`.
+    /// The form's number in `coset.h`: 1 for `COSE_Sign1`, 3 for `COSE_Mac0`, 5 for
+    /// `COSE_Encrypt0`.
     pub form: u32,
-    /// Where what was written of the layer is: the structure, and behind it the signature, the MAC or the ciphertext.
+    /// The offset of the layer's bytes: the structure, and then the signature, the MAC or the
+    /// ciphertext.
     pub offset: usize,
-    /// How many bytes the structure has.
+    /// The length of the structure.
     pub structure_len: usize,
-    /// How many bytes the signature, the MAC or the ciphertext has.
+    /// The length of the signature, the MAC or the ciphertext.
     pub proof_len: usize,
-    /// Where the plaintext is, of an encrypted layer. Others have no use for it.
+    /// The offset of an encrypted layer's plaintext, or 0 for any other layer.
     pub plaintext: usize,
-    /// How many bytes the plaintext has.
+    /// The length of an encrypted layer's plaintext, or 0 for any other layer.
     pub plaintext_len: usize,
 }
 
 /// The layers that a caller opened, in any order.
 #[derive(Clone, Copy)]
 pub struct OpenedLayers<'a> {
-    /// The memory for what is said of a layer that waits.
+    /// The allocator for the texts of a layer that waits.
     pub alloc: Global,
-    /// The layers.
+    /// The opened layers.
     pub layers: &'a [Opened],
-    /// The bytes that they name.
+    /// The bytes that the layers' offsets point into.
     pub bytes: &'a [u8],
 }
 
-/// The bytes at that offset, where there are so many.
+/// Returns `len` bytes from the offset, if there are that many.
 fn slice_at(bytes: &[u8], offset: usize, len: usize) -> Option<&[u8]>
     ensures { option_copied result ≡ slice_at bytes.now offset len }
 {
@@ -47,7 +49,7 @@ fn slice_at(bytes: &[u8], offset: usize, len: usize) -> Option<&[u8]>
     bytes.get(offset..end)
 }
 
-/// Whether these are the bytes at that offset, and so many.
+/// Returns true if the `len` bytes at the offset are `wanted`.
 fn is_at(bytes: &[u8], offset: usize, len: usize, wanted: &[u8]) -> bool
     ensures { result ≡ is_at bytes.now offset len wanted.now }
 {
@@ -57,7 +59,7 @@ fn is_at(bytes: &[u8], offset: usize, len: usize, wanted: &[u8]) -> bool
     }
 }
 
-/// The number of a form, as `coset.h` has it.
+/// Returns the number of a form in `coset.h`.
 pub fn form_number(form: Form) -> u32
     ensures { result ≡ form_number form }
 {
@@ -68,7 +70,7 @@ pub fn form_number(form: Form) -> u32
     }
 }
 
-/// Whether the caller opened this layer of that form.
+/// Returns true if `opened` is this layer of this form.
 fn is_of(bytes: &[u8], opened: &Opened, form: Form, sealed: &Sealed<'_>) -> bool
     ensures { result ≡ is_of bytes.now form (seal_view sealed.now) opened.now }
 {
@@ -84,7 +86,7 @@ fn is_of(bytes: &[u8], opened: &Opened, form: Form, sealed: &Sealed<'_>) -> bool
     }
 }
 
-/// The plaintext, where the caller opened this layer of that form.
+/// Returns the plaintext if `opened` is this layer of this form.
 fn content_in<'a>(
     bytes: &'a [u8],
     opened: &Opened,
@@ -101,7 +103,7 @@ fn content_in<'a>(
 }
 
 impl<'a> OpenedLayers<'a> {
-    /// The plaintext of the first of the layers that is this one.
+    /// Returns the plaintext of the first opened layer that is this one.
     fn find(&self, form: Form, sealed: &Sealed<'_>) -> Option<&'a [u8]>
         ensures { option_copied result
             ≡ opened_in self.now.bytes.now self.now.layers.now form (seal_view sealed.now) }
@@ -122,7 +124,8 @@ impl Keys for OpenedLayers<'_> {
 
     ghost view = { λ k. opened_view k.bytes.now k.layers.now };
 
-    /// The layer, which waits. Of one that was opened nothing waits, and this isn't called for it.
+    /// Returns the layer as waiting. Isn't called for an opened layer, for which it would return
+    /// `OutOfMemory`.
     fn no_key(&self, form: Form, sealed: &Sealed<'_>) -> Waiting {
         match self.find(form, sealed) {
             Some(_) => Waiting::OutOfMemory,

@@ -1,4 +1,4 @@
-//! Why a caller isn't given the claims of a token.
+//! The reasons why a caller doesn't get the claims of a token.
 
 ghost use Rattle.std.specs.Prelude.{◌≡◌};
 ghost use Rattle.ffi_token.specs.Tokens.{apart, apart_of_caller, apart_of_gate};
@@ -12,15 +12,15 @@ use cwt_gate::{GateError, PolicyError};
 pub enum Reason {
     /// A layer carries no payload.
     NoPayload,
-    /// The protected header of a layer names no algorithm that is allowed for its form.
+    /// The protected header of a layer has no algorithm, or none that is allowed for its form.
     NotAllowed,
-    /// A label that must be understood isn't, or isn't protected.
+    /// A critical label isn't understood, or isn't protected.
     Critical,
-    /// More than four layers are within one another.
+    /// The token has more than four nested layers.
     TooDeep,
-    /// No layer authenticates who sent the token.
+    /// No layer authenticates the sender of the token.
     Unauthenticated,
-    /// The token doesn't expire.
+    /// The token has no expiration time.
     NoExpiration,
     /// The token has expired.
     Expired,
@@ -28,39 +28,40 @@ pub enum Reason {
     NotYetValid,
     /// The token is issued later than now.
     IssuedLater,
-    /// The token has reached the greatest age, or doesn't say when it was issued.
+    /// The token has reached the greatest age, or has no time of issue.
     TooOld,
-    /// The token is of another issuer, or of none.
+    /// The token has another issuer, or none.
     Issuer,
-    /// The token is for another audience, or for none.
+    /// The token has another audience, or none.
     Audience,
-    /// A time is no whole number of seconds. [`claims_of`](crate::claims_of) compares fractions as they are, and never says so.
+    /// A time is a float. [`claims_of`](crate::claims_of) compares fractions as they are, and never
+    /// returns this.
     FractionalTime,
 }
 
-/// Why a caller isn't given the claims of a token.
+/// The reason why a caller doesn't get the claims of a token.
 #[derive(Debug, Drop)]
 pub enum Refusal {
     /// The layer waits to be opened. Its texts are in the caller's memory.
     Layer(LayerView),
-    /// There is no room for the answer; or the bytes of a layer are none, or memory ran out.
+    /// The result doesn't fit, the bytes of a layer aren't one, or an allocation failed.
     Answer(ffi_query::Refusal),
-    /// What is in the innermost layer isn't a claims set.
+    /// The content of the innermost layer isn't a claims set.
     NotClaims(CoseError),
     /// A reason of the policy.
     Policy(Reason),
 }
 
-/// An error of the gate, apart from the layer that waits.
+/// An error of the gate: a waiting layer, or a refusal.
 #[derive(Drop)]
 pub(crate) enum Apart {
     /// A layer waits.
     Layer(Layer),
-    /// None does: this is the reason against the token.
+    /// No layer waits. This is the reason against the token.
     Refused(Refusal),
 }
 
-/// A layer that waits, or that memory ran out.
+/// Returns the waiting layer, or `OutOfMemory` as a refusal.
 fn apart_of_caller(waiting: Waiting) -> Apart
     ensures { result ≡ apart_of_caller waiting }
 {
@@ -72,7 +73,7 @@ fn apart_of_caller(waiting: Waiting) -> Apart
     }
 }
 
-/// An error that both gates have.
+/// Converts an error that both functions of the gate have.
 fn apart_of_gate(error: GateError<Waiting>) -> Apart
     ensures { result ≡ apart_of_gate error }
 {
@@ -89,7 +90,7 @@ fn apart_of_gate(error: GateError<Waiting>) -> Apart
     }
 }
 
-/// The layer that waits, or the reason against the token.
+/// Returns the waiting layer, or the reason against the token.
 pub(crate) fn taken_apart(error: PolicyError<Waiting>) -> Apart
     ensures { result ≡ apart error }
 {

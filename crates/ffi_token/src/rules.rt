@@ -1,4 +1,4 @@
-//! What a verifier asks of a token, with algorithms and labels by their numbers.
+//! A verifier's requirements for a token, with algorithms and labels as numbers.
 
 ghost use Rattle.std.specs.Prelude.{◌≡◌, IfOk, map};
 ghost use Rattle.coset.specs.LabelViews.{registered_or_private_view};
@@ -14,39 +14,40 @@ use coset::{Algorithm, CoseError, RegisteredLabelWithPrivate};
 use cwt_gate::{Authentication, Form, GateError, Policy, PolicyError, Unassigned, judge_with};
 use std::alloc::{AllocError, Global};
 
-/// What a verifier asks of a token beside what it opened: a [`Policy`] by numbers. A number that IANA hasn't assigned is taken
-/// as one for private use.
+/// A verifier's requirements for a token: a [`Policy`] in numbers. A number that IANA hasn't
+/// assigned counts as a private-use number.
 #[derive(Clone, Copy, Debug)]
 pub struct Rules<'a> {
-    /// The algorithms of layers with a signature.
+    /// The allowed algorithms of layers with a signature.
     pub signatures: &'a [i64],
-    /// The algorithms of layers with a MAC.
+    /// The allowed algorithms of layers with a MAC.
     pub macs: &'a [i64],
-    /// The algorithms of encrypted layers.
+    /// The allowed algorithms of encrypted layers.
     pub ciphers: &'a [i64],
-    /// The labels that the caller understands, of those that a header may call critical.
+    /// The labels that the caller understands, out of those that a header may list as critical.
     pub critical: &'a [i64],
-    /// The form of a layer that has no tag.
+    /// The form of a layer without a tag.
     pub plain: Form,
-    /// Which layers authenticate who sent the token: there must be one.
+    /// The layers that authenticate the sender. A token must have at least one of them.
     pub authenticated_by: Authentication,
-    /// What becomes of claims whose numbers IANA hasn't assigned.
+    /// The treatment of claims whose numbers IANA hasn't assigned.
     pub unassigned: Unassigned,
-    /// Whether a token must expire (`exp`).
+    /// True if a token must have an expiration time (`exp`).
     pub expires: bool,
-    /// Whether a token that was issued later than now is refused (`iat`).
+    /// True if a token is refused when it was issued later than now (`iat`).
     pub issued: bool,
-    /// The age, in seconds since it was issued, at which a token is refused, and one that doesn't say when it was issued.
+    /// The age in seconds since the time of issue at which a token is refused. A token without a
+    /// time of issue is then refused too.
     pub max_age: Option<u64>,
-    /// How many seconds the clocks of issuer and verifier may differ.
+    /// The number of seconds by which the clocks of issuer and verifier may differ.
     pub leeway: u64,
-    /// The issuer that the claims must name (`iss`), where there is one.
+    /// The issuer that the claims must name (`iss`), if there is one.
     pub issuer: Option<&'a str>,
-    /// The audience that the claims must name (`aud`), where there is one.
+    /// The audience that the claims must name (`aud`), if there is one.
     pub audience: Option<&'a str>,
 }
 
-/// The label of that number: a value of the registry, or else one for private use.
+/// Returns the label with this number: a value of the registry, or else a private-use number.
 fn label<T: EnumI64>(number: i64) -> RegisteredLabelWithPrivate<T>
     ensures { registered_or_private_view T.number result ≡ named T.value_of number }
 {
@@ -56,10 +57,10 @@ fn label<T: EnumI64>(number: i64) -> RegisteredLabelWithPrivate<T>
     }
 }
 
-/// The labels of these numbers.
+/// Returns the labels with these numbers.
 ///
 /// # Errors
-/// `AllocError` alone.
+/// `AllocError` if an allocation fails.
 fn labels<T: EnumI64 + Drop>(
     alloc: Global,
     numbers: &[i64],
@@ -84,10 +85,10 @@ struct Lists {
 }
 
 impl Rules<'_> {
-    /// The lists of the policy.
+    /// Returns the lists of the policy.
     ///
     /// # Errors
-    /// `AllocError` alone.
+    /// `AllocError` if an allocation fails.
     fn lists(&self, alloc: Global) -> Result<Lists, AllocError>
         ensures { IfOk result (λ lists. ListsOf self.now lists) }
     {
@@ -99,10 +100,11 @@ impl Rules<'_> {
         })
     }
 
-    /// Judges a token of which the caller opened these layers.
+    /// Judges a token, given the layers that the caller opened.
     ///
     /// # Errors
-    /// The first reason against it, in the order of [`PolicyError`]; `Caller` of the layer that waits.
+    /// The first reason against the token, in the order of [`PolicyError`]. A waiting layer is
+    /// `Caller`.
     pub(crate) fn judge(
         &self,
         alloc: Global,

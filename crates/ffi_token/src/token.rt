@@ -14,10 +14,13 @@ use cwt_gate::PolicyError;
 use ffi_query::write_found;
 use std::alloc::Global;
 
-/// Writes the claims to the front of `out`, as their shortest encoding, and returns the length of that.
+/// Writes the claims to the front of `out` in their shortest encoding, and returns their length.
 ///
 /// # Errors
-/// `Answer`: `Short`, or `Cose` out of memory. `out` is then as it was.
+/// - `Answer` with `Short` if `out` is too small.
+/// - `Answer` with `Cose` if an allocation fails, or if the claims have a label twice.
+///
+/// `out` is then unchanged.
 fn write_claims(alloc: Global, claims: ClaimsSet, out: &mut [u8]) -> Result<usize, Refusal>
     ensures { WritesClaims (claims_view claims) out.old out.new result }
 {
@@ -31,7 +34,7 @@ fn write_claims(alloc: Global, claims: ClaimsSet, out: &mut [u8]) -> Result<usiz
     }
 }
 
-/// Writes the texts of a layer that waits to the front of `out`, and returns what is said of it.
+/// Writes the texts of a waiting layer to the front of `out`, and returns the layer's view.
 fn write_layer(layer: Layer, out: &mut [u8]) -> Refusal
     ensures { WritesLayer layer out.old out.new result }
 {
@@ -41,7 +44,7 @@ fn write_layer(layer: Layer, out: &mut [u8]) -> Refusal
     }
 }
 
-/// What is returned of a token that was judged.
+/// Returns the result for a judged token.
 fn answer(
     alloc: Global,
     judged: Result<KnownClaims, PolicyError<Waiting>>,
@@ -58,20 +61,29 @@ fn answer(
     }
 }
 
-/// Writes the claims of a token that is valid at `now`, in seconds since 1970 began in UTC, to the front of `out`, as their
-/// shortest encoding, once the caller opened each of its layers, where token and claims are as the rules ask (RFC 8392, section
-/// 7.2). It returns the length of that. Claims that the rules leave out aren't written.
+/// Writes the claims of a token to the front of `out`, and returns their length.
 ///
-/// A layer is opened where `opened` names it: its form, and the structure and the signature, MAC or ciphertext that were
-/// written of it when it waited. Any other waits: `Layer` then says what it is, and `out` begins with five texts, one behind
-/// the other: the structure; the signature, the MAC or the ciphertext; and the identifier of the key, the initialization
-/// vector and the partial one, each of the protected header, or else of the other. The caller verifies the signature or the MAC
-/// over the structure, or decrypts the ciphertext with the structure as additional data, by a key that it trusts, adds the
-/// layer to `opened`, and calls again.
+/// The caller must have opened each layer of the token. The token must be valid at `now`, which is
+/// in seconds since 1970 began in UTC, and meet the rules (RFC 8392, section 7.2). The claims are
+/// written in their shortest encoding, without those that the rules leave out.
+///
+/// A layer is opened if `opened` names its form and the bytes that were written for it when it
+/// waited. These are the structure, and the signature, MAC or ciphertext. Any other layer waits.
+/// `Layer` then has its view, and `out` begins with five texts, one after another:
+/// - the structure,
+/// - the signature, the MAC or the ciphertext,
+/// - the key identifier,
+/// - the initialization vector,
+/// - the partial initialization vector.
+///
+/// The last three are from the protected header, else from the unprotected one. The caller verifies
+/// the signature or the MAC over the structure. For a ciphertext, it decrypts it with the structure
+/// as additional authenticated data. It uses a key that it trusts, adds the layer to `opened`, and
+/// calls again.
 ///
 /// # Errors
-/// The first of [`Refusal`] that is true of the token, layer by layer from the outermost in, as
-/// [`judge_with`](cwt_gate::judge_with) orders them. But for `Layer`, `out` is then as it was.
+/// The first [`Refusal`] that applies to the token, layer by layer from the outermost in, in the
+/// order of [`judge_with`](cwt_gate::judge_with). Except for `Layer`, `out` is then unchanged.
 pub fn claims_of(
     alloc: Global,
     rules: &Rules<'_>,

@@ -1,4 +1,5 @@
-//! Calls of `coset_codec` over lists: whether labels repeat, and what a closure makes of the elements of an array.
+//! Calls of `coset_codec` on lists: repeated labels, and the elements of an array converted by a
+//! closure.
 
 use coset::cbor::value::Value;
 use coset::{AsCborValue, CallError, Label, Result};
@@ -9,10 +10,10 @@ use test_lines::asked::No;
 use test_lines::words::Words;
 use test_lines::{mark, spelled, tell};
 
-/// An array of labels: whether two of them are equal.
+/// Returns whether two labels of an array are equal.
 ///
 /// # Errors
-/// The word is no array of labels.
+/// A fault in a word that is no array of labels.
 pub fn repeats(alloc: Global, words: &Words<'_>) -> Result<String> {
     let mut labels: Vec<(Label, u8)> = Vec::new(alloc);
     for item in spelled::item(alloc, words.word(1))?.try_as_array()? {
@@ -27,10 +28,11 @@ pub fn repeats(alloc: Global, words: &Words<'_>) -> Result<String> {
     }
 }
 
-/// A value: what the closure `twice` makes of the elements of the array, as bytes; or `caller` where it refuses one.
+/// Returns the bytes that the closure `twice` makes from the elements of an array, or `caller` if
+/// it refuses one.
 ///
 /// # Errors
-/// The word is no item.
+/// A fault in a word that is no item.
 pub fn convert(alloc: Global, words: &Words<'_>) -> Result<String> {
     let value = spelled::item(alloc, words.word(1))?;
     mark::begin(alloc);
@@ -43,10 +45,10 @@ pub fn convert(alloc: Global, words: &Words<'_>) -> Result<String> {
     }
 }
 
-/// Twice the number.
+/// Returns twice the number.
 ///
 /// # Errors
-/// The value is no number from 0 to 99.
+/// `No` if the value is no number from 0 to 99.
 fn twice(value: Value) -> std::result::Result<u8, No> {
     let Some(number) = value.as_integer() else {
         return Err(No);

@@ -1,5 +1,5 @@
-//! `test_cbor`: makes the calls of CBOR: values, reading, items that are lent and writing, and of
-//! types of a caller's own, line by line (`test_lines` says how), and prints what each returned.
+//! `test_cbor` makes calls of CBOR, line by line (see `test_lines`), and prints the results:
+//! values, reading, borrowed items, writing, and types of a caller's own.
 #![tactic(auto)]
 
 mod lists;
@@ -20,7 +20,7 @@ use test_lines::words::Words;
 struct AllCalls;
 
 impl Calls for AllCalls {
-    /// A call that every type has.
+    /// Makes a call that every type has.
     fn typed(alloc: Global, kind: &str, call: Operation, words: &Words<'_>) -> Result<String> {
         match kind {
             "Value" => value::typed(alloc, call, words),
@@ -28,7 +28,7 @@ impl Calls for AllCalls {
         }
     }
 
-    /// A call of a type that is its own.
+    /// Makes a call that only one type has.
     fn of_type(alloc: Global, kind: &str, name: &str, words: &Words<'_>) -> Result<String> {
         match (kind, name) {
             ("Value", "try_as_array_then_convert") => lists::convert(alloc, words),
@@ -40,7 +40,7 @@ impl Calls for AllCalls {
         }
     }
 
-    /// A call of no type.
+    /// Makes a call without a type.
     fn of_no_type(alloc: Global, name: &str, words: &Words<'_>) -> Result<String> {
         match name {
             "read_value" => reading::read(alloc, words),

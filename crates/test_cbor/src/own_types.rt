@@ -1,4 +1,5 @@
-//! Calls of types of a caller's own, those of `example_types`. A `Report` takes the default bodies of the traits.
+//! Calls of a caller's own types, those of `example_types`. A `Report` has the default bodies of
+//! the traits.
 
 use coset::Result;
 use example_types::reading::Reading;
@@ -12,7 +13,7 @@ use test_lines::words::Words;
 /// Makes the call, of the type of that name.
 ///
 /// # Errors
-/// What it is given can't be made of the words, or the type isn't known or hasn't this call.
+/// A fault in the arguments, an unknown type, or a call that it doesn't have.
 pub fn call(alloc: Global, kind: &str, call: Operation, words: &Words<'_>) -> Result<String> {
     match kind {
         "Report" => uncopied::<Report>(alloc, call, words),

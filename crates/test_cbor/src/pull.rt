@@ -1,4 +1,4 @@
-//! Calls of `Pull`, an item that is lent.
+//! Calls of `Pull`, a borrowed item.
 
 use coset::cbor::de::{ByteChunks, Items, Pairs, Pull, TextChunks};
 use coset::cbor::value::Value;
@@ -7,10 +7,10 @@ use std::alloc::Global;
 use test_lines::words::Words;
 use test_lines::{mark, tell};
 
-/// Makes the call of that name: the bytes at whose front the item is.
+/// Makes the call of that name. Arguments: bytes with the item at their front.
 ///
 /// # Errors
-/// What it is given can't be made of the words, or the name isn't known.
+/// A fault in the arguments, or an unknown name.
 pub fn call(alloc: Global, name: &str, words: &Words<'_>) -> Result<String> {
     let bytes = words.bytes(alloc, 1)?;
     if name == "new" {
@@ -37,7 +37,7 @@ pub fn call(alloc: Global, name: &str, words: &Words<'_>) -> Result<String> {
     }
 }
 
-/// The bytes of the item, and those after it.
+/// Returns the bytes of the item, and those after it.
 fn new(alloc: Global, bytes: &[u8]) -> Result<String> {
     mark::begin(alloc);
     let lent = Pull::new(bytes);
@@ -52,7 +52,7 @@ fn new(alloc: Global, bytes: &[u8]) -> Result<String> {
     }
 }
 
-/// What the call of that name gives.
+/// Returns the result of the call of that name.
 fn scalar(name: &str, pull: Pull<'_>) -> Option<Value> {
     match name {
         "integer" => pull.integer().map(Value::Integer),
@@ -61,7 +61,7 @@ fn scalar(name: &str, pull: Pull<'_>) -> Option<Value> {
     }
 }
 
-/// Whether the call of that name gives something.
+/// Returns true if the call of that name returns something.
 fn is_of(name: &str, pull: Pull<'_>) -> Result<bool> {
     match name {
         "is_null" => Ok(pull.is_null()),
@@ -104,7 +104,7 @@ fn to_text(alloc: Global, pull: Pull<'_>) -> Result<String> {
     }
 }
 
-/// The item, made of the parts that the calls lend.
+/// Returns the item, rebuilt from its borrowed parts.
 fn walk(alloc: Global, pull: Pull<'_>) -> Result<String> {
     mark::begin(alloc);
     let answer = walked(alloc, pull, DEPTH);
@@ -112,10 +112,10 @@ fn walk(alloc: Global, pull: Pull<'_>) -> Result<String> {
     tell::value(alloc, answer)
 }
 
-/// As deep as a walk goes: each of at most 256 levels counts twice, and the item at the bottom once.
+/// The depth of a walk: two for each of at most 256 levels, and one for the item at the bottom.
 const DEPTH: u32 = 513;
 
-/// The item, made of the parts that are lent of it.
+/// Rebuilds the item from its borrowed parts.
 #[cycle(walk)]
 fn walked(alloc: Global, pull: Pull<'_>, depth: u32) -> Result<Value> {
     if let Some(scalar) = walked_scalar(pull) {
@@ -143,7 +143,7 @@ fn walked(alloc: Global, pull: Pull<'_>, depth: u32) -> Result<Value> {
     }
 }
 
-/// The items, in an array.
+/// Returns an array of the items.
 #[cycle(walk)]
 fn walked_items(alloc: Global, items: Items<'_>, depth: u32) -> Result<Value> {
     if depth == 0 {
@@ -156,7 +156,7 @@ fn walked_items(alloc: Global, items: Items<'_>, depth: u32) -> Result<Value> {
     Ok(Value::Array(values))
 }
 
-/// The pairs, in a map.
+/// Returns a map of the pairs.
 #[cycle(walk)]
 fn walked_pairs(alloc: Global, pairs: Pairs<'_>, depth: u32) -> Result<Value> {
     if depth == 0 {
@@ -170,7 +170,7 @@ fn walked_pairs(alloc: Global, pairs: Pairs<'_>, depth: u32) -> Result<Value> {
     Ok(Value::Map(values))
 }
 
-/// The item, where it is an integer, a float or a simple value.
+/// Returns the item, if it is an integer, a float or a simple value.
 fn walked_scalar(pull: Pull<'_>) -> Option<Value> {
     if let Some(number) = pull.integer() {
         return Some(Value::Integer(number));
@@ -187,7 +187,7 @@ fn walked_scalar(pull: Pull<'_>) -> Option<Value> {
     None
 }
 
-/// The chunks, joined.
+/// Returns the chunks, joined.
 fn bytes_of(alloc: Global, chunks: ByteChunks<'_>) -> Result<Vec<u8>> {
     let mut all = Vec::new(alloc);
     for chunk in chunks {
@@ -196,7 +196,7 @@ fn bytes_of(alloc: Global, chunks: ByteChunks<'_>) -> Result<Vec<u8>> {
     Ok(all)
 }
 
-/// The chunks of a text string, joined.
+/// Returns the chunks of a text string, joined.
 fn text_of(alloc: Global, chunks: TextChunks<'_>) -> Result<String> {
     let mut all = String::new(alloc);
     for chunk in chunks {

@@ -10,10 +10,11 @@ use std::sync::ledger::{Blank, Ledger};
 use test_lines::words::Words;
 use test_lines::{mark, tell};
 
-/// The bytes: what is written of the value that is read, and its length.
+/// Reads a value from the bytes. Returns its encoding and its length.
 ///
 /// # Errors
-/// The word is no hexadecimal, or memory ran out.
+/// - A fault in a word that isn't hexadecimal.
+/// - `OutOfMemory` if an allocation fails.
 pub fn read(alloc: Global, words: &Words<'_>) -> Result<String> {
     let bytes = words.bytes(alloc, 1)?;
     mark::begin(alloc);
@@ -28,10 +29,11 @@ pub fn read(alloc: Global, words: &Words<'_>) -> Result<String> {
     }
 }
 
-/// The bytes: the item that they are, or `none`.
+/// Returns the item that the bytes encode, or `none`.
 ///
 /// # Errors
-/// The word is no hexadecimal, or memory ran out.
+/// - A fault in a word that isn't hexadecimal.
+/// - `OutOfMemory` if an allocation fails.
 pub fn decode(alloc: Global, words: &Words<'_>) -> Result<String> {
     let bytes = words.bytes(alloc, 1)?;
     mark::begin(alloc);
@@ -44,10 +46,11 @@ pub fn decode(alloc: Global, words: &Words<'_>) -> Result<String> {
     }
 }
 
-/// The bytes: the length of the item at their front.
+/// Returns the length of the item at the front of the bytes.
 ///
 /// # Errors
-/// The word is no hexadecimal, or memory ran out.
+/// - A fault in a word that isn't hexadecimal.
+/// - `OutOfMemory` if an allocation fails.
 pub fn check_front(alloc: Global, words: &Words<'_>) -> Result<String> {
     let bytes = words.bytes(alloc, 1)?;
     mark::begin(alloc);
@@ -56,10 +59,11 @@ pub fn check_front(alloc: Global, words: &Words<'_>) -> Result<String> {
     tell_length(alloc, answer)
 }
 
-/// The same, without a counter.
+/// Does the same without a counter.
 ///
 /// # Errors
-/// The word is no hexadecimal, or memory ran out.
+/// - A fault in a word that isn't hexadecimal.
+/// - `OutOfMemory` if an allocation fails.
 pub fn front(alloc: Global, words: &Words<'_>) -> Result<String> {
     let bytes = words.bytes(alloc, 1)?;
     mark::begin(alloc);
@@ -68,7 +72,7 @@ pub fn front(alloc: Global, words: &Words<'_>) -> Result<String> {
     tell_length(alloc, answer)
 }
 
-/// The length that was found, or the error's text.
+/// Returns the length, or the error's text.
 fn tell_length(
     alloc: Global,
     answer: std::result::Result<usize, Error<EndOfFile>>,
@@ -79,7 +83,7 @@ fn tell_length(
     }
 }
 
-/// A check with a counter of its own.
+/// Checks the bytes with a counter of its own.
 fn check_counted<L: Ledger>(
     bytes: &[u8],
     blank: Blank,
@@ -92,7 +96,8 @@ fn check_counted<L: Ledger>(
     check_nested(bytes, &mut steps)
 }
 
-/// A check. Of arrays of one element each, n of them inside one another around an empty one, it takes n + 1 steps.
+/// Checks the bytes. For n nested arrays of one element each, around an empty array, this takes n +
+/// 1 steps.
 fn check_nested<L: Ledger>(
     bytes: &[u8],
     steps: &mut Steps<L>,

@@ -15,7 +15,7 @@ use test_lines::{mark, spelled, tell};
 /// Makes the call of that name of `Value`.
 ///
 /// # Errors
-/// What it is given can't be made of the words, or the name isn't known.
+/// A fault in the arguments, or an unknown name.
 pub fn call(alloc: Global, name: &str, words: &Words<'_>) -> Result<String> {
     match name {
         "from" => {
@@ -32,10 +32,10 @@ pub fn call(alloc: Global, name: &str, words: &Words<'_>) -> Result<String> {
     }
 }
 
-/// The double that a float is.
+/// Returns the double of a float.
 ///
 /// # Errors
-/// `UnexpectedItem`: the item isn't a float.
+/// `UnexpectedItem` if the item isn't a float.
 pub fn to_double(alloc: Global, words: &Words<'_>) -> Result<String> {
     let Value::Float(float) = spelled::item(alloc, words.word(1))? else {
         return Err(CoseError::UnexpectedItem("item", "float"));
@@ -47,7 +47,7 @@ pub fn to_double(alloc: Global, words: &Words<'_>) -> Result<String> {
     tell::value(alloc, Ok(Value::Float(Float::Double(bits))))
 }
 
-/// The value that a number of that type becomes.
+/// Returns the value of a number of that type.
 fn from(kind: &str, number: i128) -> Result<Value> {
     match kind {
         "u8" => Ok(Value::from(u8::try_from(number)?)),
@@ -62,7 +62,7 @@ fn from(kind: &str, number: i128) -> Result<Value> {
     }
 }
 
-/// What the value holds where it is of that kind, or `none`.
+/// Returns the content of the value if it is of that kind, or `none`.
 fn as_one(alloc: Global, name: &str, value: &Value) -> Result<String> {
     match name {
         "as_integer" => {
@@ -96,7 +96,7 @@ fn as_one(alloc: Global, name: &str, value: &Value) -> Result<String> {
     }
 }
 
-/// The bytes of a string of that kind.
+/// Returns the bytes of a string of that kind.
 fn content<'a>(name: &str, value: &'a Value) -> Option<&'a [u8]> {
     if name == "as_bytes" {
         let bytes = value.as_bytes()?;
@@ -106,8 +106,8 @@ fn content<'a>(name: &str, value: &'a Value) -> Option<&'a [u8]> {
     Some(text.as_bytes())
 }
 
-/// How many values the value holds where it is of that kind, and what is written of the last; of a tag its number and
-/// what it encloses; or `none`.
+/// Returns the number of values in a value of that kind, and the encoding of the last, or `none`.
+/// For a tag, returns its number and its content.
 fn as_many(alloc: Global, name: &str, value: &Value) -> Result<String> {
     mark::begin(alloc);
     let found = many(name, value);
@@ -141,10 +141,10 @@ fn with_last(alloc: Global, number: u64, last: Option<&Value>) -> Result<String>
     }
 }
 
-/// Makes the call of that name of `Integer`: the type that the number is of, or becomes; the number.
+/// Makes the call of that name of `Integer`. Arguments: the other type, and the number.
 ///
 /// # Errors
-/// What it is given can't be made of the words, or the name isn't known.
+/// A fault in the arguments, or an unknown name.
 pub fn call_integer(alloc: Global, name: &str, words: &Words<'_>) -> Result<String> {
     match name {
         "try_from" => try_from(alloc, words.word(1), words.word(2)),
@@ -153,7 +153,7 @@ pub fn call_integer(alloc: Global, name: &str, words: &Words<'_>) -> Result<Stri
     }
 }
 
-/// The integer of the number, which is of a type that holds more.
+/// Converts the number from a wider type to an integer.
 fn try_from(alloc: Global, kind: &str, word: &str) -> Result<String> {
     let integer = match kind {
         "i128" => {
@@ -177,7 +177,7 @@ fn try_from(alloc: Global, kind: &str, word: &str) -> Result<String> {
     }
 }
 
-/// The number of the integer, of a type that holds less.
+/// Converts the integer to a narrower type.
 fn try_into(alloc: Global, kind: &str, word: &str) -> Result<String> {
     let integer = Integer::try_from(spelled::wide(word)?)?;
     mark::begin(alloc);
@@ -192,10 +192,10 @@ fn try_into(alloc: Global, kind: &str, word: &str) -> Result<String> {
     }
 }
 
-/// The text of the reader's error of that name, with an offset where it has one.
+/// Returns the text of the reader's error of that name, with an offset if it has one.
 ///
 /// # Errors
-/// The name isn't known.
+/// A fault if the name isn't known.
 pub fn reader_error(alloc: Global, words: &Words<'_>) -> Result<String> {
     let error: de::Error<EndOfFile> = match words.word(1) {
         "Io" => de::Error::Io(EndOfFile),
@@ -212,7 +212,7 @@ fn offset(word: &str) -> Option<usize> {
     word.parse::<usize>().ok()
 }
 
-/// The writer's error of that name.
+/// Returns the writer's error of that name.
 fn writer_error_of(alloc: Global, words: &Words<'_>) -> Result<ser::Error<EndOfFile>> {
     match words.word(1) {
         "Io" => Ok(ser::Error::Io(EndOfFile)),
@@ -221,18 +221,18 @@ fn writer_error_of(alloc: Global, words: &Words<'_>) -> Result<ser::Error<EndOfF
     }
 }
 
-/// The text of the writer's error of that name.
+/// Returns the text of the writer's error of that name.
 ///
 /// # Errors
-/// The name isn't known.
+/// A fault if the name isn't known.
 pub fn writer_error(alloc: Global, words: &Words<'_>) -> Result<String> {
     told_error(alloc, writer_error_of(alloc, words)?)
 }
 
-/// The text of the library's error that the writer's error of that name becomes.
+/// Returns the text of the library's error into which the writer's error of that name is converted.
 ///
 /// # Errors
-/// The name isn't known.
+/// A fault if the name isn't known.
 pub fn writer_error_becomes(alloc: Global, words: &Words<'_>) -> Result<String> {
     told_error(alloc, CoseError::from(writer_error_of(alloc, words)?))
 }
@@ -250,15 +250,15 @@ fn told_error<E: Display + Drop>(alloc: Global, error: E) -> Result<String> {
 /// Makes the call of `Value` that every type has.
 ///
 /// # Errors
-/// What it is given can't be made of the words, or it hasn't this call.
+/// A fault in the arguments, or a call that `Value` doesn't have.
 pub fn typed(alloc: Global, call: Operation, words: &Words<'_>) -> Result<String> {
     plain(alloc, call, words, |v: &Value| copied(v))
 }
 
-/// The copy of a value of CBOR, whose `clone` has no other error.
+/// Returns the copy of a CBOR value, whose `clone` has only one error.
 ///
 /// # Errors
-/// Memory ran out.
+/// `Memory` if an allocation fails.
 fn copied(value: &Value) -> std::result::Result<Value, NoCopy> {
     match value.clone() {
         Ok(copy) => Ok(copy),

@@ -1,5 +1,5 @@
-//! Calls that write CBOR. Each is given a vector whose bytes stay before what is written; `before=` repeats them, which
-//! is what is printed where memory is out.
+//! Calls that write CBOR. Each appends to a vector, the first argument. The word `before=` repeats
+//! the vector's bytes, which are left if an allocation fails.
 
 use coset::cbor::value::Integer;
 use coset::cbor::{OutOfMemory, ser};
@@ -9,10 +9,10 @@ use std::alloc::Global;
 use test_lines::words::Words;
 use test_lines::{mark, spelled, tell};
 
-/// Makes the call of that name: the vector; what is written.
+/// Makes the call of that name. Arguments: the vector, and the thing to write.
 ///
 /// # Errors
-/// What it is given can't be made of the words, or the name isn't known.
+/// A fault in the arguments, or an unknown name.
 pub fn call(alloc: Global, name: &str, words: &Words<'_>) -> Result<String> {
     match name {
         "write_value" => write_value(alloc, words),
@@ -27,7 +27,7 @@ pub fn call(alloc: Global, name: &str, words: &Words<'_>) -> Result<String> {
     }
 }
 
-/// A value.
+/// Writes a value.
 fn write_value(alloc: Global, words: &Words<'_>) -> Result<String> {
     let mut out = words.bytes(alloc, 1)?;
     let value = spelled::item(alloc, words.word(2))?;
@@ -37,7 +37,7 @@ fn write_value(alloc: Global, words: &Words<'_>) -> Result<String> {
     told(alloc, answer, &out)
 }
 
-/// A value, which is gone then.
+/// Writes a value that is passed by value.
 fn write_owned_value(alloc: Global, words: &Words<'_>) -> Result<String> {
     let mut out = words.bytes(alloc, 1)?;
     let value = spelled::item(alloc, words.word(2))?;
@@ -47,7 +47,7 @@ fn write_owned_value(alloc: Global, words: &Words<'_>) -> Result<String> {
     told(alloc, answer, &out)
 }
 
-/// How many items follow.
+/// Writes the head of an array with this number of items.
 fn write_array_head(alloc: Global, words: &Words<'_>) -> Result<String> {
     let mut out = words.bytes(alloc, 1)?;
     let count = spelled::unsigned(words.word(2))? as usize;
@@ -57,7 +57,7 @@ fn write_array_head(alloc: Global, words: &Words<'_>) -> Result<String> {
     told(alloc, answer, &out)
 }
 
-/// How many pairs follow.
+/// Writes the head of a map with this number of pairs.
 fn write_map_head(alloc: Global, words: &Words<'_>) -> Result<String> {
     let mut out = words.bytes(alloc, 1)?;
     let count = spelled::unsigned(words.word(2))? as usize;
@@ -67,7 +67,7 @@ fn write_map_head(alloc: Global, words: &Words<'_>) -> Result<String> {
     told(alloc, answer, &out)
 }
 
-/// The tag's number.
+/// Writes the head of a tag with this number.
 fn write_tag_head(alloc: Global, words: &Words<'_>) -> Result<String> {
     let mut out = words.bytes(alloc, 1)?;
     let number = spelled::unsigned(words.word(2))?;
@@ -77,7 +77,7 @@ fn write_tag_head(alloc: Global, words: &Words<'_>) -> Result<String> {
     told(alloc, answer, &out)
 }
 
-/// The content of a byte string.
+/// Writes a byte string with this content.
 fn write_bytes(alloc: Global, words: &Words<'_>) -> Result<String> {
     let mut out = words.bytes(alloc, 1)?;
     let content = words.bytes(alloc, 2)?;
@@ -87,7 +87,7 @@ fn write_bytes(alloc: Global, words: &Words<'_>) -> Result<String> {
     told(alloc, answer, &out)
 }
 
-/// A text, in hexadecimal.
+/// Writes a text, which is given in hexadecimal.
 fn write_text(alloc: Global, words: &Words<'_>) -> Result<String> {
     let mut out = words.bytes(alloc, 1)?;
     let content = spelled::text(alloc, words.word(2))?;
@@ -97,7 +97,7 @@ fn write_text(alloc: Global, words: &Words<'_>) -> Result<String> {
     told(alloc, answer, &out)
 }
 
-/// A number.
+/// Writes a number.
 fn write_integer(alloc: Global, words: &Words<'_>) -> Result<String> {
     let mut out = words.bytes(alloc, 1)?;
     let number = Integer::try_from(spelled::wide(words.word(2))?)?;
@@ -118,10 +118,10 @@ fn told(
     }
 }
 
-/// Labels: the array of the items that they are written as.
+/// Returns the array of the items of labels.
 ///
 /// # Errors
-/// The words are no labels.
+/// A fault in words that are no labels.
 pub fn array(alloc: Global, words: &Words<'_>) -> Result<String> {
     let mut labels: Vec<Label> = Vec::new(alloc);
     for place in 1..words.count() {

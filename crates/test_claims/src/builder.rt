@@ -10,7 +10,7 @@ use test_lines::steps::{self, Step};
 use test_lines::words::{self, Words};
 use test_lines::{mark, spelled, tell};
 
-/// A call of the builder, with what it is given.
+/// A call of the builder, with its argument.
 #[derive(Drop)]
 enum BuilderCall {
     Issuer(String),
@@ -81,7 +81,7 @@ fn made(alloc: Global, builder: ClaimsSetBuilder, call: BuilderCall) -> Result<C
     }
 }
 
-/// Adds the claim, where its name isn't one that has a call of its own.
+/// Adds the claim, unless its name has a call of its own.
 fn with_claim(
     builder: ClaimsSetBuilder,
     name: CwtClaimName,
@@ -95,7 +95,7 @@ fn with_claim(
     }
 }
 
-/// Adds the claim, where its name is for private use.
+/// Adds the claim, if its name is for private use.
 fn with_private_claim(
     builder: ClaimsSetBuilder,
     id: i64,
@@ -108,7 +108,7 @@ fn with_private_claim(
     }
 }
 
-/// The claims that the builder makes by these calls.
+/// Returns the claims that these calls of the builder make.
 fn built(alloc: Global, calls: Vec<BuilderCall>) -> Result<ClaimsSet> {
     let mut builder = ClaimsSetBuilder::new(alloc);
     for call in calls {
@@ -117,10 +117,11 @@ fn built(alloc: Global, calls: Vec<BuilderCall>) -> Result<ClaimsSet> {
     Ok(builder.build())
 }
 
-/// The builder's calls, `NAME=WORD`, or `NAME=WORD:WORD` of those that add a claim.
+/// Builds claims. Arguments: the builder's calls, `NAME=WORD`, or `NAME=WORD:WORD` for those that
+/// add a claim.
 ///
 /// # Errors
-/// What the builder is given can't be made of the words.
+/// A fault in the arguments.
 pub fn build(alloc: Global, words: &Words<'_>) -> Result<String> {
     let calls = steps::all(alloc, words, 1)?;
     mark::begin(alloc);

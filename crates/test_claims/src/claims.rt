@@ -7,11 +7,13 @@ use test_lines::rest::{and_pairs, told};
 use test_lines::words::Words;
 use test_lines::{mark, spelled, tell};
 
-/// Asks for a name: the name, or `private=NUMBER`, a name for private use whatever the number is; the claims; a map, whose
-/// pairs follow those of their rest, as they may in claims that were built.
+/// Gets the value of a claim.
+///
+/// Arguments: the name, the claims, and a map whose pairs are appended to their rest. Claims that
+/// were built may have such pairs. `private=NUMBER` is a name for private use, with any number.
 ///
 /// # Errors
-/// What the call is given can't be made of the words.
+/// A fault in the arguments.
 pub fn get(alloc: Global, words: &Words<'_>) -> Result<String> {
     let name: ClaimName = spelled::with_private(alloc, words.word(1))?;
     let mut claims: ClaimsSet = spelled::read(alloc, words.word(2))?;
@@ -22,11 +24,12 @@ pub fn get(alloc: Global, words: &Words<'_>) -> Result<String> {
     told(alloc, answer)
 }
 
-/// The bytes of a claims set: what its claims that are understood are written as, and of each other claim what its label
-/// and its value are.
+/// Reads a claims set. Returns the encoding of the claims that are understood, and the label and
+/// value of each other claim.
 ///
 /// # Errors
-/// The word is no hexadecimal, or memory ran out.
+/// - A fault in a word that isn't hexadecimal.
+/// - `OutOfMemory` if an allocation fails.
 pub fn known(alloc: Global, words: &Words<'_>) -> Result<String> {
     let bytes = words.bytes(alloc, 1)?;
     mark::begin(alloc);
@@ -38,7 +41,7 @@ pub fn known(alloc: Global, words: &Words<'_>) -> Result<String> {
     }
 }
 
-/// What is said of these claims.
+/// Returns the text for these claims.
 fn tell_known(alloc: Global, known: KnownClaims) -> Result<String> {
     let mut text = tell::value(alloc, Ok(known.claims))?;
     for (label, value) in known.others {

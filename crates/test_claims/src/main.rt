@@ -1,5 +1,5 @@
-//! `test_claims`: makes the calls of claims sets, their builder and timestamps, line by line
-//! (`test_lines` says how), and prints what each returned.
+//! `test_claims` makes calls of claims sets, their builder and timestamps, line by line (see
+//! `test_lines`), and prints the results.
 #![tactic(auto)]
 
 mod builder;
@@ -19,7 +19,7 @@ use test_lines::words::Words;
 struct AllCalls;
 
 impl Calls for AllCalls {
-    /// A call that every type has. A timestamp is read and written as an item alone.
+    /// Makes a call that every type has. A timestamp is read from items and written as items alone.
     fn typed(alloc: Global, kind: &str, call: Operation, words: &Words<'_>) -> Result<String> {
         match (kind, call) {
             ("ClaimsSet", _) => plain(alloc, call, words, |v: &ClaimsSet| copied(v.clone())),
@@ -34,7 +34,7 @@ impl Calls for AllCalls {
         }
     }
 
-    /// A call of a type, or of its builder, that is its own.
+    /// Makes a call that only one type or its builder has.
     fn of_type(alloc: Global, kind: &str, name: &str, words: &Words<'_>) -> Result<String> {
         match (kind, name) {
             ("ClaimsSet", "get") => claims::get(alloc, words),

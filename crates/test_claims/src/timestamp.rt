@@ -6,18 +6,18 @@ use std::alloc::Global;
 use test_lines::words::{self, Words};
 use test_lines::{mark, spelled, tell};
 
-/// The timestamp that the item in hexadecimal is.
+/// Returns the timestamp of an item in hexadecimal.
 ///
 /// # Errors
-/// The word is none.
+/// A fault in a word that is no timestamp.
 pub fn of(alloc: Global, word: &str) -> Result<Timestamp> {
     Timestamp::from_cbor_value(alloc, spelled::item(alloc, word)?)
 }
 
-/// An item: which timestamp it is.
+/// Returns the timestamp of an item.
 ///
 /// # Errors
-/// The word is no item.
+/// A fault in a word that is no item.
 pub fn debug(alloc: Global, words: &Words<'_>) -> Result<String> {
     let item = spelled::item(alloc, words.word(1))?;
     mark::begin(alloc);
@@ -29,11 +29,13 @@ pub fn debug(alloc: Global, words: &Words<'_>) -> Result<String> {
     }
 }
 
-/// An item, and whole seconds: how the timestamp compares with them (`Less`, `Equal`, `Greater`; `none`, where it is no
-/// moment), and whether it is after them.
+/// Compares a timestamp with whole seconds.
+///
+/// Returns the order (`Less`, `Equal`, `Greater`, or `none` if the timestamp is no moment), and
+/// whether the timestamp is later.
 ///
 /// # Errors
-/// The first word is no item, or the second no number of 128 bits with a sign.
+/// A fault if the first word is no timestamp, or the second doesn't fit an `i64`.
 pub fn compare(alloc: Global, words: &Words<'_>) -> Result<String> {
     let timestamp = of(alloc, words.word(1))?;
     let seconds = words::number(words.word(2))?;

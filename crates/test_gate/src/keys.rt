@@ -1,4 +1,4 @@
-//! Keys that answer as a line says.
+//! Keys whose answers a line gives.
 
 use coset::Result;
 use cwt_gate::{Form, Keys, Sealed};
@@ -7,7 +7,7 @@ use std::cell::Cell;
 use test_lines::asked::{Asked, No};
 use test_lines::words::bytes;
 
-/// What keys answer, the last first, and what they were handed.
+/// The answers of keys, the last one first, and the arguments that the keys got.
 #[derive(Drop)]
 struct Script {
     answers: Vec<Option<Vec<u8>>>,
@@ -15,7 +15,7 @@ struct Script {
 }
 
 impl Script {
-    /// What is answered next.
+    /// Returns the next answer.
     fn answer(&mut self, sealed: &Sealed<'_>) -> std::result::Result<Vec<u8>, No> {
         let _ = self.asked.judge(sealed.proof, sealed.structure, true);
         match self.answers.pop() {
@@ -25,15 +25,16 @@ impl Script {
     }
 }
 
-/// Keys that answer as a line says: of each layer the next of its answers.
+/// Keys whose answers a line gives, one for each layer.
 #[derive(Drop)]
 pub struct Scripted(Cell<Option<Script>>);
 
 impl Scripted {
-    /// Keys that answer as this word says.
+    /// Returns keys with the answers of this word.
     ///
     /// # Errors
-    /// The word says nothing, or memory ran out.
+    /// - A fault in a word without answers.
+    /// - `OutOfMemory` if an allocation fails.
     pub fn new(alloc: Global, word: &str) -> Result<Scripted> {
         let mut answers = Vec::new(alloc);
         for answer in word.split(',') {
@@ -48,10 +49,10 @@ impl Scripted {
         Ok(Scripted(Cell::new(Some(Script { answers, asked }))))
     }
 
-    /// What the keys were handed.
+    /// Returns the arguments that the keys got.
     ///
     /// # Errors
-    /// `OutOfMemory` alone.
+    /// `OutOfMemory` if an allocation fails.
     pub fn asked(self, alloc: Global) -> Result<Asked> {
         match self.0.into_inner() {
             Some(script) => Ok(script.asked),
@@ -59,7 +60,7 @@ impl Scripted {
         }
     }
 
-    /// What is answered next.
+    /// Returns the next answer.
     fn answer(&self, sealed: &Sealed<'_>) -> std::result::Result<Vec<u8>, No> {
         let Some(mut script) = self.0.take() else {
             return Err(No);

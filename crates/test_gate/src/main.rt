@@ -1,21 +1,36 @@
-//! `test_gate`: judges tokens, line by line, and prints what each let in, or why it isn't let in.
+//! `test_gate` judges tokens, line by line. It prints the claims of a token that is let in, or the
+//! reason why it isn't.
 //!
-//! A line is `judge ANSWER NOW TOKEN`, or for a policy `judge_with ANSWER NOW LEEWAY AUDIENCE CRITICAL TOKEN`. ANSWER is
-//! whether the closure accepts the signature, `yes` or `no`; NOW the moment, and LEEWAY a span, in seconds. AUDIENCE is
-//! `aud=` and a text, or `-` for none. CRITICAL are the labels that the caller understands, each as its encoding in
-//! hexadecimal, with commas between, or `-` for none. TOKEN is hexadecimal, or `-` for no bytes. The one algorithm of a
-//! policy is ES256. An empty line, and a comment, which begins with `#`, is returned by itself.
+//! A line is `judge ANSWER NOW TOKEN`, or with a policy `judge_with ANSWER NOW LEEWAY AUDIENCE
+//! CRITICAL TOKEN`.
 //!
-//! `judge_token ANSWERS NOW POLICY TOKEN` judges by the strict policy, with what POLICY changes of it, words with commas
-//! between. `sign`, `mac` and `enc` allow an algorithm each: ES256, HMAC 256/64, AES-CCM-16-64-128. `plain=` and one of these
-//! is the form of layers without a tag; `by=sign` and `by=any` say what authenticates; `others` leaves claims out that aren't
-//! assigned; `forever` lets tokens in that don't expire, and `later` those issued later than now; `age=`, `leeway=`, `iss=` and
-//! `aud=` are the fields of these names. ANSWERS are what the keys return, layer by layer, with commas between: `yes`, `no`, or
-//! a plaintext in hexadecimal. Claims that were left out follow the others, as an array of labels and values.
+//! - ANSWER is `yes` or `no`: whether the closure accepts the signature.
+//! - NOW is a moment and LEEWAY a span, both in seconds.
+//! - AUDIENCE is `aud=` and a text, or `-` for none.
+//! - CRITICAL has the labels that the caller understands, each encoded in hexadecimal, separated by
+//!   commas, or `-` for none.
+//! - TOKEN is hexadecimal, or `-` for no bytes.
 //!
-//! The call is made between two marks (`test_lines::mark`), so that a process that is refused a request for memory there
-//! is refused one of the call's own. It is returned with the claims as they are written, or with the reason; and with how
-//! often the closure was asked, and what it was handed.
+//! The only algorithm of a policy is ES256. The answer to an empty line, and to a comment, which
+//! begins with `#`, is the line itself.
+//!
+//! `judge_token ANSWERS NOW POLICY TOKEN` judges by the strict policy with the changes in POLICY,
+//! which are separated by commas:
+//!
+//! - `sign`, `mac` and `enc` each allow an algorithm: ES256, HMAC 256/64, AES-CCM-16-64-128.
+//! - `plain=` and one of these is the form of layers without a tag.
+//! - `by=sign` and `by=any` say what authenticates.
+//! - `others` leaves out claims that aren't assigned.
+//! - `forever` lets in tokens that don't expire, `later` those that were issued later than now.
+//! - `age=`, `leeway=`, `iss=` and `aud=` are the fields of these names.
+//!
+//! ANSWERS are the keys' answers, one for each layer, separated by commas: `yes`, `no`, or a
+//! plaintext in hexadecimal. Claims that were left out follow the others, as an array of labels and
+//! values.
+//!
+//! The call is made between two marks (`test_lines::mark`). If an allocation between them is
+//! refused, it is one of the call's own. The output is the encoding of the claims, or the reason.
+//! It also has the number of calls of the closure, and the closure's arguments.
 #![tactic(auto)]
 
 mod keys;
@@ -48,10 +63,10 @@ impl Calls for GateCalls {
     }
 }
 
-/// The claims that were let in, as they are written, or why the token isn't let in.
+/// Returns the encoding of the claims that were let in, or the reason why the token wasn't.
 ///
 /// # Errors
-/// `OutOfMemory` where there is none for the text.
+/// `OutOfMemory` if an allocation for the text fails.
 fn told<E: Debug + Drop>(
     alloc: Global,
     answer: std::result::Result<ClaimsSet, E>,
@@ -77,10 +92,11 @@ fn at_a_moment(alloc: Global, words: &Words<'_>) -> Result<String> {
     asked.behind(alloc, told(alloc, answer)?)
 }
 
-/// The labels that the word spells.
+/// Returns the labels that the word spells.
 ///
 /// # Errors
-/// It spells none, or memory ran out.
+/// - A fault in the word.
+/// - `OutOfMemory` if an allocation fails.
 fn labels(alloc: Global, word: &str) -> Result<Vec<RegisteredLabelWithPrivate<HeaderParameter>>> {
     let mut labels = Vec::new(alloc);
     if word != "-" {
@@ -91,10 +107,10 @@ fn labels(alloc: Global, word: &str) -> Result<Vec<RegisteredLabelWithPrivate<He
     Ok(labels)
 }
 
-/// The span that the word spells.
+/// Returns the span that the word spells.
 ///
 /// # Errors
-/// It spells none.
+/// A fault in a word that spells none.
 fn span(word: &str) -> Result<u64> {
     match word.parse::<u64>() {
         Ok(seconds) => Ok(seconds),
@@ -102,10 +118,11 @@ fn span(word: &str) -> Result<u64> {
     }
 }
 
-/// The claims that were let in, as they are written, and those that were left out; or why the token isn't let in.
+/// Returns the encoding of the claims that were let in, and of those that were left out, or the
+/// reason.
 ///
 /// # Errors
-/// `OutOfMemory` where there is none for the text.
+/// `OutOfMemory` if an allocation for the text fails.
 fn told_with(
     alloc: Global,
     answer: std::result::Result<KnownClaims, PolicyError<No>>,
@@ -150,7 +167,7 @@ fn by_a_policy(alloc: Global, words: &Words<'_>) -> Result<String> {
     keys.asked(alloc)?.behind(alloc, told_with(alloc, answer)?)
 }
 
-/// The algorithm of a layer that a line allows; none where it allows none.
+/// Returns the algorithm that a line allows for layers, or none.
 fn allowed<'a>(
     algorithm: &'a [RegisteredLabelWithPrivate<Algorithm>; 1],
     is_allowed: bool,
@@ -162,7 +179,7 @@ fn allowed<'a>(
     }
 }
 
-/// The text, where there is one.
+/// Returns the text, if there is one.
 fn text_of(text: &Option<String>) -> Option<&str> {
     match text {
         Some(text) => Some(text.as_str()),
@@ -170,7 +187,7 @@ fn text_of(text: &Option<String>) -> Option<&str> {
     }
 }
 
-/// What a line changes of the strict policy.
+/// The changes of the strict policy in a line.
 #[derive(Drop)]
 struct Changes {
     sign: bool,
@@ -188,7 +205,7 @@ struct Changes {
 }
 
 impl Changes {
-    /// None.
+    /// Returns no changes.
     fn none() -> Changes {
         Changes {
             sign: false,
@@ -209,7 +226,8 @@ impl Changes {
     /// Makes the change that a word names.
     ///
     /// # Errors
-    /// The word says nothing, or memory ran out.
+    /// - A fault in an unknown word.
+    /// - `OutOfMemory` if an allocation fails.
     fn make(&mut self, alloc: Global, word: &str) -> Result<()> {
         match word {
             "sign" => self.sign = true,
@@ -228,10 +246,10 @@ impl Changes {
         Ok(())
     }
 
-    /// Makes the change that a word has as a name and a value.
+    /// Makes the change that a word gives by name and value.
     ///
     /// # Errors
-    /// The same as `make`.
+    /// The errors of `make`.
     fn set(&mut self, alloc: Global, word: &str) -> Result<()> {
         match word.split_once('=') {
             Some(("age", age)) => self.max_age = Some(span(age)?),
@@ -243,10 +261,10 @@ impl Changes {
         Ok(())
     }
 
-    /// The changes that these words name.
+    /// Returns the changes that these words name.
     ///
     /// # Errors
-    /// The same as `make`.
+    /// The errors of `make`.
     fn of(alloc: Global, words: &str) -> Result<Changes> {
         let mut changes = Changes::none();
         for word in words.split(',') {
@@ -256,7 +274,7 @@ impl Changes {
     }
 }
 
-/// Judges a token with the strict policy and what a line changes of it.
+/// Judges a token by the strict policy with a line's changes.
 fn by_a_strict_policy(alloc: Global, words: &Words<'_>) -> Result<String> {
     let now = words.number(2)?;
     let changes = Changes::of(alloc, words.word(3))?;

@@ -11,7 +11,7 @@ use test_lines::steps::{self, Step};
 use test_lines::words::{self, Words};
 use test_lines::{mark, spelled, tell};
 
-/// A call of the builder, with what it is given.
+/// A call of the builder, with its argument.
 #[derive(Drop)]
 enum BuilderCall {
     Algorithm(iana::Algorithm),
@@ -103,7 +103,7 @@ fn made(alloc: Global, builder: HeaderBuilder, call: BuilderCall) -> Result<Head
     }
 }
 
-/// Adds the value, where the label isn't one that has a call of its own.
+/// Adds the value, unless its label has a call of its own.
 fn with_value(builder: HeaderBuilder, label: i64, value: Value) -> Result<HeaderBuilder> {
     if label < 1 || (7 < label && !(label == 11 || label == 12)) {
         builder.value(label, value)
@@ -112,7 +112,7 @@ fn with_value(builder: HeaderBuilder, label: i64, value: Value) -> Result<Header
     }
 }
 
-/// The header that the builder makes by these calls.
+/// Returns the header that these calls of the builder make.
 fn built(alloc: Global, calls: Vec<BuilderCall>) -> Result<Header> {
     let mut builder = HeaderBuilder::new(alloc);
     for call in calls {
@@ -121,10 +121,11 @@ fn built(alloc: Global, calls: Vec<BuilderCall>) -> Result<Header> {
     Ok(builder.build())
 }
 
-/// The builder's calls, `NAME=WORD`, or `NAME=WORD:WORD` of `value` and `text_value`.
+/// Builds a header. Arguments: the builder's calls, `NAME=WORD`, or `NAME=WORD:WORD` for `value`
+/// and `text_value`.
 ///
 /// # Errors
-/// What the builder is given can't be made of the words.
+/// A fault in the arguments.
 pub fn build(alloc: Global, words: &Words<'_>) -> Result<String> {
     let calls = steps::all(alloc, words, 1)?;
     mark::begin(alloc);

@@ -6,10 +6,10 @@ use test_lines::rest::{and_pairs, told};
 use test_lines::words::Words;
 use test_lines::{mark, spelled, tell};
 
-/// A header: whether it says nothing.
+/// Returns whether a header is empty.
 ///
 /// # Errors
-/// The word is no header.
+/// A fault in a word that is no header.
 pub fn is_empty(alloc: Global, words: &Words<'_>) -> Result<String> {
     let header: Header = spelled::read(alloc, words.word(1))?;
     mark::begin(alloc);
@@ -18,11 +18,11 @@ pub fn is_empty(alloc: Global, words: &Words<'_>) -> Result<String> {
     tell::truth(alloc, answer)
 }
 
-/// Asks for a label: the label; the header; a map, whose pairs follow those of its rest, as they may in a header that was
-/// built.
+/// Gets the value of a label. Arguments: the label, the header, and a map whose pairs are appended
+/// to the header's rest. A header that was built may have such pairs.
 ///
 /// # Errors
-/// What the call is given can't be made of the words.
+/// A fault in the arguments.
 pub fn get(alloc: Global, words: &Words<'_>) -> Result<String> {
     let label: Label = spelled::read(alloc, words.word(1))?;
     let mut header: Header = spelled::read(alloc, words.word(2))?;

@@ -1,5 +1,5 @@
-//! `test_headers`: makes the calls of headers, protected headers and their builder, line by line
-//! (`test_lines` says how), and prints what each returned.
+//! `test_headers` makes calls of headers, protected headers and their builder, line by line (see
+//! `test_lines`), and prints the results.
 #![tactic(auto)]
 
 mod builder;
@@ -18,7 +18,7 @@ use test_lines::words::Words;
 struct AllCalls;
 
 impl Calls for AllCalls {
-    /// A call that every type has.
+    /// Makes a call that every type has.
     fn typed(alloc: Global, kind: &str, call: Operation, words: &Words<'_>) -> Result<String> {
         match kind {
             "Header" => plain(alloc, call, words, |v: &Header| copied(v.clone())),
@@ -28,7 +28,7 @@ impl Calls for AllCalls {
         }
     }
 
-    /// A call of a type, or of its builder, that is its own.
+    /// Makes a call that only one type or its builder has.
     fn of_type(alloc: Global, kind: &str, name: &str, words: &Words<'_>) -> Result<String> {
         match (kind, name) {
             ("Header", "is_empty") => header::is_empty(alloc, words),

@@ -1,4 +1,4 @@
-//! Calls of `ProtectedHeader`: about the byte string that holds it, and the bytes that represent it.
+//! Calls of `ProtectedHeader`, about its byte string and the bytes that represent it.
 
 use coset::cbor::value::Value;
 use coset::{CoseError, ProtectedBstr, ProtectedHeader, Result};
@@ -11,7 +11,7 @@ use test_lines::{mark, spelled, tell};
 /// Makes the call of that name.
 ///
 /// # Errors
-/// What it is given can't be made of the words, or the name isn't known.
+/// A fault in the arguments, or an unknown name.
 pub fn call(alloc: Global, name: &str, words: &Words<'_>) -> Result<String> {
     match name {
         "from_cbor_bstr" => from_cbor_bstr(alloc, words),
@@ -24,7 +24,7 @@ pub fn call(alloc: Global, name: &str, words: &Words<'_>) -> Result<String> {
     }
 }
 
-/// The byte string.
+/// Reads the header from a byte string.
 fn from_cbor_bstr(alloc: Global, words: &Words<'_>) -> Result<String> {
     let item = words.value::<Value>(alloc, 1)?;
     mark::begin(alloc);
@@ -33,7 +33,7 @@ fn from_cbor_bstr(alloc: Global, words: &Words<'_>) -> Result<String> {
     told(alloc, in_string(answer))
 }
 
-/// The byte string.
+/// Reads the header from a borrowed byte string.
 fn from_pull_bstr(alloc: Global, words: &Words<'_>) -> Result<String> {
     let bytes = words.bytes(alloc, 1)?;
     let pull = lent(&bytes)?;
@@ -43,7 +43,7 @@ fn from_pull_bstr(alloc: Global, words: &Words<'_>) -> Result<String> {
     told(alloc, in_string(answer))
 }
 
-/// How the byte string is given, `tree` or `lent`, and the byte string.
+/// Reads the header from a byte string. Arguments: the form `tree` or `lent`, and the byte string.
 fn from_source_bstr(alloc: Global, words: &Words<'_>) -> Result<String> {
     let bytes = words.bytes(alloc, 2)?;
     match words.word(1) {
@@ -53,7 +53,7 @@ fn from_source_bstr(alloc: Global, words: &Words<'_>) -> Result<String> {
     }
 }
 
-/// The header in the byte string that is given so.
+/// Reads the header from the byte string in this source.
 fn from_source(alloc: Global, source: ItemSource<'_>) -> Result<String> {
     mark::begin(alloc);
     let answer = ProtectedHeader::from_source_bstr(alloc, source);
@@ -61,7 +61,7 @@ fn from_source(alloc: Global, source: ItemSource<'_>) -> Result<String> {
     told(alloc, in_string(answer))
 }
 
-/// The map of a header, of which no bytes are kept.
+/// Returns the byte string of a header without kept bytes. Arguments: the header's map.
 fn cbor_bstr(alloc: Global, words: &Words<'_>) -> Result<String> {
     let header: ProtectedHeader = given(alloc, words, 1)?;
     mark::begin(alloc);
@@ -70,12 +70,12 @@ fn cbor_bstr(alloc: Global, words: &Words<'_>) -> Result<String> {
     tell::value(alloc, answer)
 }
 
-/// The header as it is written in a byte string.
+/// Returns the header as it is written in a byte string.
 fn in_string(answer: Result<ProtectedHeader>) -> Result<ProtectedBstr> {
     Ok(ProtectedBstr(answer?))
 }
 
-/// A protected header: whether it says nothing.
+/// Returns whether a protected header is empty.
 fn is_empty(alloc: Global, words: &Words<'_>) -> Result<String> {
     let protected = protected(alloc, words)?;
     mark::begin(alloc);
@@ -84,7 +84,7 @@ fn is_empty(alloc: Global, words: &Words<'_>) -> Result<String> {
     tell::truth(alloc, answer)
 }
 
-/// A protected header: the bytes that represent it.
+/// Returns the bytes that represent a protected header.
 fn protected_bytes(alloc: Global, words: &Words<'_>) -> Result<String> {
     let protected = protected(alloc, words)?;
     mark::begin(alloc);
@@ -96,7 +96,8 @@ fn protected_bytes(alloc: Global, words: &Words<'_>) -> Result<String> {
     }
 }
 
-/// A protected header: `read`, and the byte string that it is read from, whose bytes it keeps; or `built`, and a map.
+/// Reads a protected header. Arguments: `read` and the byte string, whose bytes it keeps, or
+/// `built` and a map.
 fn protected(alloc: Global, words: &Words<'_>) -> Result<ProtectedHeader> {
     if words.word(1) == "read" {
         ProtectedHeader::from_cbor_bstr(alloc, spelled::item(alloc, words.word(2))?)

@@ -9,7 +9,7 @@ use test_lines::steps::{self, Step};
 use test_lines::words::{self, Words};
 use test_lines::{mark, spelled, tell};
 
-/// A call of the builder, with what it is given.
+/// A call of the builder, with its argument.
 #[derive(Drop)]
 enum BuilderCall {
     KeyType(iana::KeyType),
@@ -55,7 +55,7 @@ fn made(alloc: Global, builder: CoseKeyBuilder, call: BuilderCall) -> Result<Cos
     }
 }
 
-/// Adds the param, where its label isn't one that has a call of its own.
+/// Adds the parameter, unless its label has a call of its own.
 fn with_param(builder: CoseKeyBuilder, label: i64, value: Value) -> Result<CoseKeyBuilder> {
     if label < 0 || 5 < label {
         builder.param(label, value)
@@ -64,7 +64,7 @@ fn with_param(builder: CoseKeyBuilder, label: i64, value: Value) -> Result<CoseK
     }
 }
 
-/// The key that the builder makes by these calls.
+/// Returns the key that these calls of the builder make.
 fn built(alloc: Global, calls: Vec<BuilderCall>) -> Result<CoseKey> {
     let mut builder = CoseKeyBuilder::new(alloc);
     for call in calls {
@@ -76,7 +76,7 @@ fn built(alloc: Global, calls: Vec<BuilderCall>) -> Result<CoseKey> {
 /// Makes the call of that name.
 ///
 /// # Errors
-/// What it is given can't be made of the words, or the name isn't known.
+/// A fault in the arguments, or an unknown name.
 pub fn call(alloc: Global, name: &str, words: &Words<'_>) -> Result<String> {
     match name {
         "build" => build(alloc, words),
@@ -92,7 +92,7 @@ pub fn call(alloc: Global, name: &str, words: &Words<'_>) -> Result<String> {
     }
 }
 
-/// The builder's calls, `NAME=WORD`, or `NAME=WORD:WORD` of `param`.
+/// Builds a key. Arguments: the builder's calls, `NAME=WORD`, or `NAME=WORD:WORD` for `param`.
 fn build(alloc: Global, words: &Words<'_>) -> Result<String> {
     let calls = steps::all(alloc, words, 1)?;
     mark::begin(alloc);
@@ -101,7 +101,7 @@ fn build(alloc: Global, words: &Words<'_>) -> Result<String> {
     tell::value(alloc, answer)
 }
 
-/// The builder's calls; the octet string is that of the key which is built by them.
+/// Builds a key, and returns its octet string. Arguments: the builder's calls.
 fn to_sec1_octet_string(alloc: Global, words: &Words<'_>) -> Result<String> {
     let key = built(alloc, steps::all(alloc, words, 1)?)?;
     mark::begin(alloc);
@@ -117,7 +117,7 @@ fn new_okp_key(alloc: Global) -> Result<String> {
     told(alloc, Ok(builder))
 }
 
-/// k.
+/// Arguments: k.
 fn new_symmetric_key(alloc: Global, words: &Words<'_>) -> Result<String> {
     let k = words.bytes(alloc, 1)?;
     mark::begin(alloc);
@@ -126,7 +126,7 @@ fn new_symmetric_key(alloc: Global, words: &Words<'_>) -> Result<String> {
     told(alloc, answer)
 }
 
-/// The variant; the public key.
+/// Arguments: the variant, and the public key.
 fn new_mldsa_pub_key(alloc: Global, words: &Words<'_>) -> Result<String> {
     let variant = key::variant(words.word(1))?;
     let k = words.bytes(alloc, 2)?;
@@ -136,7 +136,7 @@ fn new_mldsa_pub_key(alloc: Global, words: &Words<'_>) -> Result<String> {
     told(alloc, answer)
 }
 
-/// The curve; x; y.
+/// Arguments: the curve, x and y.
 fn new_ec2_pub_key(alloc: Global, words: &Words<'_>) -> Result<String> {
     let curve: EllipticCurve = spelled::named(words.word(1))?;
     let x = words.bytes(alloc, 2)?;
@@ -147,7 +147,7 @@ fn new_ec2_pub_key(alloc: Global, words: &Words<'_>) -> Result<String> {
     told(alloc, answer)
 }
 
-/// The curve; x; `true` or `false`, the sign of y.
+/// Arguments: the curve, x, and the sign of y as `true` or `false`.
 fn new_ec2_pub_key_y_sign(alloc: Global, words: &Words<'_>) -> Result<String> {
     let curve: EllipticCurve = spelled::named(words.word(1))?;
     let x = words.bytes(alloc, 2)?;
@@ -158,7 +158,7 @@ fn new_ec2_pub_key_y_sign(alloc: Global, words: &Words<'_>) -> Result<String> {
     told(alloc, answer)
 }
 
-/// The curve; x; y; d.
+/// Arguments: the curve, x, y and d.
 fn new_ec2_priv_key(alloc: Global, words: &Words<'_>) -> Result<String> {
     let curve: EllipticCurve = spelled::named(words.word(1))?;
     let x = words.bytes(alloc, 2)?;
@@ -170,7 +170,7 @@ fn new_ec2_priv_key(alloc: Global, words: &Words<'_>) -> Result<String> {
     told(alloc, answer)
 }
 
-/// The curve; the octet string of a point.
+/// Arguments: the curve, and the octet string of a point.
 fn new_ec2_pub_key_sec1_octet_string(alloc: Global, words: &Words<'_>) -> Result<String> {
     let curve: EllipticCurve = spelled::named(words.word(1))?;
     let octets = words.bytes(alloc, 2)?;

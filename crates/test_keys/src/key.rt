@@ -12,7 +12,7 @@ use test_lines::{mark, spelled, tell};
 /// Makes the call of that name of `CoseKey`.
 ///
 /// # Errors
-/// What it is given can't be made of the words, or the name isn't known.
+/// A fault in the arguments, or an unknown name.
 pub fn call(alloc: Global, name: &str, words: &Words<'_>) -> Result<String> {
     match name {
         "canonicalize" => canonicalize(alloc, words),
@@ -22,7 +22,8 @@ pub fn call(alloc: Global, name: &str, words: &Words<'_>) -> Result<String> {
     }
 }
 
-/// The order; the key; `before=` and what is written of the key where memory is out.
+/// Arguments: the order, the key, and `before=` with the key's encoding, which is left if an
+/// allocation fails.
 fn canonicalize(alloc: Global, words: &Words<'_>) -> Result<String> {
     let ordering = spelled::ordering(words.word(1))?;
     let mut key: CoseKey = spelled::read(alloc, words.word(2))?;
@@ -33,7 +34,8 @@ fn canonicalize(alloc: Global, words: &Words<'_>) -> Result<String> {
     tell::left(alloc, answer, &stands)
 }
 
-/// Asks for a label: the label; the key; a map, whose pairs follow its params, as they may in a key that was built.
+/// Gets the value of a label. Arguments: the label, the key, and a map whose pairs are appended to
+/// the key's parameters. A key that was built may have such pairs.
 fn get(alloc: Global, words: &Words<'_>) -> Result<String> {
     let label: Label = spelled::read(alloc, words.word(1))?;
     let mut key: CoseKey = spelled::read(alloc, words.word(2))?;
@@ -44,7 +46,7 @@ fn get(alloc: Global, words: &Words<'_>) -> Result<String> {
     told(alloc, answer)
 }
 
-/// The key.
+/// Arguments: the key.
 fn to_sec1_octet_string(alloc: Global, words: &Words<'_>) -> Result<String> {
     let key: CoseKey = spelled::read(alloc, words.word(1))?;
     mark::begin(alloc);
@@ -53,10 +55,10 @@ fn to_sec1_octet_string(alloc: Global, words: &Words<'_>) -> Result<String> {
     told_point(alloc, answer)
 }
 
-/// `ok` and the octet string, or the error's text.
+/// Returns `ok` and the octet string, or the error's text.
 ///
 /// # Errors
-/// `OutOfMemory` where there is none for the text.
+/// `OutOfMemory` if an allocation for the text fails.
 pub fn told_point(
     alloc: Global,
     answer: std::result::Result<Vec<u8>, ToSec1OctetStringError>,
@@ -70,7 +72,7 @@ pub fn told_point(
 /// Makes the call of that name of `MlDsaVariant`.
 ///
 /// # Errors
-/// What it is given can't be made of the words, or the name isn't known.
+/// A fault in the arguments, or an unknown name.
 pub fn call_variant(alloc: Global, name: &str, words: &Words<'_>) -> Result<String> {
     match name {
         "into" => {
@@ -94,10 +96,10 @@ pub fn call_variant(alloc: Global, name: &str, words: &Words<'_>) -> Result<Stri
     }
 }
 
-/// The variant of that name.
+/// Returns the variant of that name.
 ///
 /// # Errors
-/// None has it.
+/// A fault if there is none.
 pub fn variant(name: &str) -> Result<MlDsaVariant> {
     match name {
         "MlDsa44" => Ok(MlDsaVariant::MlDsa44),

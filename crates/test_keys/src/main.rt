@@ -1,5 +1,5 @@
-//! `test_keys`: makes the calls of keys, sets of keys and their builders, line by line (`test_lines`
-//! says how), and prints what each returned.
+//! `test_keys` makes calls of keys, sets of keys and their builders, line by line (see
+//! `test_lines`), and prints the results.
 #![tactic(auto)]
 
 mod builder;
@@ -18,7 +18,7 @@ use test_lines::words::Words;
 struct AllCalls;
 
 impl Calls for AllCalls {
-    /// A call that every type has.
+    /// Makes a call that every type has.
     fn typed(alloc: Global, kind: &str, call: Operation, words: &Words<'_>) -> Result<String> {
         match kind {
             "CoseKey" => plain(alloc, call, words, |v: &CoseKey| copied(v.clone())),
@@ -27,7 +27,7 @@ impl Calls for AllCalls {
         }
     }
 
-    /// A call of a type, or of its builder, that is its own.
+    /// Makes a call that only one type or its builder has.
     fn of_type(alloc: Global, kind: &str, name: &str, words: &Words<'_>) -> Result<String> {
         match (kind, name) {
             ("CoseKey", _) => key::call(alloc, name, words),

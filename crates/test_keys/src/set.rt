@@ -5,10 +5,11 @@ use std::alloc::Global;
 use test_lines::words::Words;
 use test_lines::{mark, tell};
 
-/// The bytes of a set of keys: of each key what it is written as, or the error's text.
+/// Reads a set of keys, and returns the encoding of each key, or its error's text.
 ///
 /// # Errors
-/// The word is no hexadecimal, or memory ran out.
+/// - A fault in a word that isn't hexadecimal.
+/// - `OutOfMemory` if an allocation fails.
 pub fn each(alloc: Global, words: &Words<'_>) -> Result<String> {
     let bytes = words.bytes(alloc, 1)?;
     mark::begin(alloc);
@@ -20,7 +21,7 @@ pub fn each(alloc: Global, words: &Words<'_>) -> Result<String> {
     }
 }
 
-/// What is said of each key.
+/// Returns the text for each key.
 fn tell_keys(alloc: Global, keys: Vec<Result<CoseKey>>) -> Result<String> {
     let mut text = String::from_str(alloc, "ok")?;
     for key in keys {

@@ -1,4 +1,4 @@
-//! Which labels words are, and what is written of labels that are made of numbers.
+//! Labels that are read from words, and labels that are made from numbers and written.
 
 use crate::own::Own;
 use coset::iana::{self, EnumI64, WithPrivateRange};
@@ -11,10 +11,10 @@ use std::fmt::{Debug, Display};
 use test_lines::words::{self, Words};
 use test_lines::{mark, spelled, tell};
 
-/// A label's bytes: which label is read of them, as its `Debug` writes it or, by the call `display`, its `Display`.
+/// Reads a label, and returns its `Debug` text, or its `Display` text for the call `display`.
 ///
 /// # Errors
-/// What the call is given can't be made of the words, or the kind of labels isn't known.
+/// A fault in the arguments, or an unknown kind of labels.
 pub fn show(alloc: Global, kind: &str, call: &str, words: &Words<'_>) -> Result<String> {
     match kind {
         "Label" => shown::<Label>(alloc, call, words),
@@ -47,10 +47,10 @@ fn shown<T: CborSerializable + Debug + Display + Drop>(
     }
 }
 
-/// A number, which may have a name: what is written of the label for private use.
+/// Returns the encoding of the label for private use with this number, which may have a name.
 ///
 /// # Errors
-/// What the call is given can't be made of the words, or the kind of labels isn't known.
+/// A fault in the arguments, or an unknown kind of labels.
 pub fn of_private_use(alloc: Global, kind: &str, words: &Words<'_>) -> Result<String> {
     match kind {
         "Algorithm" => written::<iana::Algorithm>(alloc, words::number(words.word(1))?),
@@ -67,10 +67,10 @@ fn written<T: EnumI64 + WithPrivateRange + Drop>(alloc: Global, number: i64) -> 
     tell::bytes(alloc, answer)
 }
 
-/// A number that has a name in the registry: the label that the name becomes.
+/// Returns the label for the name that the number has in the registry.
 ///
 /// # Errors
-/// What the call is given can't be made of the words, or the kind of labels isn't known.
+/// A fault in the arguments, or an unknown kind of labels.
 pub fn from(alloc: Global, kind: &str, words: &Words<'_>) -> Result<String> {
     match kind {
         "KeyType" => {
@@ -91,10 +91,10 @@ pub fn from(alloc: Global, kind: &str, words: &Words<'_>) -> Result<String> {
     }
 }
 
-/// The label that is used where none is named.
+/// Returns the default label.
 ///
 /// # Errors
-/// The kind of labels isn't known.
+/// A fault if the kind of labels isn't known.
 pub fn default(alloc: Global, kind: &str) -> Result<String> {
     match kind {
         "KeyType" => {

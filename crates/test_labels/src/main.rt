@@ -1,5 +1,5 @@
-//! `test_labels`: makes the calls of labels and registries, and compares labels in their orders,
-//! line by line (`test_lines` says how), and prints what each returned.
+//! `test_labels` makes calls of labels and registries, and compares labels in their orders. It does
+//! so line by line (see `test_lines`), and prints the results.
 #![tactic(auto)]
 
 mod label;
@@ -25,7 +25,8 @@ use test_lines::words::Words;
 struct AllCalls;
 
 impl Calls for AllCalls {
-    /// A call that every type has. Labels of a registry that have no name of their own go by that of the registry.
+    /// Makes a call that every type has. If a registry's labels have no name of their own, they
+    /// have the registry's.
     fn typed(alloc: Global, kind: &str, call: Operation, words: &Words<'_>) -> Result<String> {
         match kind {
             "Label" => plain(alloc, call, words, |v: &Label| copied(v.clone())),
@@ -56,7 +57,7 @@ impl Calls for AllCalls {
         }
     }
 
-    /// A call of a type of labels, or of a registry, that is its own.
+    /// Makes a call that only one type of labels or one registry has.
     fn of_type(alloc: Global, kind: &str, name: &str, words: &Words<'_>) -> Result<String> {
         match (kind, name) {
             ("iana", _) => registry::call(alloc, name, words),

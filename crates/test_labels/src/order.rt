@@ -6,10 +6,10 @@ use std::cmp::Ordering;
 use test_lines::words::Words;
 use test_lines::{mark, spelled};
 
-/// How the first label of that kind compares with each of them.
+/// Compares the first label of that kind with each of them.
 ///
 /// # Errors
-/// What the call is given can't be made of the words, or the kind of labels isn't known.
+/// A fault in the arguments, or an unknown kind of labels.
 pub fn cmp(alloc: Global, kind: &str, words: &Words<'_>) -> Result<String> {
     match kind {
         "Label" => told(alloc, &labels(alloc, words, 1)?),
@@ -19,10 +19,11 @@ pub fn cmp(alloc: Global, kind: &str, words: &Words<'_>) -> Result<String> {
     }
 }
 
-/// The order; the first label, and those that it is compared with.
+/// Compares labels in an order. Arguments: the order, the first label, and the labels to compare
+/// with it.
 ///
 /// # Errors
-/// What the call is given can't be made of the words.
+/// A fault in the arguments.
 pub fn compare(alloc: Global, words: &Words<'_>) -> Result<String> {
     let ordering = spelled::ordering(words.word(1))?;
     let labels = labels(alloc, words, 2)?;
@@ -34,10 +35,10 @@ pub fn compare(alloc: Global, words: &Words<'_>) -> Result<String> {
     signs(alloc, &orders)
 }
 
-/// The same by the lengths of the labels' encodings first.
+/// Compares labels by the lengths of their encodings first.
 ///
 /// # Errors
-/// What the call is given can't be made of the words.
+/// A fault in the arguments.
 pub fn cmp_canonical(alloc: Global, words: &Words<'_>) -> Result<String> {
     let labels = labels(alloc, words, 1)?;
     let mut orders = Vec::with_capacity(alloc, labels.len())?;
@@ -48,7 +49,7 @@ pub fn cmp_canonical(alloc: Global, words: &Words<'_>) -> Result<String> {
     signs(alloc, &orders)
 }
 
-/// How the first of these key types compares with each of them.
+/// Compares the first of these key types with each of them.
 fn cmp_key_types(alloc: Global, words: &Words<'_>) -> Result<String> {
     let mut all: Vec<KeyType> = Vec::new(alloc);
     for place in 1..words.count() {
@@ -57,7 +58,8 @@ fn cmp_key_types(alloc: Global, words: &Words<'_>) -> Result<String> {
     told(alloc, &all)
 }
 
-/// As above, for algorithms. `private=NUMBER` is a label for private use, whether or not the number has a name.
+/// Compares the first of these algorithms with each. `private=NUMBER` is a label for private use,
+/// even if the number has a name.
 fn cmp_algorithms(alloc: Global, words: &Words<'_>) -> Result<String> {
     let mut all: Vec<Algorithm> = Vec::new(alloc);
     for place in 1..words.count() {
@@ -66,7 +68,7 @@ fn cmp_algorithms(alloc: Global, words: &Words<'_>) -> Result<String> {
     told(alloc, &all)
 }
 
-/// The labels that the words from that place on spell.
+/// Returns the labels that the words from that place on spell.
 fn labels(alloc: Global, words: &Words<'_>, place: usize) -> Result<Vec<Label>> {
     let mut labels = Vec::new(alloc);
     for place in place..words.count() {
@@ -75,7 +77,7 @@ fn labels(alloc: Global, words: &Words<'_>, place: usize) -> Result<Vec<Label>> 
     Ok(labels)
 }
 
-/// How the first compares with each: `<`, `=` or `>`; `!` where `==` says otherwise.
+/// Compares the first with each, and returns `<`, `=` or `>`, or `!` if `==` disagrees.
 fn told<T: Ord>(alloc: Global, all: &[T]) -> Result<String> {
     let mut orders = Vec::with_capacity(alloc, all.len())?;
     mark::begin(alloc);
@@ -85,7 +87,7 @@ fn told<T: Ord>(alloc: Global, all: &[T]) -> Result<String> {
     signs(alloc, &orders)
 }
 
-/// How the first compares with each of them, and none where `==` says otherwise.
+/// Compares the first with each of them. The result is `None` if `==` disagrees.
 fn all_ordered<T: Ord>(all: &[T], orders: &mut Vec<Option<Ordering>>) -> Result<()> {
     let Some(first) = all.first() else {
         return Ok(());
@@ -98,7 +100,7 @@ fn all_ordered<T: Ord>(all: &[T], orders: &mut Vec<Option<Ordering>>) -> Result<
     Ok(())
 }
 
-/// How the first compares with each of them in that order.
+/// Compares the first with each of them in that order.
 fn all_compared(
     ordering: &CborOrdering,
     all: &[Label],
@@ -113,7 +115,7 @@ fn all_compared(
     Ok(())
 }
 
-/// How the first compares with each of them by the lengths of their encodings first.
+/// Compares the first with each of them by the lengths of their encodings first.
 fn all_canonical(all: &[Label], orders: &mut Vec<Option<Ordering>>) -> Result<()> {
     let Some(first) = all.first() else {
         return Ok(());
@@ -124,7 +126,7 @@ fn all_canonical(all: &[Label], orders: &mut Vec<Option<Ordering>>) -> Result<()
     Ok(())
 }
 
-/// A sign for each.
+/// Returns a sign for each result.
 fn signs(alloc: Global, orders: &[Option<Ordering>]) -> Result<String> {
     let mut signs = String::new(alloc);
     for order in orders {

@@ -6,7 +6,7 @@ ghost use Rattle.coset.specs.Registry.{minus};
 use coset::iana::{EnumI64, Named, WithPrivateRange};
 use std::fmt;
 
-/// What has a name in the registry.
+/// The names in the registry.
 #[derive(Clone, Copy, Debug, Eq, Ord, PartialEq, PartialOrd)]
 pub enum Own {
     Other,

@@ -11,25 +11,25 @@ use std::fmt::{Debug, Display};
 use test_lines::words::{self, Words};
 use test_lines::{mark, spelled, tell};
 
-/// What is asked of a registry.
+/// A question about a registry.
 #[derive(Clone, Copy)]
 enum Question {
-    /// What has this number.
+    /// The value with this number.
     Value(i64),
-    /// What the registry calls the value of this number.
+    /// The registry's name for the value with this number.
     Name(i64),
-    /// What is printed of the value of this number.
+    /// The `Display` text of the value with this number.
     Display(i64),
-    /// How many numbers have a name, from the first on, the second not counted.
+    /// The number of names from the first number on, up to the second.
     Count(i64, i64),
-    /// How the name of the first number compares with that of the second.
+    /// The order of the values with these numbers.
     Order(i64, i64),
 }
 
-/// Makes the call that `REGISTRY::CALL` names, or prints the constant that the name is.
+/// Makes the call `REGISTRY::CALL`, or prints the constant of that name.
 ///
 /// # Errors
-/// What it is given can't be made of the words, or the name isn't known.
+/// A fault in the arguments, or an unknown name.
 pub fn call(alloc: Global, name: &str, words: &Words<'_>) -> Result<String> {
     let Some((registry, call)) = name.split_once("::") else {
         return constant(alloc, name);
@@ -52,7 +52,7 @@ pub fn call(alloc: Global, name: &str, words: &Words<'_>) -> Result<String> {
     }
 }
 
-/// Whether the number is for private use in that registry.
+/// Returns whether the number is for private use in that registry.
 fn is_private(alloc: Global, registry: &str, number: i64) -> Result<String> {
     mark::begin(alloc);
     let answer = match registry {
@@ -70,7 +70,7 @@ fn is_private(alloc: Global, registry: &str, number: i64) -> Result<String> {
     }
 }
 
-/// The constant of that name.
+/// Returns the constant of that name.
 fn constant(alloc: Global, name: &str) -> Result<String> {
     mark::begin(alloc);
     let answer = match name {
@@ -87,7 +87,7 @@ fn constant(alloc: Global, name: &str) -> Result<String> {
     }
 }
 
-/// What that registry returns.
+/// Returns the registry's answer.
 fn answer(alloc: Global, registry: &str, question: Question) -> Result<String> {
     match registry {
         "HeaderParameter" => told::<HeaderParameter>(alloc, question),
@@ -112,7 +112,8 @@ fn answer(alloc: Global, registry: &str, question: Question) -> Result<String> {
     }
 }
 
-/// A value and its number, its name or what is printed of it, or `none`; a count; or an order.
+/// Returns a value and its number, its name or its `Display` text, or `none`; or a count; or an
+/// order.
 fn told<T: EnumI64 + Named + Ord + Debug + Display + Drop>(
     alloc: Global,
     question: Question,
@@ -175,7 +176,8 @@ fn ordered<T: EnumI64 + Ord + Drop>(i: i64, j: i64) -> Option<Ordering> {
     Some(first.cmp(&second))
 }
 
-/// What has the number, and its number. That this is the same, in every registry, rests on the trait's laws alone.
+/// Returns the value with this number, and its number. The trait's laws alone say that it is the
+/// same number.
 fn found<T: EnumI64 + Drop>(i: i64) -> Option<(T, i64)>
     ensures { IfSome result (λ x. x.1 ≡ i) }
 {

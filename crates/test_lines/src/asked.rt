@@ -1,15 +1,15 @@
-//! Closures that calls are given: what they answer, what they were handed, and how often they were called.
+//! The closures for calls: their results, their arguments, and the number of their calls.
 
 use crate::answer::Answer;
 use crate::tell;
 use coset::{CallError, CborSerializable, Result};
 use std::alloc::Global;
 
-/// That a closure refuses.
+/// The error of a closure that refuses.
 #[derive(Clone, Copy, Debug, Drop, PartialEq, Eq)]
 pub struct No;
 
-/// What a closure was handed, how often it was called, and what it makes. It takes no memory meanwhile.
+/// The number of a closure's calls, its arguments, and its result. A call allocates nothing.
 #[derive(Drop)]
 pub struct Asked {
     count: u32,
@@ -17,22 +17,22 @@ pub struct Asked {
     made: Option<Vec<u8>>,
 }
 
-/// As many bytes as closures are handed at most.
+/// The most bytes of arguments that are kept.
 const MOST: usize = 4096;
 
 impl Asked {
-    /// That a closure wasn't called yet.
+    /// Returns the state of a closure that wasn't called yet.
     ///
     /// # Errors
-    /// `OutOfMemory` alone.
+    /// `OutOfMemory` if an allocation fails.
     pub fn new(alloc: Global) -> Result<Asked> {
         Asked::making(alloc, None)
     }
 
-    /// That a closure wasn't called yet which makes these bytes, or none.
+    /// Returns the state of a closure that wasn't called yet and that makes these bytes, or none.
     ///
     /// # Errors
-    /// `OutOfMemory` alone.
+    /// `OutOfMemory` if an allocation fails.
     pub fn making(alloc: Global, made: Option<Vec<u8>>) -> Result<Asked> {
         Ok(Asked {
             count: 0,
@@ -41,8 +41,8 @@ impl Asked {
         })
     }
 
-    /// A closure is called, and handed these two: what it judges or works on, and what that goes with. Where it is
-    /// handed one alone the first is empty.
+    /// Records a call of a closure and its arguments: the bytes that it judges or works on, and
+    /// their structure. A closure with one argument gets only the second.
     fn ask(&mut self, first: &[u8], second: &[u8]) {
         self.count = self.count.saturating_add(1);
         if first.len().saturating_add(second.len()) < MOST {
@@ -51,10 +51,10 @@ impl Asked {
         }
     }
 
-    /// A closure is called that only says yes or no.
+    /// Records a call of a closure that accepts or refuses.
     ///
     /// # Errors
-    /// It says no.
+    /// `No` if `says_yes` is false.
     pub fn judge(
         &mut self,
         first: &[u8],
@@ -65,7 +65,7 @@ impl Asked {
         if says_yes { Ok(()) } else { Err(No) }
     }
 
-    /// A closure is called that makes bytes.
+    /// Records a call of a closure that makes bytes, and returns them.
     pub fn make(&mut self, first: &[u8], second: &[u8]) -> Vec<u8> {
         self.ask(first, second);
         match self.made.take() {
@@ -74,10 +74,10 @@ impl Asked {
         }
     }
 
-    /// A closure is called that makes bytes, or none.
+    /// Records a call of a closure that makes bytes or refuses, and returns the bytes.
     ///
     /// # Errors
-    /// It makes none.
+    /// `No` if there are no bytes to make.
     pub fn try_make(&mut self, first: &[u8], second: &[u8]) -> std::result::Result<Vec<u8>, No> {
         self.ask(first, second);
         match self.made.take() {
@@ -86,10 +86,10 @@ impl Asked {
         }
     }
 
-    /// The text with what the closure was handed: ` asked 1 HANDED`, or ` asked 0`.
+    /// Appends the number of calls and the arguments to the text: ` asked 1 HANDED`, or ` asked 0`.
     ///
     /// # Errors
-    /// `OutOfMemory` alone.
+    /// `OutOfMemory` if an allocation fails.
     pub fn behind(&self, alloc: Global, text: String) -> Result<String> {
         if self.count == 0 {
             return Ok(format!(in alloc; "{text} asked 0")?);
@@ -98,10 +98,10 @@ impl Asked {
         Ok(format!(in alloc; "{text} asked {} {handed}", self.count)?)
     }
 
-    /// What a call gave whose closure made something of what it was handed.
+    /// Returns the text for a call whose closure made something.
     ///
     /// # Errors
-    /// `OutOfMemory` alone.
+    /// `OutOfMemory` if an allocation fails.
     pub fn made<T: CborSerializable + Drop>(
         &self,
         alloc: Global,
@@ -111,10 +111,10 @@ impl Asked {
         self.behind(alloc, text)
     }
 
-    /// The same where the closure might refuse.
+    /// Returns the text for such a call if the closure may refuse.
     ///
     /// # Errors
-    /// `OutOfMemory` alone.
+    /// `OutOfMemory` if an allocation fails.
     pub fn tried<T: CborSerializable + Drop>(
         &self,
         alloc: Global,
@@ -127,10 +127,10 @@ impl Asked {
         self.behind(alloc, text)
     }
 
-    /// What a call gave whose closure judged what it was handed.
+    /// Returns the text for a call whose closure judged its arguments.
     ///
     /// # Errors
-    /// `OutOfMemory` alone.
+    /// `OutOfMemory` if an allocation fails.
     pub fn judged(
         &self,
         alloc: Global,
@@ -143,10 +143,11 @@ impl Asked {
         self.behind(alloc, text)
     }
 
-    /// What a call gave whose closure opened what it was handed.
+    /// Returns the text for a call whose closure decrypted its arguments, or may refuse to encrypt
+    /// them.
     ///
     /// # Errors
-    /// `OutOfMemory` alone.
+    /// `OutOfMemory` if an allocation fails.
     pub fn opened(
         &self,
         alloc: Global,
@@ -159,19 +160,19 @@ impl Asked {
         self.behind(alloc, text)
     }
 
-    /// The same where the closure didn't refuse.
+    /// Returns the text for such a call if the closure can't refuse.
     ///
     /// # Errors
-    /// `OutOfMemory` alone.
+    /// `OutOfMemory` if an allocation fails.
     pub fn sealed(&self, alloc: Global, answer: Result<Vec<u8>>) -> Result<String> {
         let text = tell::bytes(alloc, answer)?;
         self.behind(alloc, text)
     }
 
-    /// What a call of a message or of its builder gave.
+    /// Returns the text for a call of a message or of its builder.
     ///
     /// # Errors
-    /// `OutOfMemory` alone.
+    /// `OutOfMemory` if an allocation fails.
     pub fn told<T: CborSerializable + Drop>(
         &self,
         alloc: Global,
@@ -189,21 +190,21 @@ impl Asked {
     }
 }
 
-/// The closure says that what the message would carry is missing: it is called once more, and refuses.
+/// Counts a call of the closure for missing content, and returns its error.
 pub fn missing(missed: &mut u32) -> No {
     *missed = missed.saturating_add(1);
     No
 }
 
-/// The text, and how often the closure was called that says what is missing: ` missing 1`, or ` missing 0`.
+/// Appends the number of calls of the closure for missing content: ` missing 1`, or ` missing 0`.
 ///
 /// # Errors
-/// `OutOfMemory` alone.
+/// `OutOfMemory` if an allocation fails.
 pub fn and_missing(alloc: Global, text: String, missed: u32) -> Result<String> {
     Ok(format!(in alloc; "{text} missing {missed}")?)
 }
 
-/// What a call with a closure gave: the closure's refusal aside, an answer as of any other call.
+/// The result of a call with a closure: the library's, or the closure's refusal.
 enum Called<T> {
     Ours(Result<T>),
     Caller,
@@ -219,10 +220,10 @@ impl<T> Called<T> {
     }
 }
 
-/// `caller`, as of a closure that refuses.
+/// Returns `caller`, the text for a closure that refuses.
 ///
 /// # Errors
-/// `OutOfMemory` alone.
+/// `OutOfMemory` if an allocation fails.
 fn caller(alloc: Global) -> Result<String> {
     Ok(String::from_str(alloc, "caller")?)
 }

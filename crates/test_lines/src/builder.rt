@@ -1,4 +1,4 @@
-//! Builders of messages: what they have in common.
+//! The common calls of builders of messages.
 
 use coset::{
     CoseEncrypt, CoseEncrypt0, CoseEncrypt0Builder, CoseEncryptBuilder, CoseMac, CoseMac0,
@@ -10,11 +10,11 @@ use coset::{
 pub trait Builder: Sized + Drop {
     type Made: Drop;
 
-    /// What was built.
+    /// Returns the value that was built.
     fn made(self) -> Self::Made;
 }
 
-/// What was built, where the builder was made.
+/// Returns the value that was built, or the builder's error.
 pub fn built<B: Builder, E: Drop>(
     made: std::result::Result<B, E>,
 ) -> std::result::Result<B::Made, E> {
@@ -24,21 +24,21 @@ pub fn built<B: Builder, E: Drop>(
     }
 }
 
-/// A builder of what holds parts of one type: signatures, or recipients.
+/// A builder of a value with several parts of one type: signatures, or recipients.
 pub trait PartsBuilder: Builder {
     type Part: Drop;
 
-    /// The builder with that part behind its own.
+    /// Appends a part, and returns the builder.
     ///
     /// # Errors
-    /// `OutOfMemory` alone.
+    /// `OutOfMemory` if an allocation fails.
     fn and(self, part: Self::Part) -> Result<Self>;
 }
 
-/// The builder with these parts behind its own.
+/// Appends these parts, and returns the builder.
 ///
 /// # Errors
-/// `OutOfMemory` alone.
+/// `OutOfMemory` if an allocation fails.
 pub fn and_each<B: PartsBuilder>(mut builder: B, parts: Vec<B::Part>) -> Result<B> {
     for part in parts {
         builder = builder.and(part)?;

@@ -6,19 +6,19 @@ use crate::{mark, tell};
 use coset::{AsCborValue, CoseError, Result};
 use std::alloc::Global;
 
-/// Why there is no copy.
+/// The reason why there is no copy.
 #[derive(Clone, Copy, Debug, Drop, PartialEq, Eq)]
 pub enum NoCopy {
-    /// Memory ran out.
+    /// An allocation failed.
     Memory,
     /// `clone` returned another error.
     Other,
 }
 
-/// The copy, or which kind of error `clone` returned.
+/// Returns the copy, or the kind of error that `clone` returned.
 ///
 /// # Errors
-/// It returned one.
+/// The kind of the error of `clone`.
 pub fn copied<T>(answer: Result<T>) -> std::result::Result<T, NoCopy> {
     match answer {
         Ok(copy) => Ok(copy),
@@ -27,10 +27,11 @@ pub fn copied<T>(answer: Result<T>) -> std::result::Result<T, NoCopy> {
     }
 }
 
-/// Copies the value that the word holds, by `clone`, which returns no error but `OutOfMemory`.
+/// Copies the value in the first word with `clone`, whose only error should be `OutOfMemory`.
 ///
 /// # Errors
-/// The word holds none, or memory ran out.
+/// - A fault in a word that has no value.
+/// - `OutOfMemory` if an allocation fails.
 pub fn copy<T, F>(alloc: Global, words: &Words<'_>, clone: F) -> Result<String>
 where
     T: AsCborValue + PartialEq + Drop,
@@ -48,7 +49,7 @@ where
     }
 }
 
-/// What is written of the copy, and `differs` where it isn't equal to the value.
+/// Returns the encoding of the copy, followed by `differs` if it isn't equal to the value.
 fn tell_copy<T: AsCborValue + PartialEq>(alloc: Global, value: &T, copy: T) -> Result<String> {
     let are_equal = copy == *value;
     let text = told(alloc, Ok(copy))?;

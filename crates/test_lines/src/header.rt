@@ -1,15 +1,16 @@
-//! Protected headers that calls are given.
+//! The protected headers that calls get.
 
 use crate::words::Words;
 use coset::cbor::value::Value;
 use coset::{CoseError, Header, Label, ProtectedHeader, Result};
 use std::alloc::Global;
 
-/// A protected header that was read from its byte string, which holds the bytes of the word at `place`; the word at
-/// `header` says what becomes of it.
+/// Reads a protected header from its byte string. The word at `place` has the string's content, and
+/// the word at `header` says how the header is changed.
 ///
 /// # Errors
-/// They aren't read, the word isn't known, or memory ran out.
+/// - A fault in bytes that can't be read, or an unknown word.
+/// - `OutOfMemory` if an allocation fails.
 pub fn read(
     alloc: Global,
     words: &Words<'_>,
@@ -22,12 +23,16 @@ pub fn read(
     Ok(protected)
 }
 
-/// Makes of a protected header that was read what the word says: nothing, so that it stays as it was received (no
-/// word, or `received`); one without the bytes that were received (`made`); such a one that repeats a label
-/// (`repeated`); or one that repeats a label beside them (`kept`).
+/// Changes a protected header that was read, by a word:
+///
+/// - no word, or `received`: it stays as it was received.
+/// - `made`: it loses the bytes that were received.
+/// - `repeated`: it loses these bytes, and repeats a label.
+/// - `kept`: it keeps these bytes, and repeats a label.
 ///
 /// # Errors
-/// It is another word, or memory ran out.
+/// - `UnexpectedItem` for another word.
+/// - `OutOfMemory` if an allocation fails.
 pub fn change(protected: &mut ProtectedHeader, word: &str) -> Result<()> {
     match word {
         "" | "received" => Ok(()),
@@ -44,10 +49,10 @@ pub fn change(protected: &mut ProtectedHeader, word: &str) -> Result<()> {
     }
 }
 
-/// The header gets the label 70 twice, so that it can't be written.
+/// Adds the label 70 twice, so that the header can't be written.
 ///
 /// # Errors
-/// `OutOfMemory` alone.
+/// `OutOfMemory` if an allocation fails.
 fn repeat(header: &mut Header) -> Result<()> {
     header.rest.push((Label::Int(70), Value::from(1u8)))?;
     header.rest.push((Label::Int(70), Value::from(2u8)))?;

@@ -1,10 +1,11 @@
-//! What the programs share that make calls of `coset` by their names.
+//! The common code of programs that make calls of `coset` by name.
 //!
-//! A program reads lines. A line is `TYPE::CALL WORD..`: the name of a call, and what it is given, as hexadecimal, numbers
-//! and words. A call of no type is named alone. An empty line, and a comment, which begins with `#`, is returned by itself.
+//! A program reads lines. A line is `TYPE::CALL WORD..`: the name of a call, and its arguments as
+//! hexadecimal, numbers and words. A call without a type has only its name. The answer to an empty
+//! line, and to a comment, which begins with `#`, is the line itself.
 //!
-//! What a call is given is made ready first. Then the call is made between two marks (`mark`), so that a process that is
-//! refused a request for memory there is refused one of the call's own. What it returned is printed last.
+//! The arguments are made first. Then the call is made between two marks (`mark`). If an allocation
+//! between them is refused, it is one of the call's own. At last the result is printed.
 #![tactic(auto)]
 
 pub mod answer;

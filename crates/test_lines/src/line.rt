@@ -9,37 +9,37 @@ use coset::{CoseError, Result};
 use std::alloc::{AllocError, Global};
 use std::io::{self, BufRead, BufReader, BufWriter, Write};
 
-/// The calls that a program makes, by their names: by default it knows none.
+/// The calls that a program makes, by name. By default it knows none.
 pub trait Calls {
-    /// Makes a call that every type has, of the type of that name.
+    /// Makes a call that every type has, for the type of that name.
     ///
     /// # Errors
-    /// What the call is given can't be made of the other words, or the name isn't known.
+    /// A fault in the arguments, or an unknown name.
     fn typed(_alloc: Global, _kind: &str, _call: Operation, _words: &Words<'_>) -> Result<String> {
         Err(unknown())
     }
 
-    /// Makes a call of a type, or of its builder, that is its own.
+    /// Makes a call that only one type or its builder has.
     ///
     /// # Errors
-    /// The same as [`Calls::typed`].
+    /// The errors of [`Calls::typed`].
     fn of_type(_alloc: Global, _kind: &str, _name: &str, _words: &Words<'_>) -> Result<String> {
         Err(unknown())
     }
 
-    /// Makes a call of no type.
+    /// Makes a call without a type.
     ///
     /// # Errors
-    /// The same as [`Calls::typed`].
+    /// The errors of [`Calls::typed`].
     fn of_no_type(_alloc: Global, _name: &str, _words: &Words<'_>) -> Result<String> {
         Err(unknown())
     }
 
-    /// The answer to a line that is no comment: what the call returned that its first word names, or behind `unready: `
-    /// why it couldn't be made.
+    /// Returns the answer to a line that is no comment. It is the result of the call that the first
+    /// word names, or `unready: ` and the reason why the call couldn't be made.
     ///
     /// # Errors
-    /// `AllocError` where what the call is given, or the answer, has no room.
+    /// `AllocError` if an allocation for the arguments or the answer fails.
     fn answer(alloc: Global, line: &str) -> std::result::Result<String, AllocError> {
         let words = Words::new(line);
         let answer = match words.word(0).split_once("::") {
@@ -57,10 +57,11 @@ pub trait Calls {
     }
 }
 
-/// Answers each line of standard input, one after the other: no more than one is held.
+/// Answers each line of standard input in turn. Only one line is in memory at a time.
 ///
 /// # Errors
-/// Those of input and output, and out of memory where the line itself, or what a call is given, has no room.
+/// - The errors of input and output.
+/// - `OutOfMemory` if an allocation for the line or the arguments fails.
 pub fn answer_input<C: Calls, R: AllocGlobal + Input + Print>(rt: &R) -> io::Result<()> {
     let alloc = rt.alloc();
     let reader = BufReader::new(alloc, rt.reader())?;
@@ -72,10 +73,11 @@ pub fn answer_input<C: Calls, R: AllocGlobal + Input + Print>(rt: &R) -> io::Res
     writer.flush()
 }
 
-/// The line that returns this one: itself where it is empty or a comment, which begins with `#`; else the program's answer.
+/// Returns the answer to a line. For an empty line and for a comment, which begins with `#`, this
+/// is the line itself.
 ///
 /// # Errors
-/// `AllocError` alone.
+/// `AllocError` if an allocation fails.
 pub fn answer_line<C: Calls>(alloc: Global, line: &str) -> std::result::Result<String, AllocError>
     ensures { is_comment_spec line.now ≡ true
         → IfOk result (λ answer. string_bytes answer ≡ line.now) }
@@ -86,14 +88,14 @@ pub fn answer_line<C: Calls>(alloc: Global, line: &str) -> std::result::Result<S
     C::answer(alloc, line)
 }
 
-/// Whether the line is empty, or begins with `#`.
+/// Returns true if the line is empty, or begins with `#`.
 fn is_comment(line: &str) -> bool
     ensures { result ≡ is_comment_spec line.now }
 {
     matches!(line.as_bytes().first(), None | Some(b'#'))
 }
 
-/// The error where a line names no call that is known.
+/// Returns the error for a line that names no known call.
 pub fn unknown() -> CoseError {
     CoseError::UnexpectedItem("name", "name of a call")
 }

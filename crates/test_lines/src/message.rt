@@ -1,4 +1,4 @@
-//! Calls of messages and of their builders: what they have in common.
+//! The common calls of messages and of their builders.
 
 use crate::answer::Answer;
 use crate::asked::{Asked, and_missing};
@@ -11,43 +11,44 @@ use std::alloc::Global;
 
 /// The calls of a type that has a protected header and a builder.
 pub trait Headed {
-    /// The type. That it is read and written is asked of it by each function that does so: the toolchain of today fails at
-    /// an `impl` whose associated type has to have `CborSerializable`.
+    /// The type. Each function that reads or writes it requires the traits for that. The current
+    /// toolchain fails at an `impl` whose associated type must have `CborSerializable`.
     type Made: Drop;
 
-    /// What is missing where a line names no call of the type.
+    /// The thing that is missing if a line names no call of the type, for the error.
     const CALL: &'static str;
 
-    /// Changes the protected header as the word says ([`change`](crate::header::change)).
+    /// Changes the protected header by a word ([`change`](crate::header::change)).
     ///
     /// # Errors
-    /// It is another word, or memory ran out.
+    /// - `UnexpectedItem` for another word.
+    /// - `OutOfMemory` if an allocation fails.
     fn change(made: &mut Self::Made, word: &str) -> Result<()>;
 
-    /// The same value, made of its parts by the builder's calls that copy what they are given.
+    /// Makes the same value from its parts, with the builder's calls that copy their arguments.
     ///
     /// # Errors
-    /// `OutOfMemory` alone.
+    /// `OutOfMemory` if an allocation fails.
     fn rebuilt(alloc: Global, made: Self::Made) -> Result<Self::Made>;
 }
 
-/// The error where a line names no call of the type.
+/// Returns the error for a line that names no call of the type.
 pub fn unknown<H: Headed>() -> CoseError {
     CoseError::UnexpectedItem("name", H::CALL)
 }
 
-/// A call that takes a closure, and what it is given beside the message.
+/// The arguments of a call that takes a closure, except for the message.
 #[derive(Drop)]
 pub struct Given<'a, B> {
-    /// Where memory comes from.
+    /// The allocator.
     pub alloc: Global,
-    /// The call's name.
+    /// The name of the call.
     pub name: &'a str,
-    /// What the closure returns that judges.
+    /// Whether a closure that may refuse accepts its arguments.
     pub says_yes: bool,
-    /// Of `CoseSign` a signature, of `CoseRecipient` a context.
+    /// A signature for `CoseSign`, a context for `CoseRecipient`.
     pub beside: B,
-    /// A payload or ciphertext that is detached, or a plaintext.
+    /// A detached payload or ciphertext, or a plaintext.
     pub content: Vec<u8>,
     /// `external_aad`.
     pub aad: Vec<u8>,
@@ -55,19 +56,21 @@ pub struct Given<'a, B> {
 
 /// The calls of a message, and of its builder, that take closures.
 pub trait Message: Headed {
-    /// What calls are given beside the message: of `CoseSign` a signature, of `CoseRecipient` a context.
+    /// A further argument: a signature for `CoseSign`, a context for `CoseRecipient`.
     type Beside: Drop;
 
-    /// What the call of that name is given beside the message.
+    /// Returns the further argument of the call of that name.
     ///
     /// # Errors
-    /// The words are none, or memory ran out.
+    /// - A fault in the words.
+    /// - `OutOfMemory` if an allocation fails.
     fn beside(alloc: Global, name: &str, words: &mut Rest<'_>) -> Result<Self::Beside>;
 
-    /// Changes the protected header of what is beside the message, where that has one.
+    /// Changes the protected header of the further argument, if it has one.
     ///
     /// # Errors
-    /// The word isn't known, there is no such thing, or memory ran out.
+    /// - A fault in the word, or a missing header.
+    /// - `OutOfMemory` if an allocation fails.
     fn change_beside(
         _message: &mut Self::Made,
         _beside: &mut Self::Beside,
@@ -76,10 +79,10 @@ pub trait Message: Headed {
         Ok(())
     }
 
-    /// Makes the call of the message of that name.
+    /// Makes the message's call of that name.
     ///
     /// # Errors
-    /// The name isn't known, or the message isn't one of which the call can be made.
+    /// A fault if the name isn't known, or the message isn't suitable for the call.
     fn ask(
         message: Self::Made,
         given: Given<'_, Self::Beside>,
@@ -87,11 +90,12 @@ pub trait Message: Headed {
         missed: &mut u32,
     ) -> Result<Answer<Self::Made>>;
 
-    /// Makes the call of the builder of that name, once the builder has the message's parts and the mark is set
-    /// ([`mark::begin`]).
+    /// Makes the builder's call of that name. The builder gets the message's parts first, then the
+    /// mark is set ([`mark::begin`]).
     ///
     /// # Errors
-    /// The name isn't known, the message isn't one of which the call can be made, or memory ran out.
+    /// - A fault if the name isn't known, or the message isn't suitable for the call.
+    /// - `OutOfMemory` if an allocation fails.
     fn create(
         message: Self::Made,
         given: Given<'_, Self::Beside>,
@@ -99,10 +103,10 @@ pub trait Message: Headed {
     ) -> Result<Answer<Self::Made>>;
 }
 
-/// Makes the call of that name of a type, or of its builder, that take no closures.
+/// Makes the call of that name of a type or of its builder, if it takes no closure.
 ///
 /// # Errors
-/// What it is given can't be made of the words, or the name isn't known.
+/// A fault in the arguments, or an unknown name.
 pub fn call_headed<H: Headed>(alloc: Global, name: &str, words: &Words<'_>) -> Result<String>
 where
     H::Made: CborSerializable,
@@ -114,10 +118,10 @@ where
     }
 }
 
-/// Makes the call of that name of a message, or of its builder.
+/// Makes the call of that name of a message or of its builder.
 ///
 /// # Errors
-/// The same as [`call_headed`].
+/// The errors of [`call_headed`].
 pub fn call<M: Message>(alloc: Global, name: &str, words: &Words<'_>) -> Result<String>
 where
     M::Made: CborSerializable,
@@ -128,7 +132,7 @@ where
     }
 }
 
-/// The value of the first word, with its protected header as the second one says.
+/// Returns the value of the first word, with its protected header changed by the second.
 fn changed<H: Headed>(alloc: Global, words: &Words<'_>) -> Result<H::Made>
 where
     H::Made: CborSerializable,
@@ -138,7 +142,7 @@ where
     Ok(made)
 }
 
-/// The value; what becomes of its protected header.
+/// Builds the value of the first word again, with its protected header changed by the second.
 fn build<H: Headed>(alloc: Global, words: &Words<'_>) -> Result<String>
 where
     H::Made: CborSerializable,
@@ -150,10 +154,11 @@ where
     tell::value(alloc, answer)
 }
 
-/// A builder, and a part more, which the second word is.
+/// Appends a part, the second word, to a builder.
 ///
 /// # Errors
-/// The word is no such part, or memory ran out.
+/// - A fault in a word that is no such part.
+/// - `OutOfMemory` if an allocation fails.
 pub fn and<B: PartsBuilder>(alloc: Global, builder: B, words: &Words<'_>) -> Result<String>
 where
     B::Made: CborSerializable,
@@ -166,7 +171,7 @@ where
     tell::value(alloc, built(answer))
 }
 
-/// Makes the call of that name, which is given what its shape says.
+/// Makes the call of that name with the arguments of its shape.
 fn with_closure<M: Message>(
     alloc: Global,
     name: &str,
@@ -212,7 +217,7 @@ where
     }
 }
 
-/// The bytes that the next word spells, where the call is given them; else none.
+/// Returns the bytes that the next word spells if the call gets them, otherwise none.
 fn next_bytes(alloc: Global, is_given: bool, words: &mut Rest<'_>) -> Result<Vec<u8>> {
     if is_given {
         bytes(alloc, words.next_word())
@@ -221,7 +226,8 @@ fn next_bytes(alloc: Global, is_given: bool, words: &mut Rest<'_>) -> Result<Vec
     }
 }
 
-/// That the closure wasn't called yet. It makes the bytes of the next word where it makes bytes, unless it says no.
+/// Returns the state of a closure that wasn't called yet. If it makes bytes and accepts, these are
+/// the next word's.
 fn not_asked(alloc: Global, shape: Shape, says_yes: bool, words: &mut Rest<'_>) -> Result<Asked> {
     let made = next_bytes(alloc, shape.makes(), words)?;
     Asked::making(

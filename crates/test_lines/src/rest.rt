@@ -1,14 +1,16 @@
-//! Values that are asked for by their labels.
+//! The pairs of a map that aren't fields.
 
 use crate::{spelled, tell};
 use coset::cbor::value::Value;
 use coset::{AsCborValue, CoseError, Result};
 use std::alloc::Global;
 
-/// Appends the pairs of the map that the word spells, in their order, as they may follow in a value that was built.
+/// Appends the pairs of the map that the word spells, in order. A value that was built may have
+/// such pairs.
 ///
 /// # Errors
-/// The word spells none, a label of one isn't read, or memory ran out.
+/// - A fault if the word spells no map, or a label can't be read.
+/// - `OutOfMemory` if an allocation fails.
 pub fn and_pairs<K: AsCborValue + Drop>(
     alloc: Global,
     rest: &mut Vec<(K, Value)>,
@@ -23,10 +25,10 @@ pub fn and_pairs<K: AsCborValue + Drop>(
     Ok(())
 }
 
-/// `ok` and what is written of a copy of the value, or `none`.
+/// Returns `ok` and the encoding of a copy of the value, or `none`.
 ///
 /// # Errors
-/// `OutOfMemory` alone.
+/// `OutOfMemory` if an allocation fails.
 pub fn told(alloc: Global, answer: Option<&Value>) -> Result<String> {
     match answer {
         Some(value) => tell::value(alloc, Ok(value.clone()?)),

@@ -1,32 +1,38 @@
-//! What calls are given that take closures.
+//! The arguments of calls that take closures.
 
-/// The closure that a call takes.
+/// The kind of closure that a call takes.
 #[derive(Clone, Copy, PartialEq, Eq)]
 enum Closure {
-    /// None: the call gives the bytes that a closure would be handed.
+    /// None: the call returns the bytes that a closure would get.
     None,
-    /// One that accepts a signature or a tag, or refuses it.
+    /// A closure that accepts a signature or a tag, or refuses it.
     Judges,
-    /// One that makes a plaintext, or refuses.
+    /// A closure that makes a plaintext, or refuses.
     Opens,
-    /// One that makes a signature, a tag or a ciphertext.
+    /// A closure that makes a signature, a tag or a ciphertext.
     Creates,
-    /// One that makes such bytes, or refuses.
+    /// A closure that makes such bytes, or refuses.
     MayCreate,
 }
 
-/// What a call is given, in this order: `yes` or `no` where its closure may refuse; the message; of `CoseSign` a signature,
-/// of `CoseRecipient` a context; the content, where the message has none of its own; `external_aad`; what the closure makes,
-/// where it makes something; and what becomes of the protected header.
+/// The arguments of a call, in this order:
+///
+/// - `yes` or `no`, if its closure may refuse.
+/// - The message.
+/// - A signature for `CoseSign`, a context for `CoseRecipient`.
+/// - The content, if the message has none of its own.
+/// - `external_aad`.
+/// - The closure's result, if it makes something.
+/// - The change of the protected header.
 #[derive(Clone, Copy, PartialEq, Eq)]
 pub struct Shape {
     closure: Closure,
-    /// Whether it is given content: a payload or ciphertext that is detached, or a plaintext.
+    /// Whether the call gets content: a detached payload or ciphertext, or a plaintext.
     pub content: bool,
 }
 
 impl Shape {
-    /// The shape of the call of that name.
+    /// Returns the shape of the call of that name.
     pub fn of(name: &str) -> Option<Shape> {
         let (closure, content) = match name {
             "tbs_data" | "tbm" | "aad" => (Closure::None, false),
@@ -58,7 +64,7 @@ impl Shape {
         Some(Shape { closure, content })
     }
 
-    /// Whether the closure may refuse.
+    /// Returns true if the closure may refuse.
     pub fn may_refuse(&self) -> bool {
         matches!(
             self.closure,
@@ -66,7 +72,7 @@ impl Shape {
         )
     }
 
-    /// Whether the closure makes bytes.
+    /// Returns true if the closure makes bytes.
     pub fn makes(&self) -> bool {
         matches!(
             self.closure,
@@ -74,7 +80,7 @@ impl Shape {
         )
     }
 
-    /// Whether the call is the builder's.
+    /// Returns true if the call is one of the builder.
     pub fn creates(&self) -> bool {
         matches!(self.closure, Closure::Creates | Closure::MayCreate)
     }

@@ -1,4 +1,4 @@
-//! What a word spells.
+//! The values that words spell.
 
 use crate::words::{bytes, number};
 use coset::cbor::value::Value;
@@ -6,10 +6,11 @@ use coset::iana::{EnumI64, WithPrivateRange};
 use coset::{CborOrdering, CborSerializable, CoseError, RegisteredLabelWithPrivate, Result};
 use std::alloc::Global;
 
-/// The text of these bytes.
+/// Returns the text of the bytes that the word spells.
 ///
 /// # Errors
-/// The same as [`bytes`].
+/// - `UnexpectedItem` if the bytes aren't UTF-8.
+/// - The errors of [`bytes`].
 pub fn text(alloc: Global, word: &str) -> Result<String> {
     match String::from_utf8(bytes(alloc, word)?) {
         Ok(text) => Ok(text),
@@ -17,26 +18,27 @@ pub fn text(alloc: Global, word: &str) -> Result<String> {
     }
 }
 
-/// What is read of these bytes.
+/// Reads a value from the bytes that the word spells.
 ///
 /// # Errors
-/// The bytes are of none, or the same as [`bytes`].
+/// - A fault in the bytes.
+/// - The errors of [`bytes`].
 pub fn read<T: CborSerializable + Drop>(alloc: Global, word: &str) -> Result<T> {
     T::from_slice(alloc, &bytes(alloc, word)?)
 }
 
-/// The item that these bytes are.
+/// Reads the item from the bytes that the word spells.
 ///
 /// # Errors
-/// The bytes are none, or the same as [`bytes`].
+/// The errors of [`read`].
 pub fn item(alloc: Global, word: &str) -> Result<Value> {
     read(alloc, word)
 }
 
-/// The number that the word spells, which isn't below 0.
+/// Returns the number that the word spells, which isn't below 0.
 ///
 /// # Errors
-/// It spells none.
+/// `UnexpectedItem` if the word spells no such number.
 pub fn unsigned(word: &str) -> Result<u64> {
     match word.parse::<u64>() {
         Ok(number) => Ok(number),
@@ -44,10 +46,11 @@ pub fn unsigned(word: &str) -> Result<u64> {
     }
 }
 
-/// What has the number that the word spells.
+/// Returns the value of the registry with the number that the word spells.
 ///
 /// # Errors
-/// Nothing in the registry has it, or the word spells none.
+/// - `UnregisteredIanaValue` if the registry has no such number.
+/// - `UnexpectedItem` if the word spells no number.
 pub fn named<T: EnumI64 + Drop>(word: &str) -> Result<T> {
     match T::from_i64(number(word)?) {
         Some(value) => Ok(value),
@@ -55,10 +58,11 @@ pub fn named<T: EnumI64 + Drop>(word: &str) -> Result<T> {
     }
 }
 
-/// A label for private use, where the word is `private=NUMBER`; else what is read of the word's bytes.
+/// Returns a label for private use if the word is `private=NUMBER`. Otherwise reads the label from
+/// the word's bytes.
 ///
 /// # Errors
-/// The same as [`number`] and [`read`].
+/// The errors of [`number`] and [`read`].
 pub fn with_private<T: EnumI64 + WithPrivateRange + Drop>(
     alloc: Global,
     word: &str,
@@ -69,10 +73,10 @@ pub fn with_private<T: EnumI64 + WithPrivateRange + Drop>(
     }
 }
 
-/// The number that the word spells, of the widest type.
+/// Returns the number that the word spells, of the widest type.
 ///
 /// # Errors
-/// It spells none.
+/// `UnexpectedItem` if the word spells no such number.
 pub fn wide(word: &str) -> Result<i128> {
     match word.parse::<i128>() {
         Ok(number) => Ok(number),
@@ -80,10 +84,10 @@ pub fn wide(word: &str) -> Result<i128> {
     }
 }
 
-/// The number that the word spells, of the widest type without a sign.
+/// Returns the number that the word spells, of the widest unsigned type.
 ///
 /// # Errors
-/// It spells none.
+/// `UnexpectedItem` if the word spells no such number.
 pub fn wide_unsigned(word: &str) -> Result<u128> {
     match word.parse::<u128>() {
         Ok(number) => Ok(number),
@@ -91,10 +95,10 @@ pub fn wide_unsigned(word: &str) -> Result<u128> {
     }
 }
 
-/// The order of labels of that name.
+/// Returns the order of labels of that name.
 ///
 /// # Errors
-/// None has it.
+/// `UnexpectedItem` if there is none.
 pub fn ordering(name: &str) -> Result<CborOrdering> {
     match name {
         "lexicographic" => Ok(CborOrdering::Lexicographic),

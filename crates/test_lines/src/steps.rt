@@ -1,22 +1,23 @@
-//! Calls of builders, one after the other.
+//! Calls of builders, one after another.
 
 use crate::words::Words;
 use coset::Result;
 use std::alloc::Global;
 
-/// A call of a builder, with what it is given.
+/// A call of a builder, with its arguments.
 pub trait Step: Sized {
-    /// The call of that name, with what these words spell. The second is empty where the call is given one thing.
+    /// Returns the call of that name with the arguments that these words spell. The second is empty
+    /// if the call takes only one.
     ///
     /// # Errors
-    /// The name isn't known, or what the call is given can't be made of the words.
+    /// A fault in the arguments, or an unknown name.
     fn of(alloc: Global, name: &str, first: &str, second: &str) -> Result<Self>;
 }
 
-/// The calls that the words from that place on name: each is `NAME=WORD`, or `NAME=WORD:WORD`.
+/// Returns the calls that the words from `place` on name. Each is `NAME=WORD`, or `NAME=WORD:WORD`.
 ///
 /// # Errors
-/// The same as [`Step::of`].
+/// The errors of [`Step::of`].
 pub fn all<S: Step + Drop>(alloc: Global, words: &Words<'_>, place: usize) -> Result<Vec<S>> {
     let mut steps = Vec::new(alloc);
     for place in place..words.count() {
@@ -27,7 +28,7 @@ pub fn all<S: Step + Drop>(alloc: Global, words: &Words<'_>, place: usize) -> Re
     Ok(steps)
 }
 
-/// What is before the sign, and what behind it.
+/// Returns the text before the sign, and the text after it.
 fn halves<'a>(word: &'a str, sign: &str) -> (&'a str, &'a str) {
     word.split_once(sign).unwrap_or((word, ""))
 }

@@ -1,4 +1,4 @@
-//! What calls gave, as text.
+//! The results of calls as text.
 
 use crate::mark;
 use coset::cbor::de::{self, EndOfFile};
@@ -6,10 +6,10 @@ use coset::cbor::value::Value;
 use coset::{CborSerializable, CoseError, Result};
 use std::alloc::Global;
 
-/// The bytes in hexadecimal; `-` where there are none.
+/// Returns the bytes in hexadecimal, or `-` if there are none.
 ///
 /// # Errors
-/// `OutOfMemory` alone.
+/// `OutOfMemory` if an allocation fails.
 pub fn hexadecimal(alloc: Global, bytes: &[u8]) -> Result<String> {
     if bytes.is_empty() {
         return Ok(String::from_str(alloc, "-")?);
@@ -17,10 +17,10 @@ pub fn hexadecimal(alloc: Global, bytes: &[u8]) -> Result<String> {
     Ok(hex::encode(alloc, bytes)?)
 }
 
-/// `ok` and the bytes, or the error's text.
+/// Returns `ok` and the bytes, or the error's text.
 ///
 /// # Errors
-/// `OutOfMemory` where there is none for the text.
+/// `OutOfMemory` if an allocation for the text fails.
 pub fn bytes(alloc: Global, answer: Result<Vec<u8>>) -> Result<String> {
     match answer {
         Ok(bytes) => {
@@ -31,10 +31,10 @@ pub fn bytes(alloc: Global, answer: Result<Vec<u8>>) -> Result<String> {
     }
 }
 
-/// `ok` and the bytes, `none` where there are none, or the error's text.
+/// Returns `ok` and the bytes, `none` for `None`, or the error's text.
 ///
 /// # Errors
-/// `OutOfMemory` where there is none for the text.
+/// `OutOfMemory` if an allocation for the text fails.
 pub fn perhaps(alloc: Global, answer: Result<Option<Vec<u8>>>) -> Result<String> {
     match answer {
         Ok(Some(bytes)) => self::bytes(alloc, Ok(bytes)),
@@ -43,10 +43,10 @@ pub fn perhaps(alloc: Global, answer: Result<Option<Vec<u8>>>) -> Result<String>
     }
 }
 
-/// `ok` and what is written of the value, or the error's text.
+/// Returns `ok` and the encoding of the value, or the error's text.
 ///
 /// # Errors
-/// `OutOfMemory` where there is none for the text.
+/// `OutOfMemory` if an allocation for the text fails.
 pub fn value<T: CborSerializable + Drop>(alloc: Global, answer: Result<T>) -> Result<String> {
     match answer {
         Ok(value) => bytes(alloc, value.to_vec(alloc)),
@@ -54,10 +54,10 @@ pub fn value<T: CborSerializable + Drop>(alloc: Global, answer: Result<T>) -> Re
     }
 }
 
-/// `ok` and what `to_vec` writes of the value, or the error's text. That is the call.
+/// Makes the call `to_vec`. Returns `ok` and the encoding of the value, or the error's text.
 ///
 /// # Errors
-/// `OutOfMemory` where there is none for the text.
+/// `OutOfMemory` if an allocation for the text fails.
 pub fn written<T: CborSerializable + Drop>(alloc: Global, value: T) -> Result<String> {
     mark::begin(alloc);
     let answer = value.to_vec(alloc);
@@ -65,10 +65,10 @@ pub fn written<T: CborSerializable + Drop>(alloc: Global, value: T) -> Result<St
     bytes(alloc, answer)
 }
 
-/// `ok`, or the error's text.
+/// Returns `ok`, or the error's text.
 ///
 /// # Errors
-/// `OutOfMemory` where there is none for the text.
+/// `OutOfMemory` if an allocation for the text fails.
 pub fn done(alloc: Global, answer: Result<()>) -> Result<String> {
     match answer {
         Ok(()) => Ok(String::from_str(alloc, "ok")?),
@@ -76,18 +76,19 @@ pub fn done(alloc: Global, answer: Result<()>) -> Result<String> {
     }
 }
 
-/// The error's text.
+/// Returns the error's text.
 ///
 /// # Errors
-/// `OutOfMemory` where there is none for the text.
+/// `OutOfMemory` if an allocation for the text fails.
 pub fn refused(alloc: Global, error: CoseError) -> Result<String> {
     Ok(format!(in alloc; "{error}")?)
 }
 
-/// `ok` and the bytes that are after a call that changes them; or the error's text and what is left of them.
+/// Returns `ok` and the bytes after a call that changes them. After an error, returns its text and
+/// the bytes that are left.
 ///
 /// # Errors
-/// `OutOfMemory` where there is none for the text.
+/// `OutOfMemory` if an allocation for the text fails.
 pub fn left(alloc: Global, answer: Result<()>, stands: &[u8]) -> Result<String> {
     let spelled = hexadecimal(alloc, stands)?;
     match answer {
@@ -96,10 +97,11 @@ pub fn left(alloc: Global, answer: Result<()>, stands: &[u8]) -> Result<String> 
     }
 }
 
-/// Why bytes hold no item; `out of memory` as of any other call.
+/// Returns the text of an error of reading an item. `out of memory` has the same text as in any
+/// other call.
 ///
 /// # Errors
-/// `OutOfMemory` where there is none for the text.
+/// `OutOfMemory` if an allocation for the text fails.
 pub fn unread(alloc: Global, error: &de::Error<EndOfFile>) -> Result<String> {
     match error {
         de::Error::OutOfMemory => refused(alloc, CoseError::OutOfMemory),
@@ -107,10 +109,10 @@ pub fn unread(alloc: Global, error: &de::Error<EndOfFile>) -> Result<String> {
     }
 }
 
-/// `ok` and what is written of the value, or `none`.
+/// Returns `ok` and the encoding of the value, or `none`.
 ///
 /// # Errors
-/// `OutOfMemory` where there is none for the text.
+/// `OutOfMemory` if an allocation for the text fails.
 pub fn maybe(alloc: Global, answer: Option<Value>) -> Result<String> {
     match answer {
         Some(found) => value(alloc, Ok(found)),
@@ -118,18 +120,18 @@ pub fn maybe(alloc: Global, answer: Option<Value>) -> Result<String> {
     }
 }
 
-/// `none`.
+/// Returns `none`.
 ///
 /// # Errors
-/// `OutOfMemory` alone.
+/// `OutOfMemory` if an allocation fails.
 pub fn none(alloc: Global) -> Result<String> {
     Ok(String::from_str(alloc, "none")?)
 }
 
-/// `true` or `false`.
+/// Returns `true` or `false`.
 ///
 /// # Errors
-/// `OutOfMemory` alone.
+/// `OutOfMemory` if an allocation fails.
 pub fn truth(alloc: Global, answer: bool) -> Result<String> {
     Ok(format!(in alloc; "{answer}")?)
 }

@@ -1,4 +1,4 @@
-//! Calls that every type has: reading, writing, copies and `==`.
+//! The calls that every type has: reading, writing, copying and `==`.
 
 use crate::copies::{NoCopy, copy};
 use crate::words::Words;
@@ -11,30 +11,30 @@ use std::alloc::Global;
 /// A call that types have in common.
 #[derive(Clone, Copy, Debug, PartialEq, Eq)]
 pub enum Operation {
-    /// `from_slice`, of the bytes.
+    /// `from_slice` of the bytes.
     FromSlice,
-    /// `from_tagged_slice`, of the bytes.
+    /// `from_tagged_slice` of the bytes.
     FromTaggedSlice,
-    /// `from_any_slice`, of the bytes.
+    /// `from_any_slice` of the bytes.
     FromAnySlice,
-    /// `from_cbor_value`, of the item that the bytes are.
+    /// `from_cbor_value` of the item in the bytes.
     FromCborValue,
-    /// `from_pull`, of the lent item that the bytes are.
+    /// `from_pull` of the borrowed item in the bytes.
     FromPull,
-    /// `to_vec`, of the value that the bytes hold.
+    /// `to_vec` of the value in the bytes.
     ToVec,
-    /// `to_tagged_vec`, of the value that the bytes hold without a tag.
+    /// `to_tagged_vec` of the value that the bytes have without a tag.
     ToTaggedVec,
-    /// `to_cbor_value`, of the value that the bytes hold.
+    /// `to_cbor_value` of the value in the bytes.
     ToCborValue,
-    /// `clone`, of the value that the bytes hold.
+    /// `clone` of the value in the bytes.
     Clone,
-    /// `==`, of the values that the two words hold.
+    /// `==` of the values in the two words.
     Eq,
 }
 
 impl Operation {
-    /// The call of that name.
+    /// Returns the call of that name.
     pub fn of(name: &str) -> Option<Operation> {
         Some(match name {
             "from_slice" => Operation::FromSlice,
@@ -52,15 +52,15 @@ impl Operation {
     }
 }
 
-/// That a type hasn't the call.
+/// Returns the error for a call that the type doesn't have.
 pub fn unknown() -> CoseError {
     CoseError::UnexpectedItem("name", "call of the type")
 }
 
-/// A call of a type that is written under a tag too, whose values `clone` copies.
+/// Makes a call of a type that may also be written under a tag. `clone` copies its values.
 ///
 /// # Errors
-/// What it is given can't be made of the words, or the type hasn't this call.
+/// A fault in the arguments, or a call that the type doesn't have.
 pub fn message<T, F>(alloc: Global, call: Operation, words: &Words<'_>, clone: F) -> Result<String>
 where
     T: TaggedCborSerializable + CborSerializable + FromPull + PartialEq + Drop,
@@ -73,10 +73,10 @@ where
     }
 }
 
-/// A call of a type that is written under a tag too, but for copies.
+/// Makes a call of a type that may also be written under a tag, except for copies.
 ///
 /// # Errors
-/// What it is given can't be made of the words, or the type hasn't this call.
+/// A fault in the arguments, or a call that the type doesn't have.
 pub fn uncopied<T: TaggedCborSerializable + CborSerializable + FromPull + PartialEq + Drop>(
     alloc: Global,
     call: Operation,
@@ -109,10 +109,10 @@ pub fn uncopied<T: TaggedCborSerializable + CborSerializable + FromPull + Partia
     }
 }
 
-/// A call of a type that is written without a tag, whose values `clone` copies.
+/// Makes a call of a type that is written without a tag. `clone` copies its values.
 ///
 /// # Errors
-/// What it is given can't be made of the words, or the type hasn't this call.
+/// A fault in the arguments, or a call that the type doesn't have.
 pub fn plain<T, F>(alloc: Global, call: Operation, words: &Words<'_>, clone: F) -> Result<String>
 where
     T: CborSerializable + FromPull + PartialEq + Drop,
@@ -126,10 +126,10 @@ where
     }
 }
 
-/// A call of a type that is read from bytes and written to them.
+/// Makes a call of a type that is read from bytes and written to them.
 ///
 /// # Errors
-/// What it is given can't be made of the words, or the type hasn't this call.
+/// A fault in the arguments, or a call that the type doesn't have.
 pub fn serialized<T: CborSerializable + FromPull + Drop>(
     alloc: Global,
     call: Operation,
@@ -154,10 +154,10 @@ pub fn serialized<T: CborSerializable + FromPull + Drop>(
     }
 }
 
-/// A call of a type that is read from items and written as them.
+/// Makes a call of a type that is read from items and written as items.
 ///
 /// # Errors
-/// What it is given can't be made of the words, or the type hasn't this call.
+/// A fault in the arguments, or a call that the type doesn't have.
 pub fn valued<T: FromPull + Drop>(
     alloc: Global,
     call: Operation,
@@ -190,10 +190,11 @@ pub fn valued<T: FromPull + Drop>(
     }
 }
 
-/// Whether the values that the two words hold are equal.
+/// Returns whether the values in the two words are equal.
 ///
 /// # Errors
-/// A word holds none, or memory ran out.
+/// - A fault in a word that has no value.
+/// - `OutOfMemory` if an allocation fails.
 pub fn eq<T: AsCborValue + PartialEq + Drop>(alloc: Global, words: &Words<'_>) -> Result<String> {
     let one: T = given(alloc, words, 1)?;
     let other: T = given(alloc, words, 2)?;
@@ -203,18 +204,19 @@ pub fn eq<T: AsCborValue + PartialEq + Drop>(alloc: Global, words: &Words<'_>) -
     Ok(String::from_str(alloc, if are_equal { "yes" } else { "no" })?)
 }
 
-/// The value that the word at that place holds.
+/// Reads the value in the word at that place.
 ///
 /// # Errors
-/// It holds none, or memory ran out.
+/// - A fault in a word that has no value.
+/// - `OutOfMemory` if an allocation fails.
 pub fn given<T: AsCborValue>(alloc: Global, words: &Words<'_>, place: usize) -> Result<T> {
     T::from_cbor_value(alloc, words.value::<Value>(alloc, place)?)
 }
 
-/// The one item that the bytes are, lent.
+/// Returns the one item that the bytes encode, borrowed.
 ///
 /// # Errors
-/// Why they aren't one.
+/// A fault in bytes that aren't one item.
 pub fn lent(bytes: &[u8]) -> Result<Pull<'_>> {
     let (pull, rest) = Pull::new(bytes)?;
     if rest.is_empty() {
@@ -224,10 +226,10 @@ pub fn lent(bytes: &[u8]) -> Result<Pull<'_>> {
     }
 }
 
-/// `ok` and what is written of the value, or the error's text.
+/// Returns `ok` and the encoding of the value, or the error's text.
 ///
 /// # Errors
-/// `OutOfMemory` where there is none for the text.
+/// `OutOfMemory` if an allocation for the text fails.
 pub fn told<T: AsCborValue>(alloc: Global, answer: Result<T>) -> Result<String> {
     let item: Result<Value> = match answer {
         Ok(value) => value.to_cbor_value(alloc),

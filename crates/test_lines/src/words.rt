@@ -1,9 +1,9 @@
-//! What follows the name of a call on a line.
+//! The words of a line after the name of the call.
 
 use coset::{CborSerializable, CoseError, Result};
 use std::alloc::Global;
 
-/// The words of a line, by their places: that at 0 is the call's name.
+/// The words of a line, by their places. The word at 0 is the call's name.
 #[derive(Clone, Copy)]
 pub struct Words<'a> {
     line: &'a str,
@@ -14,49 +14,50 @@ impl<'a> Words<'a> {
         Words { line }
     }
 
-    /// The word at that place; an empty one where there is none.
+    /// Returns the word at that place, or an empty one if there is none.
     pub fn word(&self, place: usize) -> &'a str {
         self.line.split(' ').nth(place).unwrap_or("")
     }
 
-    /// The bytes that the word there spells in hexadecimal. `-` means none.
+    /// Returns the bytes that the word at that place spells in hexadecimal. `-` means no bytes.
     ///
     /// # Errors
-    /// The word spells none, or memory ran out.
+    /// The errors of [`bytes`].
     pub fn bytes(&self, alloc: Global, place: usize) -> Result<Vec<u8>> {
         bytes(alloc, self.word(place))
     }
 
-    /// How many words the line has.
+    /// Returns the number of words.
     pub fn count(&self) -> usize {
         self.line.split(' ').count()
     }
 
-    /// The value that is read from the bytes of the word there.
+    /// Reads a value from the bytes of the word at that place.
     ///
     /// # Errors
-    /// The word spells none, they aren't read, or memory ran out.
+    /// - A fault in the word or in its bytes.
+    /// - `OutOfMemory` if an allocation fails.
     pub fn value<T: CborSerializable + Drop>(&self, alloc: Global, place: usize) -> Result<T> {
         T::from_slice(alloc, &self.bytes(alloc, place)?)
     }
 
-    /// Whether the word there is `yes`. It says what a closure returns.
+    /// Returns true if the word at that place is `yes`. It says whether a closure accepts.
     ///
     /// # Errors
-    /// It is neither that nor `no`.
+    /// `UnexpectedItem` if the word is neither `yes` nor `no`.
     pub fn says_yes(&self, place: usize) -> Result<bool> {
         says_yes(self.word(place))
     }
 
-    /// The number that the word there spells.
+    /// Returns the number that the word at that place spells.
     ///
     /// # Errors
-    /// The word spells none.
+    /// `UnexpectedItem` if the word spells no number.
     pub fn number(&self, place: usize) -> Result<i64> {
         number(self.word(place))
     }
 
-    /// The words behind the call's name.
+    /// Returns the words after the call's name.
     pub fn after_name(&self) -> Rest<'a> {
         Rest {
             words: *self,
@@ -65,7 +66,7 @@ impl<'a> Words<'a> {
     }
 }
 
-/// The words of a line, one after the other.
+/// The words of a line, one after another.
 #[derive(Drop)]
 pub struct Rest<'a> {
     words: Words<'a>,
@@ -73,7 +74,7 @@ pub struct Rest<'a> {
 }
 
 impl<'a> Rest<'a> {
-    /// The next word; an empty one where there is none.
+    /// Returns the next word, or an empty one if there is none.
     pub fn next_word(&mut self) -> &'a str {
         let word = self.words.word(self.place);
         self.place = self.place.saturating_add(1);
@@ -81,10 +82,10 @@ impl<'a> Rest<'a> {
     }
 }
 
-/// Whether the word is `yes`. It says what a closure returns.
+/// Returns true if the word is `yes`. It says whether a closure accepts.
 ///
 /// # Errors
-/// It is neither that nor `no`.
+/// `UnexpectedItem` if the word is neither `yes` nor `no`.
 pub fn says_yes(word: &str) -> Result<bool> {
     match word {
         "yes" => Ok(true),
@@ -93,10 +94,10 @@ pub fn says_yes(word: &str) -> Result<bool> {
     }
 }
 
-/// The place in a list that the word spells.
+/// Returns the index in a list that the word spells.
 ///
 /// # Errors
-/// It spells none.
+/// `UnexpectedItem` if the word spells no index.
 pub fn index(word: &str) -> Result<usize> {
     match word.parse::<usize>() {
         Ok(index) => Ok(index),
@@ -104,10 +105,11 @@ pub fn index(word: &str) -> Result<usize> {
     }
 }
 
-/// The bytes that a word spells in hexadecimal. `-` means none.
+/// Returns the bytes that the word spells in hexadecimal. `-` means no bytes.
 ///
 /// # Errors
-/// It spells none, or memory ran out.
+/// - `UnexpectedItem` if the word isn't hexadecimal.
+/// - `OutOfMemory` if an allocation fails.
 pub fn bytes(alloc: Global, word: &str) -> Result<Vec<u8>> {
     match word {
         "-" => Ok(Vec::new(alloc)),
@@ -119,10 +121,10 @@ pub fn bytes(alloc: Global, word: &str) -> Result<Vec<u8>> {
     }
 }
 
-/// The number that the word spells.
+/// Returns the number that the word spells.
 ///
 /// # Errors
-/// It spells none.
+/// `UnexpectedItem` if the word spells no number.
 pub fn number(word: &str) -> Result<i64> {
     match word.parse::<i64>() {
         Ok(number) => Ok(number),

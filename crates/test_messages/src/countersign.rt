@@ -1,4 +1,4 @@
-//! Calls about what countersignatures of version 2 are over.
+//! Calls for the structures of countersignatures of version 2.
 
 use coset::{
     CoseCountersignature, CoseError, Result, countersign_v2_structure_data,
@@ -9,11 +9,12 @@ use test_lines::asked::Asked;
 use test_lines::words::{Words, bytes};
 use test_lines::{header, mark, tell};
 
-/// The other fields of what is countersigned: the words between commas, of which each spells one. `none` means no
-/// field, of which no structure is made.
+/// Returns the other fields of a countersigned structure, which the word has between commas. `none`
+/// means that there is no field, and then no structure is made.
 ///
 /// # Errors
-/// A word spells none, there is no field, or memory ran out.
+/// - A fault in the word, or in a structure without fields.
+/// - `OutOfMemory` if an allocation fails.
 fn other_fields(alloc: Global, word: &str) -> Result<Vec<Vec<u8>>> {
     let mut fields = Vec::new(alloc);
     if word != "none" {
@@ -24,16 +25,18 @@ fn other_fields(alloc: Global, word: &str) -> Result<Vec<Vec<u8>>> {
     Ok(fields)
 }
 
-/// That there are no other fields.
+/// Returns the error for a structure without other fields.
 fn no_fields() -> CoseError {
     CoseError::UnexpectedItem("no other fields", "at least one")
 }
 
-/// `yes` or `no`; the countersignature; the body's protected header; `external_aad`; the payload; the other fields;
-/// what becomes of the body's header, and of the countersignature's.
+/// Verifies a countersignature.
+///
+/// Arguments: `yes` or `no`; the countersignature; the body's protected header; `external_aad`; the
+/// payload; the other fields; the changes of the body's header and of the countersignature's.
 ///
 /// # Errors
-/// What it is given can't be made of the words.
+/// A fault in the arguments.
 pub fn verify(alloc: Global, words: &Words<'_>) -> Result<String> {
     let says_yes = words.says_yes(1)?;
     let mut one: CoseCountersignature = words.value(alloc, 2)?;
@@ -61,11 +64,13 @@ pub fn verify(alloc: Global, words: &Words<'_>) -> Result<String> {
     asked.judged(alloc, answer)
 }
 
-/// The body's protected header; the countersignature's; `external_aad`; the payload; the other fields; what becomes of
-/// the body's header, and of the countersignature's.
+/// Makes the structure of a countersignature.
+///
+/// Arguments: the protected headers of the body and of the countersignature; `external_aad`; the
+/// payload; the other fields; the changes of the two headers.
 ///
 /// # Errors
-/// What it is given can't be made of the words.
+/// A fault in the arguments.
 pub fn structure(alloc: Global, words: &Words<'_>) -> Result<String> {
     let body = header::read(alloc, words, 1, 6)?;
     let sign = header::read(alloc, words, 2, 7)?;
@@ -81,10 +86,13 @@ pub fn structure(alloc: Global, words: &Words<'_>) -> Result<String> {
     tell::bytes(alloc, answer)
 }
 
-/// The body's protected header; `external_aad`; the payload; the other fields; what becomes of the header.
+/// Makes the structure of an abbreviated countersignature.
+///
+/// Arguments: the body's protected header; `external_aad`; the payload; the other fields; the
+/// change of the header.
 ///
 /// # Errors
-/// What it is given can't be made of the words.
+/// A fault in the arguments.
 pub fn abbreviated_structure(alloc: Global, words: &Words<'_>) -> Result<String> {
     let body = header::read(alloc, words, 1, 5)?;
     let external_aad = words.bytes(alloc, 2)?;

@@ -13,10 +13,10 @@ use test_lines::{header, mark};
 /// The calls of `CoseEncrypt`.
 pub struct EncryptCalls;
 
-/// A builder with the message's headers and recipients; and its ciphertext.
+/// Returns a builder with the message's headers and recipients, and the ciphertext.
 ///
 /// # Errors
-/// `OutOfMemory` alone.
+/// `OutOfMemory` if an allocation fails.
 fn taken(alloc: Global, message: CoseEncrypt) -> Result<(CoseEncryptBuilder, Option<Vec<u8>>)> {
     let CoseEncrypt {
         protected,
@@ -30,10 +30,11 @@ fn taken(alloc: Global, message: CoseEncrypt) -> Result<(CoseEncryptBuilder, Opt
     Ok((and_each(builder, recipients)?, ciphertext))
 }
 
-/// The message, of which the headers and the recipients count; a recipient more.
+/// Adds a recipient to a message, of which only the headers and the recipients are used.
 ///
 /// # Errors
-/// The words are none, or memory ran out.
+/// - A fault in the arguments.
+/// - `OutOfMemory` if an allocation fails.
 pub fn add_recipient(alloc: Global, words: &Words<'_>) -> Result<String> {
     let (builder, _) = taken(alloc, words.value(alloc, 1)?)?;
     and(alloc, builder, words)

@@ -13,7 +13,7 @@ use test_lines::{header, mark};
 /// The calls of `CoseEncrypt0`.
 pub struct Encrypt0Calls;
 
-/// A builder with the message's headers; and its ciphertext.
+/// Returns a builder with the message's headers, and the ciphertext.
 fn taken(alloc: Global, message: CoseEncrypt0) -> (CoseEncrypt0Builder, Option<Vec<u8>>) {
     let CoseEncrypt0 {
         protected,

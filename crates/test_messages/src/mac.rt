@@ -13,10 +13,10 @@ use test_lines::{header, mark};
 /// The calls of `CoseMac`.
 pub struct MacCalls;
 
-/// A builder with the message's headers and recipients; its payload, and its tag.
+/// Returns a builder with the message's headers and recipients, the payload, and the tag.
 ///
 /// # Errors
-/// `OutOfMemory` alone.
+/// `OutOfMemory` if an allocation fails.
 fn taken(alloc: Global, message: CoseMac) -> Result<(CoseMacBuilder, Option<Vec<u8>>, Vec<u8>)> {
     let CoseMac {
         protected,
@@ -31,16 +31,17 @@ fn taken(alloc: Global, message: CoseMac) -> Result<(CoseMacBuilder, Option<Vec<
     Ok((and_each(builder, recipients)?, payload, tag))
 }
 
-/// The message, of which the headers and the recipients count; a recipient more.
+/// Adds a recipient to a message, of which only the headers and the recipients are used.
 ///
 /// # Errors
-/// The words are none, or memory ran out.
+/// - A fault in the arguments.
+/// - `OutOfMemory` if an allocation fails.
 pub fn add_recipient(alloc: Global, words: &Words<'_>) -> Result<String> {
     let (builder, _, _) = taken(alloc, words.value(alloc, 1)?)?;
     and(alloc, builder, words)
 }
 
-/// The builder with this payload, where there is one.
+/// Sets the payload, if there is one.
 fn with_payload(builder: CoseMacBuilder, payload: Option<Vec<u8>>) -> CoseMacBuilder {
     match payload {
         Some(payload) => builder.payload(payload),

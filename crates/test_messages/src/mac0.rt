@@ -13,7 +13,7 @@ use test_lines::{header, mark};
 /// The calls of `CoseMac0`.
 pub struct Mac0Calls;
 
-/// A builder with the message's headers; its payload, and its tag.
+/// Returns a builder with the message's headers, the payload, and the tag.
 fn taken(alloc: Global, message: CoseMac0) -> (CoseMac0Builder, Option<Vec<u8>>, Vec<u8>) {
     let CoseMac0 {
         protected,
@@ -27,7 +27,7 @@ fn taken(alloc: Global, message: CoseMac0) -> (CoseMac0Builder, Option<Vec<u8>>,
     (builder, payload, tag)
 }
 
-/// The builder with this payload, where there is one.
+/// Sets the payload, if there is one.
 fn with_payload(builder: CoseMac0Builder, payload: Option<Vec<u8>>) -> CoseMac0Builder {
     match payload {
         Some(payload) => builder.payload(payload),

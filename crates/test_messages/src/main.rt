@@ -1,5 +1,5 @@
-//! `test_messages`: makes the calls of messages, signatures and countersignatures, of their builders, and those that make
-//! structures, line by line (`test_lines` says how), and prints what each returned.
+//! `test_messages` makes calls of messages, signatures and countersignatures, of their builders,
+//! and of structures. It does so line by line (see `test_lines`), and prints the results.
 #![tactic(auto)]
 
 mod countersign;
@@ -36,7 +36,7 @@ use test_lines::words::Words;
 struct AllCalls;
 
 impl Calls for AllCalls {
-    /// A call that every type has.
+    /// Makes a call that every type has.
     fn typed(alloc: Global, kind: &str, call: Operation, words: &Words<'_>) -> Result<String> {
         match kind {
             "CoseSign1" => message(alloc, call, words, |v: &CoseSign1| copied(v.clone())),
@@ -56,7 +56,7 @@ impl Calls for AllCalls {
         }
     }
 
-    /// A call of a type, or of its builder, that is its own.
+    /// Makes a call that only one type or its builder has.
     fn of_type(alloc: Global, kind: &str, name: &str, words: &Words<'_>) -> Result<String> {
         match (kind, name) {
             ("CoseSignBuilder", "add_signature") => sign::add_signature(alloc, words),
@@ -80,7 +80,7 @@ impl Calls for AllCalls {
         }
     }
 
-    /// A call of no type.
+    /// Makes a call without a type.
     fn of_no_type(alloc: Global, name: &str, words: &Words<'_>) -> Result<String> {
         structures::call(alloc, name, words)
     }

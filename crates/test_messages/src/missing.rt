@@ -1,13 +1,13 @@
-//! Messages of which a call can't be made.
+//! The errors for messages that aren't suitable for a call.
 
 use coset::CoseError;
 
-/// That a payload is missing, without which the call can't be made.
+/// Returns the error for a missing payload.
 pub fn no_payload() -> CoseError {
     CoseError::UnexpectedItem("no payload", "payload")
 }
 
-/// That a ciphertext is missing, without which the call can't be made.
+/// Returns the error for a missing ciphertext.
 pub fn no_ciphertext() -> CoseError {
     CoseError::UnexpectedItem("no ciphertext", "ciphertext")
 }

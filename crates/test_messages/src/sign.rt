@@ -12,17 +12,17 @@ use test_lines::{header, mark, spelled};
 /// The calls of `CoseSign`.
 pub struct SignCalls;
 
-/// The signature that a call is about.
+/// The signature for a call.
 #[derive(Drop)]
 pub enum Signer {
-    /// The signature of the message at that place.
+    /// The signature of the message at this index.
     At(usize),
-    /// A signature of its own.
+    /// A separate signature.
     Own(CoseSignature),
 }
 
 impl Signer {
-    /// The place of a signature of the message.
+    /// Returns the index of the message's signature.
     fn place(&self) -> Result<usize> {
         match self {
             Signer::At(which) => Ok(*which),
@@ -30,7 +30,7 @@ impl Signer {
         }
     }
 
-    /// The signature of its own.
+    /// Returns the separate signature.
     fn signature(self) -> Result<CoseSignature> {
         match self {
             Signer::At(_) => Err(no_signature()),
@@ -39,15 +39,15 @@ impl Signer {
     }
 }
 
-/// That there is no signature at the place that a call is given.
+/// Returns the error for an index without a signature.
 fn no_signature() -> CoseError {
     CoseError::UnexpectedItem("number", "number of a signature")
 }
 
-/// A builder with the message's headers and signatures, and with its payload where it has one.
+/// Returns a builder with the message's headers, signatures and payload, if it has one.
 ///
 /// # Errors
-/// `OutOfMemory` alone.
+/// `OutOfMemory` if an allocation fails.
 fn filled(alloc: Global, message: CoseSign) -> Result<CoseSignBuilder> {
     let CoseSign {
         protected,
@@ -65,10 +65,11 @@ fn filled(alloc: Global, message: CoseSign) -> Result<CoseSignBuilder> {
     and_each(builder, signatures)
 }
 
-/// The message; a signature more.
+/// Adds a signature to the message.
 ///
 /// # Errors
-/// The words are none, or memory ran out.
+/// - A fault in the arguments.
+/// - `OutOfMemory` if an allocation fails.
 pub fn add_signature(alloc: Global, words: &Words<'_>) -> Result<String> {
     and(alloc, filled(alloc, words.value(alloc, 1)?)?, words)
 }
@@ -219,10 +220,10 @@ impl Message for SignCalls {
     }
 }
 
-/// Makes the call of the builder of that name, which signs the payload that the builder has.
+/// Makes the builder's call of that name, which signs the builder's payload.
 ///
 /// # Errors
-/// The name isn't known.
+/// A fault if the name isn't known.
 fn created(
     alloc: Global,
     name: &str,

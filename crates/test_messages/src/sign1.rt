@@ -122,7 +122,7 @@ impl Message for Sign1Calls {
     }
 }
 
-/// The builder with this payload, where there is one.
+/// Sets the payload, if there is one.
 fn with_payload(builder: CoseSign1Builder, payload: Option<Vec<u8>>) -> CoseSign1Builder {
     match payload {
         Some(payload) => builder.payload(payload),

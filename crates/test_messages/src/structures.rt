@@ -1,5 +1,5 @@
-//! Calls that are of no type: those that make the structures whose bytes are signed or authenticated, or go with a
-//! ciphertext, and those of countersignatures.
+//! Calls without a type: those for structures that are signed, authenticated or passed with a
+//! ciphertext, and those for countersignatures.
 
 use crate::countersign;
 use coset::{
@@ -13,7 +13,7 @@ use test_lines::{header, mark, tell};
 /// Makes the call of that name.
 ///
 /// # Errors
-/// What it is given can't be made of the words, or the name isn't known.
+/// A fault in the arguments, or an unknown name.
 pub fn call(alloc: Global, name: &str, words: &Words<'_>) -> Result<String> {
     match name {
         "sig_structure_data" => signed(alloc, words),
@@ -27,7 +27,7 @@ pub fn call(alloc: Global, name: &str, words: &Words<'_>) -> Result<String> {
     }
 }
 
-/// The context of a signature of that name.
+/// Returns the context of a signature by its name.
 fn signature_context(word: &str) -> Result<SignatureContext> {
     match word {
         "CoseSignature" => Ok(SignatureContext::CoseSignature),
@@ -37,7 +37,7 @@ fn signature_context(word: &str) -> Result<SignatureContext> {
     }
 }
 
-/// The context of a MAC of that name.
+/// Returns the context of a MAC by its name.
 fn mac_context(word: &str) -> Result<MacContext> {
     match word {
         "CoseMac" => Ok(MacContext::CoseMac),
@@ -46,7 +46,7 @@ fn mac_context(word: &str) -> Result<MacContext> {
     }
 }
 
-/// The context of a ciphertext of that name.
+/// Returns the context of a ciphertext by its name.
 fn encryption_context(word: &str) -> Result<EncryptionContext> {
     match word {
         "CoseEncrypt" => Ok(EncryptionContext::CoseEncrypt),
@@ -58,7 +58,7 @@ fn encryption_context(word: &str) -> Result<EncryptionContext> {
     }
 }
 
-/// The signer's protected header, unless the word is `none`.
+/// Returns the signer's protected header, unless the word is `none`.
 fn signer(alloc: Global, words: &Words<'_>) -> Result<Option<ProtectedHeader>> {
     if words.word(3) == "none" {
         return Ok(None);
@@ -66,8 +66,10 @@ fn signer(alloc: Global, words: &Words<'_>) -> Result<Option<ProtectedHeader>> {
     Ok(Some(header::read(alloc, words, 3, 7)?))
 }
 
-/// The context; the body's protected header; the signer's, or `none`; `external_aad`; the payload; what becomes of the
-/// body's header, and of the signer's.
+/// Makes a `Sig_structure`.
+///
+/// Arguments: the context; the body's protected header; the signer's, or `none`; `external_aad`;
+/// the payload; the changes of the two headers.
 fn signed(alloc: Global, words: &Words<'_>) -> Result<String> {
     let context = signature_context(words.word(1))?;
     let body = header::read(alloc, words, 2, 6)?;
@@ -80,7 +82,8 @@ fn signed(alloc: Global, words: &Words<'_>) -> Result<String> {
     tell::bytes(alloc, answer)
 }
 
-/// The context; the protected header; `external_aad`; the payload; what becomes of the header.
+/// Makes a `MAC_structure`. Arguments: the context, the protected header, `external_aad`, the
+/// payload, the header's change.
 fn authenticated(alloc: Global, words: &Words<'_>) -> Result<String> {
     let context = mac_context(words.word(1))?;
     let protected = header::read(alloc, words, 2, 5)?;
@@ -92,8 +95,10 @@ fn authenticated(alloc: Global, words: &Words<'_>) -> Result<String> {
     tell::bytes(alloc, answer)
 }
 
-/// The context; the protected header; the number of bytes of a payload of zeros. Of the structure it prints how many
-/// bytes are in it, how many there is room for, and those before the payload.
+/// Makes a `MAC_structure` over zeros, and prints its length, its capacity, and the bytes before
+/// the payload.
+///
+/// Arguments: the context, the protected header, and the number of zeros.
 fn room(alloc: Global, words: &Words<'_>) -> Result<String> {
     let context = mac_context(words.word(1))?;
     let protected = header::read(alloc, words, 2, 4)?;
@@ -112,7 +117,8 @@ fn room(alloc: Global, words: &Words<'_>) -> Result<String> {
     }
 }
 
-/// The context; the protected header; `external_aad`; what becomes of the header.
+/// Makes an `Enc_structure`. Arguments: the context, the protected header, `external_aad`, the
+/// header's change.
 fn encrypted(alloc: Global, words: &Words<'_>) -> Result<String> {
     let context = encryption_context(words.word(1))?;
     let protected = header::read(alloc, words, 2, 4)?;

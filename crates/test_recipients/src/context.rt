@@ -1,4 +1,4 @@
-//! Calls of the builders of a key derivation's context and its parts.
+//! Calls of the builders of key derivation contexts and their parts.
 
 use coset::cbor::value::Value;
 use coset::iana::Algorithm;
@@ -11,7 +11,7 @@ use test_lines::steps::{self, Step};
 use test_lines::words::{self, Words};
 use test_lines::{mark, spelled, tell};
 
-/// A call of `CoseKdfContextBuilder`, with what it is given.
+/// A call of `CoseKdfContextBuilder`, with its argument.
 #[derive(Drop)]
 enum ContextCall {
     Algorithm(Algorithm),
@@ -45,7 +45,7 @@ fn made(builder: CoseKdfContextBuilder, call: ContextCall) -> Result<CoseKdfCont
     }
 }
 
-/// The context that the builder makes by these calls.
+/// Returns the context that these calls of the builder make.
 fn built(alloc: Global, calls: Vec<ContextCall>) -> Result<CoseKdfContext> {
     let mut builder = CoseKdfContextBuilder::new(alloc);
     for call in calls {
@@ -54,10 +54,10 @@ fn built(alloc: Global, calls: Vec<ContextCall>) -> Result<CoseKdfContext> {
     Ok(builder.build())
 }
 
-/// The calls of `CoseKdfContextBuilder`, `NAME=WORD`.
+/// Builds a context. Arguments: the calls of `CoseKdfContextBuilder`, `NAME=WORD`.
 ///
 /// # Errors
-/// What the builder is given can't be made of the words.
+/// A fault in the arguments.
 pub fn build(alloc: Global, words: &Words<'_>) -> Result<String> {
     let calls = steps::all(alloc, words, 1)?;
     mark::begin(alloc);
@@ -66,7 +66,7 @@ pub fn build(alloc: Global, words: &Words<'_>) -> Result<String> {
     tell::value(alloc, answer)
 }
 
-/// A call of `PartyInfoBuilder`, with what it is given.
+/// A call of `PartyInfoBuilder`, with its argument.
 #[derive(Drop)]
 enum PartySetter {
     Identity(Vec<u8>),
@@ -89,7 +89,7 @@ impl Step for PartySetter {
     }
 }
 
-/// The party that the builder makes by these calls.
+/// Returns the party that these calls of the builder make.
 fn party(alloc: Global, calls: Vec<PartySetter>) -> Result<PartyInfo> {
     let mut builder = PartyInfoBuilder::new();
     for call in calls {
@@ -104,10 +104,10 @@ fn party(alloc: Global, calls: Vec<PartySetter>) -> Result<PartyInfo> {
     Ok(builder.build())
 }
 
-/// The calls of `PartyInfoBuilder`, `NAME=WORD`.
+/// Builds a party. Arguments: the calls of `PartyInfoBuilder`, `NAME=WORD`.
 ///
 /// # Errors
-/// What the builder is given can't be made of the words.
+/// A fault in the arguments.
 pub fn build_party(alloc: Global, words: &Words<'_>) -> Result<String> {
     let calls = steps::all(alloc, words, 1)?;
     mark::begin(alloc);
@@ -116,7 +116,7 @@ pub fn build_party(alloc: Global, words: &Words<'_>) -> Result<String> {
     tell::value(alloc, answer)
 }
 
-/// A call of `SuppPubInfoBuilder`, with what it is given.
+/// A call of `SuppPubInfoBuilder`, with its argument.
 #[derive(Drop)]
 enum PublicSetter {
     KeyDataLength(u64),
@@ -137,7 +137,7 @@ impl Step for PublicSetter {
     }
 }
 
-/// What the builder makes by these calls.
+/// Returns the public information that these calls of the builder make.
 fn public(alloc: Global, calls: Vec<PublicSetter>) -> Result<SuppPubInfo> {
     let mut builder = SuppPubInfoBuilder::new(alloc);
     for call in calls {
@@ -151,10 +151,10 @@ fn public(alloc: Global, calls: Vec<PublicSetter>) -> Result<SuppPubInfo> {
     Ok(builder.build())
 }
 
-/// The calls of `SuppPubInfoBuilder`, `NAME=WORD`.
+/// Builds public information. Arguments: the calls of `SuppPubInfoBuilder`, `NAME=WORD`.
 ///
 /// # Errors
-/// What the builder is given can't be made of the words.
+/// A fault in the arguments.
 pub fn build_public(alloc: Global, words: &Words<'_>) -> Result<String> {
     let calls = steps::all(alloc, words, 1)?;
     mark::begin(alloc);
@@ -163,7 +163,7 @@ pub fn build_public(alloc: Global, words: &Words<'_>) -> Result<String> {
     tell::value(alloc, answer)
 }
 
-/// The nonce that the item in hexadecimal is.
+/// Returns the nonce of an item in hexadecimal.
 fn nonce(alloc: Global, word: &str) -> Result<Nonce> {
     match spelled::item(alloc, word)? {
         Value::Integer(number) => Ok(Nonce::Integer(i64::try_from(number)?)),

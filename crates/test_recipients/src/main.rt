@@ -1,5 +1,5 @@
-//! `test_recipients`: makes the calls of recipients, their builders and contexts, line by line
-//! (`test_lines` says how), and prints what each returned.
+//! `test_recipients` makes calls of recipients, their builders and contexts, line by line (see
+//! `test_lines`), and prints the results.
 #![tactic(auto)]
 
 mod context;
@@ -20,7 +20,7 @@ use test_lines::words::Words;
 struct AllCalls;
 
 impl Calls for AllCalls {
-    /// A call that every type has.
+    /// Makes a call that every type has.
     fn typed(alloc: Global, kind: &str, call: Operation, words: &Words<'_>) -> Result<String> {
         match kind {
             "CoseRecipient" => plain(alloc, call, words, |v: &CoseRecipient| copied(v.clone())),
@@ -32,7 +32,7 @@ impl Calls for AllCalls {
         }
     }
 
-    /// A call of a type, or of its builder, that is its own.
+    /// Makes a call that only one type or its builder has.
     fn of_type(alloc: Global, kind: &str, name: &str, words: &Words<'_>) -> Result<String> {
         match (kind, name) {
             ("CoseRecipientBuilder", "add_recipient") => recipient::add_recipient(alloc, words),

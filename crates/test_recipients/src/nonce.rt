@@ -1,4 +1,4 @@
-//! Copies of nonces, which are read and written in a party alone.
+//! Copies of nonces. A nonce is read and written only in a party.
 
 use coset::{CoseError, PartyInfo, Result};
 use std::alloc::Global;
@@ -6,10 +6,11 @@ use test_lines::typed::{given, told};
 use test_lines::words::Words;
 use test_lines::{mark, tell};
 
-/// Copies the nonce of the party that the word holds: what is written of the party with the copy in its place.
+/// Copies the nonce of a party, and returns the encoding of the party with the copy.
 ///
 /// # Errors
-/// The word holds no party with a nonce, or memory ran out.
+/// - A fault in a word that is no party with a nonce.
+/// - `OutOfMemory` if an allocation fails.
 pub fn copy(alloc: Global, words: &Words<'_>) -> Result<String> {
     let mut party: PartyInfo = given(alloc, words, 1)?;
     let Some(nonce) = party.nonce.take() else {

@@ -15,12 +15,12 @@ use test_lines::{header, mark};
 /// The calls of `CoseRecipient`.
 pub struct RecipientCalls;
 
-/// That this is no context of a recipient.
+/// Returns the error for a context that isn't one of a recipient.
 fn no_context() -> CoseError {
     CoseError::UnexpectedItem("word", "context of a recipient")
 }
 
-/// The context of that name, whatever it is of.
+/// Returns the context of that name, of any kind.
 fn any_context(word: &str) -> Result<EncryptionContext> {
     match word {
         "CoseEncrypt" => Ok(EncryptionContext::CoseEncrypt),
@@ -32,7 +32,7 @@ fn any_context(word: &str) -> Result<EncryptionContext> {
     }
 }
 
-/// The context, where it is one of a recipient.
+/// Returns the context, if it is one of a recipient.
 fn of_recipient(context: EncryptionContext) -> Result<EncryptionContext>
     ensures { IfOk result (λ context. IsOfRecipient context) }
 {
@@ -44,10 +44,10 @@ fn of_recipient(context: EncryptionContext) -> Result<EncryptionContext>
     }
 }
 
-/// A builder with the recipient's headers and recipients; and its ciphertext.
+/// Returns a builder with the recipient's headers and recipients, and the ciphertext.
 ///
 /// # Errors
-/// `OutOfMemory` alone.
+/// `OutOfMemory` if an allocation fails.
 fn taken(
     alloc: Global,
     recipient: CoseRecipient,
@@ -64,10 +64,11 @@ fn taken(
     Ok((and_each(builder, recipients)?, ciphertext))
 }
 
-/// The recipient, of which the headers and the recipients count; a recipient more.
+/// Adds a recipient to a recipient, of which only the headers and the recipients are used.
 ///
 /// # Errors
-/// The words are none, or memory ran out.
+/// - A fault in the arguments.
+/// - `OutOfMemory` if an allocation fails.
 pub fn add_recipient(alloc: Global, words: &Words<'_>) -> Result<String> {
     let (builder, _) = taken(alloc, words.value(alloc, 1)?)?;
     and(alloc, builder, words)

@@ -1,5 +1,5 @@
-//! Values asked for one kind: what they hold, or the error that names both kinds. And an array of what values are
-//! written as.
+//! Values that are asked for as one kind: the content, or the error that names both kinds. Also the
+//! array of the images of values.
 
 use coset_cbor::value::{Float, Value};
 use coset_codec::util::{ValueTryAs, cbor_type_error, to_cbor_array};
@@ -8,7 +8,7 @@ use example_types::reading::Mark;
 use std::alloc::{AllocError, Global};
 use std::test::*;
 
-/// A value of each kind, with the kind's name in errors.
+/// Returns a value of each kind, with the kind's name in errors.
 fn kinds(alloc: Global) -> std::result::Result<Vec<(Value, &'static str)>, AllocError> {
     let tagged = Box::new(alloc, Value::Null)?;
     let pairs = vec![in alloc; (Value::Null, Value::Bool(true))]?;
@@ -25,7 +25,7 @@ fn kinds(alloc: Global) -> std::result::Result<Vec<(Value, &'static str)>, Alloc
     ]?)
 }
 
-/// Whether the error is of these two texts.
+/// Returns true if the error has these two texts.
 fn refused(error: &Option<CoseError>, got: &str, want: &str) -> bool {
     match error {
         Some(CoseError::UnexpectedItem(g, w)) => *g == got && *w == want,
@@ -33,7 +33,7 @@ fn refused(error: &Option<CoseError>, got: &str, want: &str) -> bool {
     }
 }
 
-/// The error of an answer.
+/// Returns the error of a result.
 macro_rules! error_of {
     ($answer:expr) => {
         match $answer {
@@ -43,7 +43,7 @@ macro_rules! error_of {
     };
 }
 
-/// The error of the call that asks for that kind.
+/// Returns the error of the call that asks for that kind.
 fn ask(value: Value, kind: &str) -> Option<CoseError> {
     match kind {
         "int" => error_of!(value.try_as_integer()),
@@ -89,7 +89,7 @@ fn empty_bytes(rt: HostRuntime) -> std::result::Result<(), Fail> {
     Ok(())
 }
 
-/// Twice the number, where that is a byte.
+/// Returns twice the number, if it fits a byte.
 fn twice(value: Value) -> std::result::Result<u8, u8> {
     match value.as_integer() {
         Some(n) => match u64::try_from(n) {
@@ -100,7 +100,7 @@ fn twice(value: Value) -> std::result::Result<u8, u8> {
     }
 }
 
-/// The array of these numbers, converted.
+/// Returns the array of these numbers, converted.
 fn converted(alloc: Global, numbers: &[u8]) -> std::result::Result<Vec<u8>, CallError<u8>> {
     let mut elements = Vec::new(alloc);
     for n in numbers {

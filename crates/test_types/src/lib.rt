@@ -1,5 +1,5 @@
-//! The tests of `example_types`: types of a caller's own, what they read, write and refuse. They are apart from it, since a
-//! crate with tests is proved twice.
+//! The tests of `example_types`: types of a caller's own, and how they are read, written and
+//! refused. They are a crate of their own, because a crate with tests is proved twice.
 #![tactic(auto)]
 
 #[cfg(test)]

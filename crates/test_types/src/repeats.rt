@@ -6,12 +6,12 @@ use example_types::settings::Name;
 use std::alloc::{AllocError, Global};
 use std::test::*;
 
-/// A label for each number, descending.
+/// Returns a label for each number, in descending order.
 fn label(n: i64) -> Name {
     Name(1000i64.wrapping_sub(n.wrapping_mul(7)))
 }
 
-/// Forty labels, of which the last is that of `last`.
+/// Returns forty labels. The last is the label of `last`.
 fn forty(alloc: Global, last: i64) -> Result<Vec<(Name, Value)>, AllocError> {
     let mut pairs = Vec::new(alloc);
     for n in 0..39i64 {

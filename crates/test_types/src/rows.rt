@@ -1,4 +1,4 @@
-//! Worked rows: readings, reports and settings read both ways, written and tagged.
+//! Worked rows: readings, reports and settings, read in two ways, written, and tagged.
 
 use coset_cbor::de::read_value;
 use coset_cbor::value::Value;
@@ -10,7 +10,8 @@ use example_types::settings::{Name, Settings};
 use std::alloc::Global;
 use std::test::*;
 
-/// What a row expects: the bytes that are written of what was read, or the text of the error.
+/// The expected result of a row: the bytes that are written for the value, or the text of the
+/// error.
 #[derive(Clone, Copy)]
 enum Expected<'a> {
     Written(&'a [u8]),
@@ -19,7 +20,7 @@ enum Expected<'a> {
 
 use Expected::{Refused, Written};
 
-/// Reads through a value, whatever the type does of itself.
+/// Reads through a `Value`, whatever methods the type has.
 pub(crate) fn through_a_value<T: AsCborValue>(alloc: Global, s: &[u8]) -> Result<T> {
     let (value, length) = read_value(alloc, s)?;
     if length < s.len() {
@@ -28,7 +29,7 @@ pub(crate) fn through_a_value<T: AsCborValue>(alloc: Global, s: &[u8]) -> Result
     T::from_cbor_value(alloc, value)
 }
 
-/// Whether the answer is the one that is expected.
+/// Returns true if the result is the expected one.
 fn is_expected<T: CborSerializable + Drop>(
     alloc: Global,
     answer: Result<T>,
@@ -44,7 +45,7 @@ fn is_expected<T: CborSerializable + Drop>(
     }
 }
 
-/// Whether the type reads the input as expected, straight from the bytes and through a value.
+/// Returns true if the type reads the input as expected, from bytes and through a `Value`.
 fn reads<T: CborSerializable + Drop>(
     alloc: Global,
     input: &[u8],
@@ -113,7 +114,7 @@ fn readings(rt: HostRuntime) -> std::result::Result<(), Fail> {
     Ok(())
 }
 
-/// The last place is judged first, and in it the first reading.
+/// The fault in the last element is reported, and in that element the fault of the first reading.
 const REPORTS: [(&[u8], Expected); 9] = [
     (
         b"\x82\x41\xaa\x82\x83\x05\xf6\x80\x83\x06\x40\x81\x07",
@@ -150,7 +151,7 @@ fn reports(rt: HostRuntime) -> std::result::Result<(), Fail> {
     Ok(())
 }
 
-/// The last place that has a fault is named.
+/// The fault of the last faulty element is reported.
 const PARCELS: [(&[u8], Expected); 8] = [
     (
         b"\x84\x05\x41\xaa\x42\x01\x02\x82\x01\x20",

@@ -1,9 +1,9 @@
-//! What the closures of tests answer: what is made of bytes that are expected, and of no others.
+//! The results of the closures in tests. They accept the expected bytes alone.
 
 use example_uses::cipher::Refused;
 use std::alloc::Global;
 
-/// What is made, where the bytes are those that are expected.
+/// Returns a copy of `made`, if the bytes are the expected ones.
 pub(crate) fn made_of(
     alloc: Global,
     given: &[u8],
@@ -16,7 +16,7 @@ pub(crate) fn made_of(
     Vec::from_slice(alloc, made).map_err(|_| Refused::OutOfMemory)
 }
 
-/// What is made, where both are those that are expected.
+/// Returns a copy of `made`, if both are the expected ones.
 pub(crate) fn made_of_two(
     alloc: Global,
     given: (&[u8], &[u8]),
@@ -27,7 +27,7 @@ pub(crate) fn made_of_two(
     Vec::from_slice(alloc, made).map_err(|_| Refused::OutOfMemory)
 }
 
-/// Whether both are those that are expected.
+/// Accepts both, if they are the expected ones.
 pub(crate) fn are(given: (&[u8], &[u8]), expected: (&[u8], &[u8])) -> Result<(), Refused> {
     if given.0 == expected.0 && given.1 == expected.1 {
         Ok(())

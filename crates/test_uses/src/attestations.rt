@@ -1,5 +1,5 @@
-//! Attestation tokens that are let in, and what their claims say. The tokens, and what their signatures and MACs are over,
-//! were made by plain Python after RFC 8949, RFC 8152, RFC 9711 and RFC 9783.
+//! Attestation tokens that are let in, and their claims. Plain Python made the tokens and their
+//! structures by RFC 8949, RFC 8152, RFC 9711 and RFC 9783.
 
 use coset::CoseError;
 use coset::cbor::value::{Integer, Value};
@@ -13,11 +13,12 @@ use example_uses::attestation::{
 use std::alloc::Global;
 use std::test::*;
 
-/// That a layer isn't accepted.
+/// The error of keys that don't accept a layer.
 #[derive(Clone, Copy, Debug, Drop)]
 struct No;
 
-/// Keys that accept the signature, or the MAC, `s` of the structure that begins with these bytes and ends with the claims.
+/// Keys that accept the signature or MAC `s` of one structure, which begins with these bytes and
+/// ends with the claims.
 #[derive(Clone, Copy, Debug)]
 struct OneStructure<'a> {
     before: &'a [u8],
@@ -53,7 +54,8 @@ impl Keys for OneStructure<'_> {
     }
 }
 
-/// A token, whose claims are between these bytes and the proof `s`, judged by keys that accept one structure.
+/// Judges a token with keys that accept one structure. The claims are between these bytes and the
+/// proof `s`.
 fn let_in(
     alloc: Global,
     token: &[u8],
@@ -80,19 +82,19 @@ iiiiiiiiiiii\x0aX nnnnnnnnnnnnnnnnnnnnnnnnnnnnnnnn\x19\x09Z\x1a\x7f\xff\xff\xff\
 \x190\x00\x19\x01\x09x!tag:psacertified.org,2023:psa#tfm\x19\x09_\x81\xa3\x01dPRoT\x02X \
 mmmmmmmmmmmmmmmmmmmmmmmmmmmmmmmm\x05X ssssssssssssssssssssssssssssssss";
 
-/// What is before them in a token with a signature by ES256, and in what that is over.
+/// The bytes before the claims in a token with an ES256 signature, and in its structure.
 const SIGNED: (&[u8], &[u8]) = (
     b"\xd2\x84C\xa1\x01&\xa0X\xf4",
     b"\x84jSignature1C\xa1\x01&@X\xf4",
 );
 
-/// The same of one with a MAC, by HMAC 256/256.
+/// The same for a token with a MAC, by HMAC 256/256.
 const MACED: (&[u8], &[u8]) = (
     b"\xd1\x84C\xa1\x01\x05\xa0X\xf4",
     b"\x84dMAC0C\xa1\x01\x05@X\xf4",
 );
 
-/// The same of one with a signature by ES384.
+/// The same for a token with an ES384 signature.
 const BY_ANOTHER_ALGORITHM: (&[u8], &[u8]) = (
     b"\xd2\x84D\xa1\x018\x22\xa0X\xf4",
     b"\x84jSignature1D\xa1\x018\x22@X\xf4",
@@ -161,7 +163,8 @@ fn tokens_that_are_refused(rt: HostRuntime) -> Result<(), Fail> {
     Ok(())
 }
 
-/// Claims with three submodules: claims, a token of its own, and a digest; and with a claim that no registry has.
+/// Claims with three submodules: claims, a token of its own, and a digest. They also have a claim
+/// that no registry has.
 const MODULES: &[u8] =
     b"\xa3\x0aHnnnnnnnn\x19\x01\x0a\xa3capp\xa2\x19\x01\x0egupdater\x19\x09Z bseU\xd2\x84C\xa1\
 \x01&\xa0K\xa1\x0aHnnnnnnnnAsclog\x82/Ddddd\x19\xfd\xe8\x07";
@@ -171,15 +174,15 @@ const MODULES_SIGNED: (&[u8], &[u8]) = (
     b"\x84jSignature1C\xa1\x01&@XK",
 );
 
-/// The token that is one of the submodules, and its claims.
+/// The token in one of the submodules, and its claims.
 const INNER: &[u8] = b"\xd2\x84C\xa1\x01&\xa0K\xa1\x0aHnnnnnnnnAs";
 
 const INNER_CLAIMS: &[u8] = b"\xa1\x0aHnnnnnnnn";
 
-/// What its signature is over, up to its claims.
+/// The structure of its signature, up to its claims.
 const INNER_STRUCTURE: &[u8] = b"\x84jSignature1C\xa1\x01&@K";
 
-/// The claims with submodules.
+/// Returns the claims with submodules.
 fn with_submodules(alloc: Global) -> Result<ClaimsSet, Fail> {
     let (token, structure) = MODULES_SIGNED;
     let known = let_in(alloc, token, structure, MODULES, b"nnnnnnnn")?

@@ -1,5 +1,5 @@
-//! Countersignatures of messages with one signature. The bytes are put together by hand, and the signatures are Ed25519's of
-//! another library, with the keys 00 to 1f and 20 to 3f.
+//! Countersignatures of messages with one signature. The bytes were composed by hand. The
+//! signatures are Ed25519, made by another library with the keys 00 to 1f and 20 to 3f.
 
 use crate::answers::{are, made_of};
 use coset::iana::Algorithm;
@@ -14,20 +14,20 @@ const MESSAGE: &[u8] =
 \xf1\xd7oO\xfad\x0av\xc9+\xafk\xb6\x10\x09\x1f\xd2\x84\x5c\xec\xd1\xa9\xf1\xac\xa9\x0d\xcf|\x98\
 \xa7\xbe[\x19T252\x8a\x8f\x9ee\x03U\x9c\x80`\x92\x0e";
 
-/// What its countersignature is over:
-/// `["CounterSignatureV2", h'a10127', h'a10127', h'0102', 'This is the content.', [signature]]`.
+/// The structure of its countersignature: `["CounterSignatureV2", h'a10127', h'a10127', h'0102',
+/// 'This is the content.', [signature]]`.
 const TBS: &[u8] =
     b"\x86rCounterSignatureV2C\xa1\x01'C\xa1\x01'B\x01\x02TThis is the content.\x81X@\x0bIuG\xd7\
 \xa3\x1d\xb8rF\xc7\x0e8\x0b1\xb3\xf1\xd7oO\xfad\x0av\xc9+\xafk\xb6\x10\x09\x1f\xd2\x84\x5c\xec\xd1\
 \xa9\xf1\xac\xa9\x0d\xcf|\x98\xa7\xbe[\x19T252\x8a\x8f\x9ee\x03U\x9c\x80`\x92\x0e";
 
-/// The second key's signature of that.
+/// The second key's signature of that structure.
 const COUNTERSIGNATURE: &[u8] =
     b"\xbf\x06D\x02@\xa6\xb7pdO\xe2C\x1dF\xde\x9d\xd5\x9d\xd0\xb2\xa1\xd4\x8f\x85`xjL\x92hg}\xb7\
 \x13+\x90\x84/\xc4`7\x094\xcc\xa9?\x82y\x9c\x00$N.,UI\xaa\x7f'9jD\xe3\x04";
 
-/// The message with it: its unprotected header is
-/// `{4: 'a', 11: [h'a10127', {4: 'notary'}, countersignature]}`.
+/// The message with the countersignature. Its unprotected header is `{4: 'a', 11: [h'a10127', {4:
+/// 'notary'}, countersignature]}`.
 const COUNTERSIGNED: &[u8] =
     b"\x84C\xa1\x01'\xa2\x04Aa\x0b\x83C\xa1\x01'\xa1\x04FnotaryX@\xbf\x06D\x02@\xa6\xb7pdO\xe2C\x1d\
 F\xde\x9d\xd5\x9d\xd0\xb2\xa1\xd4\x8f\x85`xjL\x92hg}\xb7\x13+\x90\x84/\xc4`7\x094\xcc\xa9?\x82y\

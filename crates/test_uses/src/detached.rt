@@ -1,4 +1,4 @@
-//! A message whose payload is detached.
+//! A message with a detached payload.
 
 use crate::answers::{are, made_of};
 use coset::iana::Algorithm;
@@ -12,7 +12,7 @@ const PAYLOAD: &[u8] = b"This is the content.";
 /// `["Signature1", h'a10126', h'', payload]`
 const APART_TBS: &[u8] = b"\x84\x6aSignature1\x43\xa1\x01\x26\x40\x54This is the content.";
 
-/// A message that is signed with ES256, without its payload; its signature is `s`.
+/// A message without its payload, signed with ES256. Its signature is `s`.
 const APART: &[u8] = b"\x84\x43\xa1\x01\x26\xa0\xf6\x41s";
 
 #[test]

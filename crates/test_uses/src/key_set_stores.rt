@@ -1,29 +1,29 @@
-//! Stores that hold sets of keys.
+//! Stores of sets of keys.
 
 use coset::CborOrdering;
 use example_uses::key_sets::{sets_hold_the_same, stored_keys};
 use std::test::*;
 
-/// A set of one symmetric key, with the params `a` and -1, in this order.
+/// A set of one symmetric key, with the parameters `a` and -1, in this order.
 const ONE: &[u8] = b"\x81\xa3\x01\x04\x61a\x01\x20\x41k";
 
 /// The same set, with -1 first and longer heads.
 const ONE_SPELLED_ANEW: &[u8] = b"\x98\x01\xb8\x03\x20\x58\x01k\x61a\x18\x01\x18\x01\x04";
 
-/// A set of that key and of one with the params -1 and 24.
+/// A set of that key and of a key with the parameters -1 and 24.
 const TWO: &[u8] = b"\x82\xa3\x01\x04\x61a\x01\x20\x41k\xa3\x01\x04\x20\x41l\x18\x18\x02";
 
-/// The same set, with the params of both keys in another order, and no lengths announced.
+/// The same set, with the parameters of both keys in another order, and with indefinite lengths.
 const TWO_SPELLED_ANEW: &[u8] =
     b"\x9f\xbf\x01\x04\x20\x41k\x61a\x01\xff\xbf\x18\x18\x02\x20\x5f\x41l\xff\x01\x04\xff\xff";
 
-/// The same two keys, the other way round.
+/// The same two keys in the opposite order.
 const TURNED: &[u8] = b"\x82\xa3\x01\x04\x20\x41l\x18\x18\x02\xa3\x01\x04\x61a\x01\x20\x41k";
 
-/// A set whose second key is another.
+/// A set whose second key is a different one.
 const OTHER: &[u8] = b"\x82\xa3\x01\x04\x61a\x01\x20\x41k\xa3\x01\x04\x20\x41m\x18\x18\x02";
 
-/// Whether two byte strings are held, and which.
+/// Returns true if the stored bytes are these two.
 fn are_held(held: &[Vec<u8>], first: &[u8], second: &[u8]) -> bool {
     match held {
         [one, other] => one.as_slice() == first && other.as_slice() == second,

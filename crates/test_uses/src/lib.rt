@@ -1,4 +1,5 @@
-//! The tests of `example_uses`: what comes out of each use. They are apart from it, since a crate with tests is proved twice.
+//! The tests of `example_uses`, with the result of each use. They are a crate of their own, because
+//! a crate with tests is proved twice.
 #![tactic(auto)]
 
 #[cfg(test)]

@@ -1,10 +1,11 @@
-//! Keys that are found.
+//! Keys that are found by their identifiers.
 
 use coset::{CborOrdering, CborSerializable};
 use example_uses::find_key::key_of;
 use std::test::*;
 
-/// Two symmetric keys: `a` without params, and `b` with the params `x` and -1, in this order.
+/// Two symmetric keys: `a` without parameters, and `b` with the parameters `x` and -1, in this
+/// order.
 const KEYS: &[u8] = b"\x82\xa2\x01\x04\x02\x41a\xa4\x01\x04\x02\x41b\x61x\x01\x20\x41k";
 
 #[test]

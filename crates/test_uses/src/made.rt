@@ -1,5 +1,5 @@
-//! Claims, keys, headers and messages that are made. The bytes are put together by hand; those of messages are examples of RFC
-//! 8152, appendix C.
+//! Claims, keys, headers and messages that are made. The bytes were composed by hand; those of
+//! messages are examples of RFC 8152, appendix C.
 
 use crate::answers::{are, made_of, made_of_two};
 use coset::cwt::ClaimsSet;
@@ -91,10 +91,10 @@ const CONTENT: &[u8] = b"This is the content.";
 /// The MAC of appendix C.6.1.
 const MAC: &[u8] = b"\x72\x60\x43\x74\x50\x27\x21\x4f";
 
-/// What it is over: `["MAC0", h'a1010f', h'', content]`.
+/// Its structure: `["MAC0", h'a1010f', h'', content]`.
 const TBM: &[u8] = b"\x84\x64MAC0\x43\xa1\x01\x0f\x40\x54This is the content.";
 
-/// The message of appendix C.6.1, without its tag of CBOR.
+/// The message of appendix C.6.1, without its CBOR tag.
 const AUTHENTICATED: &[u8] =
     b"\x84\x43\xa1\x01\x0f\xa0\x54This is the content.\x48\x72\x60\x43\x74\x50\x27\x21\x4f";
 
@@ -168,10 +168,10 @@ const CIPHERTEXT: &[u8] =
     b"\x59\x74\xe1\xb9\x9a\x3a\x4c\xc0\x9a\x65\x9a\xa2\xe9\xe7\xff\xf1\x61\xd3\x8c\xe7\
 \x1c\xb4\x5c\xe4\x60\xff\xb5\x69";
 
-/// What goes with it: `["Encrypt0", h'a1010a', h'']`.
+/// Its structure: `["Encrypt0", h'a1010a', h'']`.
 const AAD: &[u8] = b"\x83\x68Encrypt0\x43\xa1\x01\x0a\x40";
 
-/// The message of appendix C.4.1, without its tag of CBOR.
+/// The message of appendix C.4.1, without its CBOR tag.
 const ENCRYPTED: &[u8] =
     b"\x83\x43\xa1\x01\x0a\xa1\x05\x4d\x89\xf5\x2f\x65\xa1\xc5\x80\x93\x3b\x52\x61\xa7\
 \x8c\x58\x1c\x59\x74\xe1\xb9\x9a\x3a\x4c\xc0\x9a\x65\x9a\xa2\xe9\xe7\xff\xf1\x61\xd3\x8c\xe7\x1c\xb4\

@@ -8,7 +8,7 @@ use example_uses::sequences::{and_value, uncounted_lengths, values_in};
 use std::alloc::Global;
 use std::test::*;
 
-/// The header of these bytes.
+/// Reads the header from these bytes.
 fn header(alloc: Global, bytes: &[u8]) -> Result<Header, Fail> {
     Ok(Header::from_slice(alloc, bytes).ok().ok_or("refused")?)
 }

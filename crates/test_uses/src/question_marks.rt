@@ -1,4 +1,5 @@
-//! Errors that go by `?`: a function that returns one error needs no `map_err` at any kind of call.
+//! Errors that are passed on by `?`. A function with one error type needs no `map_err` for any
+//! call.
 
 ghost use Rattle.std.specs.Prelude.{Some, codes};
 
@@ -17,7 +18,7 @@ use std::error::Error;
 use std::fmt;
 use std::test::*;
 
-/// Why a caller's key doesn't do what it is asked.
+/// The error of a caller's key.
 #[derive(Clone, Copy, Debug, PartialEq, Eq)]
 struct NoKey;
 
@@ -31,10 +32,10 @@ impl fmt::Display for NoKey {
 
 impl Error for NoKey {}
 
-/// What any of a caller's functions returns.
+/// The result of each function of the caller.
 type Answer<T> = Result<T, CallError<NoKey>>;
 
-/// What the key makes, whatever it is given.
+/// Returns the key's result, whatever it gets.
 fn made(alloc: Global, key: Option<u8>) -> Result<Vec<u8>, NoKey> {
     match key {
         Some(byte) => Vec::from_slice(alloc, &[byte]).ok().ok_or(NoKey),
@@ -42,7 +43,7 @@ fn made(alloc: Global, key: Option<u8>) -> Result<Vec<u8>, NoKey> {
     }
 }
 
-/// Whether the key made it.
+/// Accepts the bytes if the key made them.
 fn accepted(key: Option<u8>, given: &[u8]) -> Result<(), NoKey> {
     match key {
         Some(byte) if given == [byte].as_slice() => Ok(()),
@@ -50,7 +51,7 @@ fn accepted(key: Option<u8>, given: &[u8]) -> Result<(), NoKey> {
     }
 }
 
-/// A value that is written, a builder's call, and one that signs.
+/// Writes a value, calls a builder, and signs.
 fn sent(alloc: Global, key: Option<u8>) -> Answer<Vec<u8>> {
     let mut payload = Vec::new(alloc);
     write_value(&Value::Null, &mut payload)?;
@@ -62,7 +63,7 @@ fn sent(alloc: Global, key: Option<u8>) -> Answer<Vec<u8>> {
     Ok(message.build().to_vec(alloc)?)
 }
 
-/// A message that is read and verified, and its payload, which is copied and read.
+/// Reads and verifies a message, and reads a copy of its payload.
 fn received(alloc: Global, token: &[u8], key: Option<u8>) -> Answer<Value> {
     let message = CoseSign1::from_slice(alloc, token)?;
     message.verify_signature(alloc, b"", move |signature: &[u8], _tbs: &[u8]| {
@@ -72,7 +73,7 @@ fn received(alloc: Global, token: &[u8], key: Option<u8>) -> Answer<Value> {
     Ok(Value::from_slice(alloc, &payload)?)
 }
 
-/// A plaintext that is encrypted and decrypted.
+/// Encrypts and decrypts a plaintext.
 fn encrypted(alloc: Global, key: Option<u8>) -> Answer<Vec<u8>> {
     let message = CoseEncrypt0Builder::new(alloc)
         .try_create_ciphertext(alloc, b"", b"", move |_text: &[u8], _aad: &[u8]| {
@@ -88,7 +89,7 @@ fn encrypted(alloc: Global, key: Option<u8>) -> Answer<Vec<u8>> {
     Ok(plaintext)
 }
 
-/// A message that is authenticated, and its MAC verified.
+/// Authenticates a message, and verifies its MAC.
 fn authenticated(alloc: Global, key: Option<u8>) -> Answer<()> {
     let message = CoseMac0Builder::new(alloc)
         .payload(Vec::from_slice(alloc, b"p")?)
@@ -103,7 +104,7 @@ fn authenticated(alloc: Global, key: Option<u8>) -> Answer<()> {
     Ok(())
 }
 
-/// A MAC that a closure makes which can't refuse.
+/// Makes a MAC with a closure that can't refuse.
 fn others(alloc: Global) -> Answer<Vec<u8>> {
     let message = CoseMac0Builder::new(alloc)
         .payload(Vec::new(alloc))
@@ -112,12 +113,12 @@ fn others(alloc: Global) -> Answer<Vec<u8>> {
     Ok(message.to_vec(alloc)?)
 }
 
-/// What the error says.
+/// Returns the text of the error.
 fn text<E: fmt::Display>(alloc: Global, error: &E) -> Result<String, Fail> {
     Ok(format!(in alloc; "{error}")?)
 }
 
-/// Whatever takes any error takes this one.
+/// Accepts every type that is an `Error`.
 fn is_error<E: Error>() {}
 
 #[test]
@@ -151,7 +152,7 @@ fn what_the_errors_say(rt: HostRuntime) -> Result<(), Fail> {
     Ok(())
 }
 
-/// Why a caller's own program stops.
+/// The error of a caller's own program.
 #[derive(Drop)]
 struct Stopped(PolicyError<NoKey>);
 
@@ -161,7 +162,7 @@ impl From<PolicyError<NoKey>> for Stopped {
     }
 }
 
-/// A reason of the gate goes by `?` into an error of the caller's own.
+/// Passes an error of the gate into an error of the caller's own by `?`.
 fn passed_on(error: PolicyError<NoKey>) -> Result<(), Stopped> {
     Err::<(), PolicyError<NoKey>>(error)?;
     Ok(())

@@ -1,10 +1,11 @@
-//! Claims and keys that are read round those that aren't understood.
+//! Claims and keys that are read although others aren't understood.
 
 use coset::{CoseError, RegisteredLabel, iana};
 use example_uses::readable::{claims_kept, keys_that_read};
 use std::test::*;
 
-/// The claims of RFC 8392, appendix A.1, with a claim 500 of two elements among them, a text `a`, and claim -300.
+/// The claims of RFC 8392, appendix A.1. They also have a claim 500 with two elements, a claim with
+/// the text name `a`, and a claim -300.
 const CLAIMS: &[u8] = b"\xaa\x01\x75coap://as.example.com\x19\x01\xf4\x82\x01\x02\x02\x65erikw\
 \x03\x78\x18coap://light.example.com\x04\x1a\x56\x12\xae\xb0\x61a\x01\x05\x1a\x56\x10\xd9\xf0\
 \x06\x1a\x56\x10\xd9\xf0\x39\x01\x2b\xf6\x07\x42\x0b\x71";
@@ -40,8 +41,8 @@ fn claims_that_are_refused(rt: HostRuntime) -> Result<(), Fail> {
     Ok(())
 }
 
-/// A key of type 99, a symmetric key `a`, an integer, a key without a type, a key with an algorithm that is none, and a
-/// symmetric key `b`.
+/// A key of type 99, a symmetric key `a`, an integer, a key without a type, a key with an unknown
+/// algorithm, and a symmetric key `b`.
 const KEYS: &[u8] =
     b"\x86\xa1\x01\x18\x63\xa2\x01\x04\x02\x41a\x01\xa1\x02\x41c\xa3\x01\x04\x02\x41d\
 \x03\x19\xfb\xff\xa2\x01\x04\x02\x41b";

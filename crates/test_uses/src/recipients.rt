@@ -10,7 +10,7 @@ use std::test::*;
 
 const PLAINTEXT: &[u8] = b"This is the content.";
 
-/// The key that is wrapped in RFC 3394, section 4.1, and what it is wrapped as.
+/// The key that RFC 3394, section 4.1, wraps, and the wrapped key.
 const KEY: &[u8] = b"\x00\x11\x22\x33\x44\x55\x66\x77\x88\x99\xaa\xbb\xcc\xdd\xee\xff";
 
 const WRAPPED: &[u8] = b"\x1f\xa6\x8b\x0a\x81\x12\xb4\x47\xae\xf3\x4b\xd8\xfb\x5a\x7b\x82\
@@ -24,7 +24,8 @@ const IV: &[u8] = b"\x02\xd1\xf7\xe6\xf2\x6c\x43\xd4\x86\x8d\x87\xce";
 /// `["Encrypt", h'a10101', h'']`
 const AAD: &[u8] = b"\x83\x67Encrypt\x43\xa1\x01\x01\x40";
 
-/// What AES-GCM of another library makes of the plaintext, with that key, that vector and these additional data.
+/// The ciphertext that another library's AES-GCM makes from the plaintext, with that key, IV and
+/// additional data.
 const CIPHERTEXT: &[u8] =
     b"\xfb\x20\xee\x87\x9c\x17\x5a\x01\xa0\xfe\xee\x66\xda\xb9\x66\x73\x75\x49\
 \xc1\x90\x7c\x05\x3b\xd4\
@@ -65,12 +66,12 @@ fn a_message_to_a_recipient(rt: HostRuntime) -> Result<(), Fail> {
     Ok(())
 }
 
-/// The key, where the two are the wrapped key and what goes with it.
+/// Returns the key, if the arguments are the wrapped key and its structure.
 fn unwrapped(alloc: Global, wrapped: &[u8], aad: &[u8]) -> Result<Vec<u8>, Refused> {
     made_of_two(alloc, (wrapped, aad), (WRAPPED, WRAP_AAD), KEY)
 }
 
-/// The plaintext, where the three are the key, the ciphertext and what goes with it.
+/// Returns the plaintext, if the arguments are the key, the ciphertext and its structure.
 fn decrypted(alloc: Global, key: &[u8], text: &[u8], aad: &[u8]) -> Result<Vec<u8>, Refused> {
     if key == KEY {
         made_of_two(alloc, (text, aad), (CIPHERTEXT, AAD), PLAINTEXT)
@@ -79,7 +80,7 @@ fn decrypted(alloc: Global, key: &[u8], text: &[u8], aad: &[u8]) -> Result<Vec<u
     }
 }
 
-/// What is decrypted of this message for this key.
+/// Returns the plaintext of this message for this key.
 fn decrypt(
     alloc: Global,
     message: &[u8],
@@ -97,7 +98,7 @@ fn decrypt(
     )
 }
 
-/// A message whose recipient has no ciphertext; and one that has none itself.
+/// A message whose recipient has no ciphertext, and a message without a ciphertext of its own.
 const NO_KEY: &[u8] = b"\x84\x40\xa0\x41c\x81\x83\x40\xa1\x04\x43kek\xf6";
 
 const NO_CIPHERTEXT: &[u8] = b"\x84\x40\xa0\xf6\x81\x83\x40\xa1\x04\x43kek\x41w";

@@ -1,4 +1,4 @@
-//! Requests as OSCORE protects them.
+//! Requests that OSCORE protects.
 
 use coset::iana::Algorithm;
 use coset::{CallError, CborSerializable, CoseEncrypt0Builder};
@@ -7,8 +7,8 @@ use example_uses::oscore::{decrypted, external_aad};
 use example_uses::stand_in::StandInKey;
 use std::test::*;
 
-/// The `external_aad` of two requests with Partial IV 20: of who has no identifier, and of identifier 0 (RFC 8613,
-/// appendices C.4 and C.5).
+/// The `external_aad` of two requests with Partial IV 20. The first requester has no identifier,
+/// the second has identifier 0 (RFC 8613, appendices C.4 and C.5).
 const EXTERNAL_AADS: [(&[u8], &[u8]); 2] = [
     (b"", b"\x85\x01\x81\x0a\x40\x41\x14\x40"),
     (b"\x00", b"\x85\x01\x81\x0a\x41\x00\x41\x14\x40"),
@@ -26,7 +26,8 @@ fn additional_data_of_requests(rt: HostRuntime) -> Result<(), Fail> {
     Ok(())
 }
 
-/// What goes with the ciphertext of the first of them: `["Encrypt0", h'', external_aad]` (RFC 8613, appendix C.4).
+/// The structure of the first request's ciphertext: `["Encrypt0", h'', external_aad]` (RFC 8613,
+/// appendix C.4).
 const AAD: &[u8] = b"\x83\x68Encrypt0\x40\x48\x85\x01\x81\x0a\x40\x41\x14\x40";
 
 #[test]

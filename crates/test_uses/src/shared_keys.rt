@@ -1,4 +1,4 @@
-//! Messages with a MAC by a key that is shared.
+//! Messages with a MAC by a shared key.
 
 use crate::answers::{are, made_of};
 use coset::iana::Algorithm;
@@ -12,10 +12,11 @@ const PAYLOAD: &[u8] = b"This is the content.";
 /// The MAC of RFC 8152, appendix C.5.1.
 const MAC: &[u8] = b"\x9e\x12\x26\xba\x1f\x81\xb8\x48";
 
-/// What it is over: `["MAC", h'a1010f', h'', payload]`. Its MAC by the key of appendix C.7.2 is that one.
+/// Its structure: `["MAC", h'a1010f', h'', payload]`. The key of appendix C.7.2 gives that MAC for
+/// it.
 const TBM: &[u8] = b"\x84\x63MAC\x43\xa1\x01\x0f\x40\x54This is the content.";
 
-/// The message of appendix C.5.1, without its tag of CBOR.
+/// The message of appendix C.5.1, without its CBOR tag.
 const MESSAGE: &[u8] =
     b"\x85\x43\xa1\x01\x0f\xa0\x54This is the content.\x48\x9e\x12\x26\xba\x1f\x81\xb8\x48\
 \x81\x83\x40\xa2\x01\x25\x04\x4aour-secret\x40";
@@ -45,7 +46,8 @@ fn a_message_with_a_mac(rt: HostRuntime) -> Result<(), Fail> {
     Ok(())
 }
 
-/// The same without a payload; with a recipient that has no algorithm; and without recipients.
+/// Similar messages: without a payload, with a recipient that has no algorithm, and without
+/// recipients.
 const ODD: [&[u8]; 3] = [
     b"\x85\x43\xa1\x01\x0f\xa0\xf6\x41m\x81\x83\x40\xa2\x01\x25\x04\x4aour-secret\x40",
     b"\x85\x43\xa1\x01\x0f\xa0\x41p\x41m\x81\x83\x40\xa1\x04\x4aour-secret\x40",

@@ -1,4 +1,4 @@
-//! Messages that several sign.
+//! Messages with several signers.
 
 use crate::answers::{are, made_of};
 use coset::iana::Algorithm;
@@ -12,21 +12,21 @@ const PAYLOAD: &[u8] = b"This is the content.";
 /// The key of the second signer of RFC 8152, appendix C.1.2.
 const BILBO: &[u8] = b"bilbo.baggins@hobbiton.example";
 
-/// The first signature there.
+/// The first signature of that message.
 const FIRST: &[u8] =
     b"\xe2\xae\xaf\xd4\x0di\xd1\x9d\xfenR\x07|]\x7f\xf4\xe4\x08(,\xbe\xfb]\x06\xcb\xf4\x14\xaf.\x19\
 \xd9\x82\xacE\xac\x98\xb8TL\x90\x8bE\x07\xde\x1e\x90\xb7\x17\xc3\xd3H\x16\xfe\x92j+\x98\xf5:\xfd/\
 \xa0\xf3\x0a";
 
-/// The second one.
+/// The second signature of that message.
 const SECOND: &[u8] =
     b"\x00\xa2\xd2\x8a|+\xdb\x15\x87\x87t \xf6Z\xdf}\x0b\x9a\x06c]\xd1\xded\xbbb\x97L\x86?\x0b\x16\
 \x0d\xd2\x1674\x03Nj\xc0\x03\xb0\x1e\x87\x05RL\x5cL\xa4y\xa9R\xf0$~\xe8\xcb\x0bO\xb79{\xa0\x8d\x00\
 \x9e\x0c\x8b\xf4\x82'\x0c\xc5w\x1a\xa1C\x96nZF\x9a\x09\xf6\x13H\x800\xc5\xb0~\xc6\xd7\x22\xe3\x83Z\
 \xdb[-\x8cD\xe9_\xfb\x13\x87}\xd2X(f\x8855\xde;\xb0=\x01u?\x83\xab\x87\xbbOz\x02\x97";
 
-/// What they are over: `["Signature", h'', h'a10126', h'', payload]`, and the same with `h'a1013823'`. The two signatures
-/// verify over these bytes with the keys of appendix C.7.1.
+/// The structures of the two signatures: `["Signature", h'', h'a10126', h'', payload]`, and the
+/// same with `h'a1013823'`. The signatures verify over these bytes with the keys of appendix C.7.1.
 const FIRST_TBS: &[u8] = b"\x85\x69Signature\x40\x43\xa1\x01\x26\x40\x54This is the content.";
 
 const SECOND_TBS: &[u8] = b"\x85\x69Signature\x40\x44\xa1\x01\x38\x23\x40\x54This is the content.";
@@ -130,10 +130,10 @@ fn signatures_by_their_keys(rt: HostRuntime) -> Result<(), Fail> {
     Ok(())
 }
 
-/// A signature whose key is named by its protected header: `[h'', {}, 'p', [[h'a104416b', {}, 's']]]`.
+/// A signature with its key in the protected header: `[h'', {}, 'p', [[h'a104416b', {}, 's']]]`.
 const PROTECTED: &[u8] = b"\x84\x40\xa0\x41p\x81\x83\x44\xa1\x04\x41k\xa0\x41s";
 
-/// What it is over: `["Signature", h'', h'a104416b', h'', 'p']`.
+/// Its structure: `["Signature", h'', h'a104416b', h'', 'p']`.
 const PROTECTED_TBS: &[u8] = b"\x85\x69Signature\x40\x44\xa1\x04\x41k\x40\x41p";
 
 #[test]

@@ -1,10 +1,10 @@
-//! Stores that hold keys in one order.
+//! Stores that keep keys in one order.
 
 use coset::CborOrdering;
 use example_uses::store::{hold_the_same, stored};
 use std::test::*;
 
-/// A symmetric key with the params `a` and -1, in this order.
+/// A symmetric key with the parameters `a` and -1, in this order.
 const KEY: &[u8] = b"\xa3\x01\x04\x61a\x01\x20\x41k";
 
 /// The same key, with -1 first and longer heads.

@@ -1,10 +1,10 @@
-//! Timestamps as they are written for people. The dates are those that Python's `datetime` has.
+//! Timestamps as text. The dates come from Python's `datetime`.
 
 use coset::cbor::value::Float;
 use coset::cwt::Timestamp;
 use std::test::*;
 
-/// Seconds since 1970, and the moment.
+/// Seconds since 1970, and the date.
 const WHOLE: &[(i64, &str)] = &[
     (0, "1970-01-01T00:00:00Z"),
     (-1, "1969-12-31T23:59:59Z"),
@@ -22,7 +22,7 @@ const WHOLE: &[(i64, &str)] = &[
     (253_402_300_800, "253402300800 seconds since 1970"),
 ];
 
-/// The same of the bits of doubles.
+/// The bits of doubles, and the date.
 const FRACTIONAL: &[(u64, &str)] = &[
     (0x41d5_8452_8420_0000, "2015-10-04T15:47:28.500000Z"),
     (0xbfd0_0000_0000_0000, "1969-12-31T23:59:59.750000Z"),
@@ -30,7 +30,7 @@ const FRACTIONAL: &[(u64, &str)] = &[
     (0x7ff8_0000_0000_0000, "NaN seconds since 1970"),
 ];
 
-/// Whether a timestamp is written as that.
+/// Returns true if the timestamp has this text.
 fn is_written(rt: &HostRuntime, timestamp: &Timestamp, expected: &str) -> Result<bool, Fail> {
     let mut text = String::new(rt.alloc());
     write!(text, "{timestamp}").ok().ok_or("memory")?;

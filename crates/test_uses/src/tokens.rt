@@ -1,4 +1,4 @@
-//! Tokens that are signed, sent and verified, with a stand-in for the cipher.
+//! Tokens that are signed, sent and verified, with a stand-in for ciphers.
 
 use coset::cwt::{ClaimsSet, ClaimsSetBuilder};
 use coset::iana::Algorithm;
@@ -22,7 +22,7 @@ const CLAIMS: &[u8] = b"\xa1\x01\x61a";
 
 const EXTERNAL_AAD: &[u8] = b"\x01\x02";
 
-/// A channel that leaves the spelling as it is.
+/// A channel that doesn't change the spelling.
 #[derive(Clone, Copy)]
 struct Plain;
 
@@ -36,14 +36,14 @@ impl Channel for Plain {
     }
 }
 
-/// A header that names the algorithm.
+/// Returns a header that names the algorithm.
 fn header(alloc: Global) -> Header {
     HeaderBuilder::new(alloc)
         .algorithm(Algorithm::ES256)
         .build()
 }
 
-/// The token of these claims.
+/// Returns the token of these claims.
 fn token(alloc: Global) -> Result<Vec<u8>, Fail> {
     let claims = Vec::from_slice(alloc, CLAIMS)?;
     let token = sign_token(alloc, &StandInKey, header(alloc), claims, EXTERNAL_AAD);
@@ -70,7 +70,7 @@ fn a_token_that_is_sent(rt: HostRuntime) -> Result<(), Fail> {
     Ok(())
 }
 
-/// The token with another spelling of the array around it, whose length isn't announced.
+/// Returns the token with an indefinite length of the array around it.
 fn spelled_anew(alloc: Global, token: &[u8]) -> Result<Vec<u8>, Fail> {
     let mut bytes = Vec::from_slice(alloc, b"\x9f")?;
     bytes.extend_from_slice(token.get(1..).ok_or("empty")?)?;
@@ -101,7 +101,7 @@ fn tokens_that_are_refused(rt: HostRuntime) -> Result<(), Fail> {
     Ok(())
 }
 
-/// Claims of who issued a token.
+/// Returns claims with an issuer.
 fn claims(alloc: Global) -> Result<ClaimsSet, Fail> {
     let issuer = String::from_str(alloc, "a")?;
     Ok(ClaimsSetBuilder::new(alloc).issuer(issuer).build())
@@ -121,7 +121,7 @@ fn claims_that_are_issued(rt: HostRuntime) -> Result<(), Fail> {
     Ok(())
 }
 
-/// A header that names the algorithm and the key.
+/// Returns a header that names the algorithm and the key.
 fn keyed(alloc: Global, algorithm: Algorithm, key_id: &[u8]) -> Result<Header, Fail> {
     let header = HeaderBuilder::new(alloc)
         .algorithm(algorithm)
@@ -129,7 +129,7 @@ fn keyed(alloc: Global, algorithm: Algorithm, key_id: &[u8]) -> Result<Header, F
     Ok(header.ok().ok_or("no header")?.build())
 }
 
-/// A set of one key, whose identifier is `k`.
+/// Returns a set of one key, whose identifier is `k`.
 fn one_key(alloc: Global) -> Result<CoseKeySet, Fail> {
     let key = CoseKeyBuilder::new_symmetric_key(alloc, Vec::new(alloc)).and_then(
         |key| key.key_id_from(alloc, b"k"),
@@ -139,10 +139,10 @@ fn one_key(alloc: Global) -> Result<CoseKeySet, Fail> {
     Ok(CoseKeySet(keys))
 }
 
-/// Claims for the audience `a`, that expire at 1000.
+/// Claims for the audience `a` that expire at 1000.
 const LET_IN: &[u8] = b"\xa2\x03\x61a\x04\x19\x03\xe8";
 
-/// A token of these claims, with a signature.
+/// Returns a token of these claims, with a signature.
 fn signed(alloc: Global, claims: &[u8]) -> Result<Vec<u8>, Fail> {
     let message = CoseSign1Builder::new(alloc)
         .protected(keyed(alloc, Algorithm::ES256, b"k")?)
@@ -156,7 +156,7 @@ fn signed(alloc: Global, claims: &[u8]) -> Result<Vec<u8>, Fail> {
     Ok(token.ok().ok_or("not written")?)
 }
 
-/// A token of these claims, with a MAC by the key of this identifier.
+/// Returns a token of these claims, with a MAC by the key with this identifier.
 fn maced(alloc: Global, claims: &[u8], key_id: &[u8]) -> Result<Vec<u8>, Fail> {
     let message = CoseMac0Builder::new(alloc)
         .protected(keyed(alloc, Algorithm::HMAC_256_64, key_id)?)
@@ -166,7 +166,7 @@ fn maced(alloc: Global, claims: &[u8], key_id: &[u8]) -> Result<Vec<u8>, Fail> {
     Ok(token.ok().ok_or("not written")?)
 }
 
-/// The token, encrypted.
+/// Returns the token, encrypted.
 fn encrypted(alloc: Global, token: &[u8]) -> Result<Vec<u8>, Fail> {
     let message = CoseEncrypt0Builder::new(alloc)
         .protected(keyed(alloc, Algorithm::AES_CCM_16_64_128, b"k")?)

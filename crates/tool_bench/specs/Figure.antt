@@ -1,10 +1,10 @@
--- The text of a figure.
+-- The text of a `Figure`.
 use Rattle.std.specs.Prelude.{ℕ, List, ◌++◌, ◌/◌, ◌%◌, codes}
 use Rattle.std.specs.Fmt.{decimal}
 use Rattle.tool_bench.specs.declared.figure.Figure.{Figure}
 use Rattle.tool_bench.specs.declared.figure.Figure.TheVariants.{Unknown, Untimed, Tenths}
 
--- nanoseconds, with one decimal; a dash for an operation that isn't known
+-- Nanoseconds with one decimal. An unknown operation is a dash.
 abbrev pub figure_text : Figure → List ℕ
 figure_text Unknown = codes "-"
 figure_text Untimed = codes "0.0"

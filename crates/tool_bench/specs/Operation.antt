@@ -9,7 +9,7 @@ use Rattle.tool_bench.specs.declared.operation.Operation.{Operation}
 use Rattle.tool_bench.specs.declared.operation.Operation.TheVariants.{Check, Read, Write, Make, Sign1Refused, Sign1Copy, Sign1Compare, RecipientRefused}
 use Rattle.tool_bench.specs.declared.operation.Operation.TheVariants.{RecipientCopy, RecipientCompare, KeyCanonicalize, Judge, JudgeWith, JudgeByHand}
 
--- the name of the operation that reads a type
+-- The name of the operation that reads a type.
 abbrev pub kind_name : Kind → List ℕ
 kind_name Value = codes "value"
 kind_name Header = codes "header"
@@ -26,7 +26,7 @@ kind_name KeySet = codes "keyset"
 kind_name Claims = codes "claims"
 kind_name Kdf = codes "kdf"
 
--- the name of the operation that makes a structure
+-- The name of the operation that makes a structure.
 abbrev pub structure_name : Structure → List ℕ
 structure_name CountersignatureTbs = codes "countersignature_tbs"
 structure_name Sign1Tbs = codes "sign1_tbs"
@@ -36,7 +36,7 @@ structure_name MacTbm = codes "mac_tbm"
 structure_name Encrypt0Aad = codes "encrypt0_aad"
 structure_name EncryptAad = codes "encrypt_aad"
 
--- the name of an operation, as the program is given it
+-- The name of an operation, as the command line gives it.
 abbrev pub operation_name : Operation → List ℕ
 operation_name Check = codes "check"
 operation_name (Read k) = kind_name k

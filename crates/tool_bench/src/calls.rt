@@ -1,8 +1,8 @@
 //! The calls that are timed.
 //!
-//! A compiler might leave out a call whose answer nobody asks for, or make one call in place of many that are alike. So
-//! each call's answer is looked at: a refusal ends the round, what is written must be as long as at first, and each
-//! check goes over what the one before it found.
+//! A compiler could drop a call whose result is unused, or make one call instead of many equal
+//! ones. So each result is used. A refusal ends the round. Written output must be as long as the
+//! first time. Each check reads the bytes that the check before it found.
 
 ghost use Rattle.std.specs.Prelude.{◌≡◌, ◌≤◌, ◌<◌, length, IfOk};
 
@@ -18,7 +18,7 @@ use std::rt::Clock;
 use std::sync::ledger::{Blank, Ledger};
 use std::time::{Duration, Instant};
 
-/// Reads the value, and drops it.
+/// Times reading the value and dropping it.
 fn time_read<T: CborSerializable + Drop, R: AllocGlobal + Clock>(
     rt: &R,
     bytes: &[u8],
@@ -35,7 +35,7 @@ fn time_read<T: CborSerializable + Drop, R: AllocGlobal + Clock>(
     Ok(start.elapsed(rt)?)
 }
 
-/// Refuses the bytes.
+/// Times refusing the bytes.
 pub fn time_refusal<T: CborSerializable + Drop, R: AllocGlobal + Clock>(
     rt: &R,
     bytes: &[u8],
@@ -51,8 +51,8 @@ pub fn time_refusal<T: CborSerializable + Drop, R: AllocGlobal + Clock>(
     Ok(start.elapsed(rt)?)
 }
 
-/// That many copies of the value, the first one last: so they are taken from the end in the order in which they were made,
-/// and each is moved no more than that takes.
+/// Returns `calls` copies of the value, the first one last. `pop` then takes them in the order in
+/// which they were made, and moves no other copy.
 fn copies<T: Clone + Drop>(alloc: Global, value: &T, calls: usize) -> Result<Vec<T>, Fault> {
     let mut copies = Vec::with_capacity(alloc, calls)?;
     for _ in 0..calls {
@@ -62,7 +62,8 @@ fn copies<T: Clone + Drop>(alloc: Global, value: &T, calls: usize) -> Result<Vec
     Ok(copies)
 }
 
-/// Writes a value that was read, and drops it and its text. The copies that are written are made before the time.
+/// Times writing the value, and dropping the value and its bytes. The copies to write are made
+/// before the clock starts.
 fn time_write<T: CborSerializable + Clone + Drop, R: AllocGlobal + Clock>(
     rt: &R,
     bytes: &[u8],
@@ -84,7 +85,7 @@ fn time_write<T: CborSerializable + Clone + Drop, R: AllocGlobal + Clock>(
     Ok(start.elapsed(rt)?)
 }
 
-/// Writes a value, or reads one.
+/// Times writing the value, or reading it if `is_written` is false.
 pub fn time_value<T: CborSerializable + Clone + Drop, R: AllocGlobal + Clock>(
     is_written: bool,
     rt: &R,
@@ -98,7 +99,7 @@ pub fn time_value<T: CborSerializable + Clone + Drop, R: AllocGlobal + Clock>(
     }
 }
 
-/// Copies a value that was read, and drops the copy.
+/// Times copying the value and dropping the copy.
 pub fn time_copy<T: CborSerializable + Clone + Drop, R: AllocGlobal + Clock>(
     rt: &R,
     bytes: &[u8],
@@ -112,7 +113,7 @@ pub fn time_copy<T: CborSerializable + Clone + Drop, R: AllocGlobal + Clock>(
     Ok(start.elapsed(rt)?)
 }
 
-/// Compares a value that was read with its copy.
+/// Times comparing the value with its copy.
 pub fn time_compare<T: CborSerializable + Clone + PartialEq + Drop, R: AllocGlobal + Clock>(
     rt: &R,
     bytes: &[u8],
@@ -129,8 +130,8 @@ pub fn time_compare<T: CborSerializable + Clone + PartialEq + Drop, R: AllocGlob
     Ok(start.elapsed(rt)?)
 }
 
-/// Puts the params of a key that was read in order, and drops the key. The copies that are put in order are made before
-/// the time.
+/// Times putting the parameters of a key in order, and dropping the key. The copies are made before
+/// the clock starts.
 pub fn time_canonicalize<R: AllocGlobal + Clock>(
     rt: &R,
     bytes: &[u8],
@@ -149,7 +150,7 @@ pub fn time_canonicalize<R: AllocGlobal + Clock>(
     Ok(start.elapsed(rt)?)
 }
 
-/// Makes the structure of a message that was read.
+/// Times making the structure of the message.
 pub fn time_structure<T: CborSerializable + Structured + Drop, R: AllocGlobal + Clock>(
     rt: &R,
     bytes: &[u8],
@@ -167,7 +168,8 @@ pub fn time_structure<T: CborSerializable + Structured + Drop, R: AllocGlobal + 
     Ok(start.elapsed(rt)?)
 }
 
-/// Checks the item at the front, each time the bytes that the check before found, and returns how many they are.
+/// Checks the item at the front `calls` times, each time the bytes that the previous check found.
+/// Returns their number.
 fn check_each<L: Ledger>(
     bytes: &[u8],
     calls: usize,
@@ -187,7 +189,7 @@ fn check_each<L: Ledger>(
     Ok(item.len())
 }
 
-/// Checks the item that the bytes are.
+/// Times checking the item that the bytes encode.
 pub fn time_check<R: Clock>(rt: &R, bytes: &[u8], calls: usize) -> Result<Duration, Fault> {
     let start = Instant::now(rt)?;
     let length = check_each::<Brand>(bytes, calls, Blank::new(1))?;

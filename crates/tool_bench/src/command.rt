@@ -5,22 +5,23 @@ ghost use Rattle.std.specs.Prelude.{◌<◌};
 use std::env;
 use std::rt::Env;
 
-/// What is timed, over which file, and how often.
+/// The operation, the file to read, and the numbers of calls and rounds.
 #[derive(Drop)]
 pub struct Command {
     /// The operation's name, known or not.
     pub operation: String,
-    /// Where the bytes are.
+    /// The path of the file.
     pub file: String,
-    /// How many calls a round makes: at least one.
+    /// The number of calls in a round, at least one.
     pub calls: usize,
-    /// How many rounds are timed.
+    /// The number of timed rounds.
     pub rounds: usize,
     ghost some_calls: { 0 < calls },
 }
 
 impl Command {
-    /// The four arguments, or nothing where there are others, or they can't be read.
+    /// Reads the four arguments. Returns `None` if there are more or fewer, or one of them can't be
+    /// read.
     pub fn of_arguments<R: Env + AllocGlobal>(rt: &R) -> Option<Command> {
         let mut arguments = env::args(rt).ok()?.skip(1);
         let operation = arguments.next()?;
@@ -38,7 +39,7 @@ impl Command {
         })
     }
 
-    /// The file's name without its folders.
+    /// Returns the file's name without its folders.
     pub fn file_name(&self) -> &str {
         match self.file.as_str().rsplit_once('/') {
             Some((_, name)) => name,

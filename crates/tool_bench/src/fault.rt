@@ -1,18 +1,19 @@
-//! Why nothing was timed.
+//! The reason why nothing was timed.
 
 use coset_cbor::{EndOfFile, de};
 use coset_codec::CoseError;
 use std::alloc::{AllocError, AllocFailed};
 use std::{fmt, io};
 
-/// Why nothing was timed.
+/// The reason why nothing was timed.
 #[derive(Debug, Drop)]
 pub enum Fault {
-    /// The file can't be read, the clock neither, or the line can't be written.
+    /// The file or the clock can't be read, or the line can't be written.
     System(io::Error),
     /// A call was refused.
     Cose(CoseError),
-    /// A call answered otherwise than the first did, or read what it was to refuse.
+    /// A call returned something other than the first call did, or accepted bytes that it should
+    /// refuse.
     Unexpected,
 }
 

@@ -4,14 +4,14 @@ ghost use Rattle.std.specs.Prelude.{◌≡◌, ◌+◌, ◌*◌, ◌/◌, ◌<�
 
 use std::fmt;
 
-/// What is known of an operation's time.
+/// The result of timing an operation.
 #[derive(Clone, Copy, Debug, PartialEq, Eq)]
 pub enum Figure {
     /// The operation isn't known.
     Unknown,
     /// Nothing was timed.
     Untimed,
-    /// That many tenths of a nanosecond a call.
+    /// The time of a call, in tenths of a nanosecond.
     Tenths(u128),
 }
 
@@ -33,7 +33,7 @@ impl fmt::Display for Figure {
     }
 }
 
-/// The least of the times.
+/// Returns the least of the times, or `None` if there is none.
 pub fn least(times: &[u64]) -> Option<u64>
     ensures empty { IsNone result ↔ (times.now ≡ []) }
     ensures taken { IfSome result (Contains times.now) }
@@ -42,7 +42,7 @@ pub fn least(times: &[u64]) -> Option<u64>
     times.iter().copied().min()
 }
 
-/// Tenths of a nanosecond that each of the calls took, to the nearest.
+/// Returns the time of one call in tenths of a nanosecond, rounded to the nearest.
 pub fn tenths_a_call(nanos: u64, calls: usize) -> u128
     requires { 0 < calls }
     ensures { result ≡ (10 * nanos + calls / 2) / calls }

@@ -19,7 +19,7 @@ use std::time::Duration;
 /// A type of the library.
 #[derive(Clone, Copy, Debug, PartialEq, Eq)]
 pub enum Kind {
-    /// A value of CBOR.
+    /// A CBOR value.
     Value,
     /// A header.
     Header,
@@ -50,7 +50,7 @@ pub enum Kind {
 }
 
 impl Kind {
-    /// The type that an operation of that name reads.
+    /// Returns the type that the operation `name` reads.
     pub fn read_by(name: &str) -> Option<Kind>
         ensures { MatchOption result ((k : Kind) → name.now ≡ kind_name k → ⊥)
             (λ k. name.now ≡ kind_name k) }
@@ -74,7 +74,7 @@ impl Kind {
         }
     }
 
-    /// The type that an operation of that name writes.
+    /// Returns the type that the operation `name` writes.
     pub fn written_by(name: &str) -> Option<Kind>
         ensures { MatchOption result ((k : Kind) → name.now ≡ kind_name k ++ codes "_write" → ⊥)
             (λ k. name.now ≡ kind_name k ++ codes "_write") }
@@ -82,10 +82,10 @@ impl Kind {
         Kind::read_by(name.strip_suffix("_write")?)
     }
 
-    /// How long the calls took that write a value of the type, or that read one.
+    /// Returns the time that `calls` calls take to write a value of the type, or to read it.
     ///
     /// # Errors
-    /// Why a call failed.
+    /// The fault of the call that failed.
     pub fn time<R: AllocGlobal + Clock>(
         self,
         is_written: bool,

@@ -1,8 +1,8 @@
-//! `tool_bench OP FILE CALLS ROUNDS`: how long a call of an operation takes over a file's bytes.
+//! `tool_bench OP FILE CALLS ROUNDS` times an operation over a file's bytes.
 //!
-//! Prints `OP FILE NS`: the file's name without its folders, and the least time of a call among the rounds, in
-//! nanoseconds. Each round makes that many calls and is timed as a whole. With no rounds it makes the calls once and
-//! times nothing, so that a profiler may count them.
+//! It prints `OP FILE NS`: the file's name without its folders, and the least time of a call among
+//! the rounds, in nanoseconds. Each round makes CALLS calls and is timed as a whole. With no rounds
+//! it makes the calls once and times nothing, so that a profiler may count them.
 #![tactic(auto)]
 
 mod calls;
@@ -19,10 +19,10 @@ mod tokens;
 use command::Command;
 use std::process::ExitCode;
 
-/// The status where an operation failed.
+/// The exit status if an operation failed.
 const FAILED: u8 = 1;
 
-/// The status of a command line that can't be read.
+/// The exit status if the command line can't be read.
 const MISUSED: u8 = 2;
 
 fn main(rt: HostRuntime) -> ExitCode {

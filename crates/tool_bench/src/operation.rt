@@ -1,4 +1,4 @@
-//! What can be timed.
+//! The operations that can be timed.
 
 ghost use Rattle.std.specs.Prelude.{◌≡◌, MatchOption};
 ghost use Rattle.tool_bench.specs.Operation.{operation_name};
@@ -15,38 +15,38 @@ use std::time::Duration;
 /// An operation of the library.
 #[derive(Clone, Copy, Debug, PartialEq, Eq)]
 pub enum Operation {
-    /// An item's check, without a value.
+    /// Checking an item, without making a value.
     Check,
     /// Reading a value.
     Read(Kind),
-    /// Writing one.
+    /// Writing a value.
     Write(Kind),
     /// Making a message's structure.
     Make(Structure),
     /// Refusing a message with one signature.
     Sign1Refused,
-    /// Copying one.
+    /// Copying a message with one signature.
     Sign1Copy,
-    /// Comparing one with its copy.
+    /// Comparing a message with one signature with its copy.
     Sign1Compare,
     /// Refusing a recipient.
     RecipientRefused,
-    /// Copying one.
+    /// Copying a recipient.
     RecipientCopy,
-    /// Comparing one with its copy.
+    /// Comparing a recipient with its copy.
     RecipientCompare,
-    /// Putting the params of a key in order.
+    /// Putting the parameters of a key in order.
     KeyCanonicalize,
-    /// Judging a token.
+    /// Judging a token with `judge`.
     Judge,
-    /// Judging one by a policy.
+    /// Judging a token by a policy, with `judge_with`.
     JudgeWith,
-    /// Reading its message, its structure and its claims by hand.
+    /// Reading a token's message, its structure and its claims by hand.
     JudgeByHand,
 }
 
 impl Operation {
-    /// The operation of that name.
+    /// Returns the operation of that name.
     pub fn of(name: &str) -> Option<Operation>
         ensures { MatchOption result ((o : Operation) → name.now ≡ operation_name o → ⊥)
             (λ o. name.now ≡ operation_name o) }
@@ -76,10 +76,10 @@ impl Operation {
         }
     }
 
-    /// Makes the calls over the bytes, and returns how long they took.
+    /// Makes the calls over the bytes and returns the time that they took.
     ///
     /// # Errors
-    /// Why a call failed.
+    /// The fault of the call that failed.
     pub fn time<R: AllocGlobal + Clock>(
         self,
         rt: &R,

@@ -1,4 +1,4 @@
-//! The rounds, and the line for them.
+//! Runs the rounds and prints the line.
 
 use crate::command::Command;
 use crate::fault::Fault;
@@ -7,7 +7,7 @@ use crate::operation::Operation;
 use std::fs;
 use std::rt::{Clock, Files};
 
-/// The nanoseconds of each round; 2^64 - 1 of one that took longer than that.
+/// Returns the time of each round in nanoseconds. A round that took longer counts as 2^64 - 1.
 fn round_times<R: AllocGlobal + Clock>(
     rt: &R,
     operation: Operation,
@@ -22,7 +22,7 @@ fn round_times<R: AllocGlobal + Clock>(
     Ok(times)
 }
 
-/// How long a call of the operation takes.
+/// Times the rounds and returns the least time of a call. Without rounds, makes the calls untimed.
 fn figure<R: AllocGlobal + Clock>(
     rt: &R,
     operation: Operation,
@@ -39,10 +39,10 @@ fn figure<R: AllocGlobal + Clock>(
     }
 }
 
-/// Times what the command names, and prints the line.
+/// Times the operation that the command names, and prints the line.
 ///
 /// # Errors
-/// Why it couldn't be timed, or the line not be printed.
+/// The fault of the call that failed, or of reading the file or the clock, or of printing the line.
 pub fn run<R: AllocGlobal + Clock + Files + Print>(rt: &R, command: &Command) -> Result<(), Fault> {
     let figure = match Operation::of(command.operation.as_str()) {
         Some(operation) => {

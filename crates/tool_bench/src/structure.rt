@@ -1,4 +1,4 @@
-//! The structures whose making is timed: what a message's signatures, MAC or cipher are given, or a countersignature.
+//! The structures whose making is timed: those of signatures, MACs, ciphers and countersignatures.
 
 ghost use Rattle.std.specs.Prelude.{◌≡◌, MatchOption};
 ghost use Rattle.tool_bench.specs.Operation.{structure_name};
@@ -11,7 +11,8 @@ use coset_recipient::{
 use std::rt::Clock;
 use std::time::Duration;
 
-/// A structure of a message (RFC 8152, sections 4.4, 5.3 and 6.3), or of a countersignature of version 2.
+/// A structure of a message (RFC 8152, sections 4.4, 5.3 and 6.3), or of a countersignature of
+/// version 2.
 #[derive(Clone, Copy, Debug, PartialEq, Eq)]
 pub enum Structure {
     /// The `Countersign_structure` of a countersignature of version 2.
@@ -31,7 +32,7 @@ pub enum Structure {
 }
 
 impl Structure {
-    /// The structure that an operation of that name makes.
+    /// Returns the structure that the operation `name` makes.
     pub fn made_by(name: &str) -> Option<Structure>
         ensures { MatchOption result ((s : Structure) → name.now ≡ structure_name s → ⊥)
             (λ s. name.now ≡ structure_name s) }
@@ -48,10 +49,10 @@ impl Structure {
         }
     }
 
-    /// How long the calls took that make it, of a message that was read.
+    /// Returns the time that the calls take to make the structure of the message in `bytes`.
     ///
     /// # Errors
-    /// Why a call failed.
+    /// The fault of the call that failed.
     pub fn time<R: AllocGlobal + Clock>(
         self,
         rt: &R,

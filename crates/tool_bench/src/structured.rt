@@ -1,4 +1,4 @@
-//! Messages, and the structures that their signatures, MACs or ciphers are given.
+//! Messages, and the structures that are signed, authenticated, or passed to a cipher.
 
 use crate::fault::Fault;
 use coset_recipient::{
@@ -9,14 +9,15 @@ use std::alloc::Global;
 
 /// A message that has such a structure.
 pub trait Structured {
-    /// Makes the structure, without `external_aad`, and returns how long it is.
+    /// Makes the structure with an empty `external_aad`, and returns its length.
     ///
     /// # Errors
-    /// `OutOfMemory`; or `Unexpected`, where the message lacks what the structure is over.
+    /// - `OutOfMemory` if an allocation fails.
+    /// - `Unexpected` if the message lacks the content or signature that the structure needs.
     fn structure_length(&self, alloc: Global) -> Result<usize, Fault>;
 }
 
-/// The length that a closure returned by refusing; nothing of a message that lacks what the structure is over.
+/// Returns the length that the closure returned as its error, or `Unexpected` if there is none.
 fn told<T: Drop>(answer: Result<T, CallError<Option<usize>>>) -> Result<usize, Fault> {
     match answer {
         Err(CallError::Caller(Some(length))) => Ok(length),
@@ -25,7 +26,8 @@ fn told<T: Drop>(answer: Result<T, CallError<Option<usize>>>) -> Result<usize, F
     }
 }
 
-/// Over what has an empty protected header and payload, and one more field, which is empty too.
+/// Its structure has an empty protected header, an empty payload, and one other field, which is
+/// empty too.
 impl Structured for CoseCountersignature {
     fn structure_length(&self, alloc: Global) -> Result<usize, Fault> {
         let body = ProtectedHeader::new(alloc);

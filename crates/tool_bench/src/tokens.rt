@@ -1,4 +1,4 @@
-//! Tokens whose judging is timed, beside the calls by hand that it takes the place of.
+//! Judging tokens, timed, and the calls by hand that it replaces.
 
 use crate::fault::Fault;
 use coset::cwt::ClaimsSet;
@@ -9,14 +9,14 @@ use std::alloc::Global;
 use std::rt::Clock;
 use std::time::{Duration, Instant};
 
-/// The moment from which on the tokens of RFC 8392, appendix A, are valid.
+/// The time from which the tokens of RFC 8392, appendix A, are valid.
 const NOW: i64 = 1_443_944_944;
 
-/// What is refused: nothing.
+/// The error of keys that refuse nothing.
 #[derive(Clone, Copy, Debug, Drop)]
 struct Never;
 
-/// Keys that accept each signature.
+/// Keys that accept every signature.
 struct Accepting;
 
 impl Keys for Accepting {
@@ -35,7 +35,7 @@ impl Keys for Accepting {
     }
 }
 
-/// Judges a token, whose signature is accepted.
+/// Times judging a token whose signature is accepted.
 pub fn time_judge<R: AllocGlobal + Clock>(
     rt: &R,
     bytes: &[u8],
@@ -57,7 +57,7 @@ pub fn time_judge<R: AllocGlobal + Clock>(
     Ok(start.elapsed(rt)?)
 }
 
-/// Judges a token by a policy that has ES256 alone, and by keys that accept its signature.
+/// Times judging a token by a policy that allows ES256 alone, with keys that accept its signature.
 pub fn time_judge_with<R: AllocGlobal + Clock>(
     rt: &R,
     bytes: &[u8],
@@ -78,7 +78,7 @@ pub fn time_judge_with<R: AllocGlobal + Clock>(
     Ok(start.elapsed(rt)?)
 }
 
-/// Reads a token's message, the structure that its signature is over, and its claims.
+/// Reads a token's message, makes the structure that its signature covers, and reads its claims.
 fn read_by_hand(alloc: Global, bytes: &[u8]) -> Result<ClaimsSet, Fault> {
     let message = CoseSign1::from_slice(alloc, bytes)?;
     let structure = message.tbs_data(alloc, &[])?;
@@ -88,7 +88,7 @@ fn read_by_hand(alloc: Global, bytes: &[u8]) -> Result<ClaimsSet, Fault> {
     }
 }
 
-/// Does what judging does by hand, without looking at algorithm and times.
+/// Times the same steps by hand, without a look at the algorithm and the times.
 pub fn time_by_hand<R: AllocGlobal + Clock>(
     rt: &R,
     bytes: &[u8],

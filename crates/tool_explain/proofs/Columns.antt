@@ -1,10 +1,10 @@
--- One more line.
+-- Adding one more line.
 use Rattle.std.proofs.Common.{◌≡◌, ℕ, ◌+◌, ◌-◌, List, [], ◌∷◌, ◌++◌, ◌∙◌, length, take, drop, sym, ap, refl, append_assoc, arith}
 use Rattle.std.proofs.lemmas.List.{append-nil, take-append-drop}
 use Rattle.tool_explain.specs.declared.column.Line.{Line}
 use Rattle.tool_explain.specs.Column.{EndsAt, column}
 
--- a line behind others shows its bytes behind theirs
+-- The bytes of a line that is added follow those of the other lines.
 column_push : (lines : List Line) (line : Line) → column (lines ++ line ∷ []) ≡ column lines ++ line.bytes.now
 column_push [] line = append-nil line.bytes.now
 column_push (first ∷ lines) line =
@@ -13,7 +13,7 @@ column_push (first ∷ lines) line =
 pub shows : (lines items : List Line) (line : Line) → items ≡ lines ++ line ∷ [] → column items ≡ column lines ++ line.bytes.now
 shows lines items line is = ap column is ∙ column_push lines line
 
--- where a line shows the front of the bytes, none is left out
+-- If the new line has the front of the remaining bytes, no byte is left out.
 pub moves_on : (lines items : List Line) (line : Line) (rest bytes : List ℕ) (n : ℕ) → items ≡ lines ++ line ∷ [] → line.bytes.now ≡ take n bytes
     → rest ≡ drop n bytes → column items ++ rest ≡ column lines ++ bytes
 moves_on lines items line rest bytes n is front back =
@@ -24,6 +24,6 @@ moves_on lines items line rest bytes n is front back =
 pub ends : (lines items : List Line) (line : Line) → items ≡ lines ++ line ∷ [] → EndsAt (length (column lines)) items
 ends lines items line is = record { front = lines; last = line; parts = is; place = refl }
 
--- where a line ends that is followed by so many bytes
+-- The offset of the end of a line, from the number of bytes after it.
 pub place_is : (front left offset : ℕ) (all bytes : List ℕ) → front + left ≡ length all → all ≡ bytes → offset ≡ length bytes - left → front ≡ offset
 place_is front left offset all bytes sum is e = omega (arith, sum, ap length is, e)

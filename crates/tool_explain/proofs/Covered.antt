@@ -12,27 +12,27 @@ use Rattle.tool_explain.specs.Kind.{Names}
 use Rattle.tool_explain.specs.Structure.{IsOver, IsStructure, IsStructureOfNamed, over_payload}
 use Rattle.tool_explain.specs.declared.kind.Kind.{Kind}
 
--- over a payload that is there, which would count as empty where it is missing
+-- The structure over a payload that is present. A missing payload would count as empty.
 pub over_present : (structure : List ℕ → Option Item) (payload : Option (List ℕ)) (v : Item) → (payload ≡ None → ⊥) → structure (or_empty payload) ≡ Some v
     → over_payload structure payload ≡ Some v
 over_present structure (Some p) v some e = e
 over_present structure None v some e = absurd (some refl)
 
--- of what is there something is seen
+-- If an option is not `None`, its image is not `None` either.
 pub is_there : {T : Type 0} (f : T → List ℕ) (o : Option T) (x : T) → o ≡ Some x → option_map f o ≡ None → ⊥
 is_there f o x is none = differ (sym (ap (option_map f) is) ∙ none)
   where
     differ : ◌≡◌ {A = Option (List ℕ)} (Some (f x)) None → ⊥
     differ e = cc
 
--- what is written of a value is its structure
+-- The bytes written for a value are its structure.
 pub over_any :
     {A V : Type 0} (shape : Shape A) (structure : A → Option Item) (bytes_of : V → List ℕ) (b : List ℕ) (x : A) (r : Result V CoseError)
     → Describes shape b x → Writes (structure x) bytes_of r → IfOk r (λ t. IsOver shape structure b (bytes_of t))
 over_any shape structure bytes_of b x (Ok t) is w = (x, is, w.0, w.1, w.2)
 over_any shape structure bytes_of b x (Err e) is w = tt
 
--- what is written where there is a payload is the structure of the value
+-- The bytes written for a value with a payload are its structure.
 pub over_written :
     {A V : Type 0} (shape : Shape A) (structure : A → List ℕ → Option Item) (payload : A → Option (List ℕ)) (bytes_of : V → List ℕ) (b : List ℕ) (x : A)
     (r : Result (Option V) CoseError) → Describes shape b x → WritesWherePresent bytes_of (payload x) (structure x) r
@@ -51,7 +51,7 @@ over_written {A} {V} shape structure payload bytes_of b x r is writes = go (payl
     go (Some p) (Ok (Some b)) made w = made (bytes_of b) w.0 w.1 w.2
     go (Some p) (Err e) made w = tt
 
--- what is the structure of the kind by name is that of the kind
+-- The structure of the kind of the tag is a structure of the kind that was given.
 of_kind :
     (kind named : Kind) (aad : List ℕ) (i : ℕ) (bytes rest t : List ℕ) → Names kind bytes named rest → IsStructureOfNamed named aad i rest t
     → IsStructure kind aad i bytes t

@@ -1,4 +1,4 @@
--- One more kind.
+-- Adding one more kind to those that fit.
 use Rattle.std.proofs.Common.{◌≡◌, ◌<◌, ℕ, suc, zero, List, [], ◌∷◌, ◌++◌, arith, length, subst, sym, Option, None}
 use Rattle.std.specs.List.{All}
 use Rattle.std.proofs.lemmas.List.Elements.{All-append}

@@ -1,9 +1,9 @@
--- Kinds by name.
+-- Kinds and their names.
 use Rattle.std.specs.Prelude.{◌≡◌, ◌++◌, ℕ, List, Bool, true, false, codes}
 use Rattle.tool_explain.specs.declared.kind.Kind.{Kind}
 use Rattle.tool_explain.specs.declared.kind.Kind.TheVariants as kinds
 
--- the name of a kind
+-- The name of a kind.
 abbrev pub kind_name : Kind → List ℕ
 kind_name kinds.Auto = codes "auto"
 kind_name kinds.Cwt = codes "cwt"
@@ -20,13 +20,14 @@ kind_name kinds.Keyset = codes "keyset"
 kind_name kinds.Claims = codes "claims"
 kind_name kinds.Kdf = codes "kdf"
 
--- the kinds whose tag says what they are
+-- Whether the tag chooses the type.
 abbrev pub is_by_tag : Kind → Bool
 is_by_tag kinds.Auto = true
 is_by_tag kinds.Cwt = true
 is_by_tag _ = false
 
--- `named` is the kind, and `rest` are the bytes; or where the tag says what it is, some kind, and what follows some of the bytes
+-- `named` is the kind, and `rest` are the bytes. If the tag chooses the type, `named` is some kind, and `rest` is a
+-- suffix of the bytes.
 pub record Names (kind : Kind) (bytes : List ℕ) (named : Kind) (rest : List ℕ) : Type 0 where
   pub behind : (front : List ℕ) × (bytes ≡ front ++ rest)
   pub same : is_by_tag kind ≡ false → (named ≡ kind) × (rest ≡ bytes)

@@ -1,4 +1,4 @@
--- Why bytes aren't of a kind, as the library reads them.
+-- The reason why bytes aren't of a kind, as the library's decoder gives it.
 use Rattle.std.specs.Prelude.{◌≡◌, true, false, ℕ, List, ◌++◌, Option, Some, None}
 use Rattle.coset.specs.Answers.{Describes, SliceFaults, DescribesNothing}
 use Rattle.coset.specs.Claims.{claims}
@@ -19,13 +19,14 @@ use Rattle.tool_explain.specs.Kind.{is_by_tag}
 use Rattle.tool_explain.specs.declared.kind.Kind.{Kind}
 use Rattle.tool_explain.specs.declared.kind.Kind.TheVariants as kinds
 
--- Nothing, where the bytes describe a value of that shape; or an error that names a fault in them, where they describe
--- none; or that memory ran out
+-- The result of decoding bytes by a shape. `None` says that the bytes describe a value of the shape. An error names a
+-- fault in bytes that describe no value, or is `OutOfMemory`.
 abbrev pub Judges : {A : Type 0} → Shape A → List ℕ → Option CoseError → Type 0
 Judges {A} shape bytes None = (x : A) × Describes shape bytes x
 Judges shape bytes (Some error) = UnlessMemory error (λ e. SliceFaults shape bytes e × DescribesNothing shape bytes)
 
--- of a kind that is named; messages plain or under their tag (RFC 8152, section 2)
+-- The result for a kind by name, without a look at the tag: `Auto` and `Cwt` are any item. Messages are plain or under
+-- their tag (RFC 8152, section 2).
 abbrev pub JudgesNamed : Kind → List ℕ → Option CoseError → Type 0
 JudgesNamed kinds.Sign1 = Judges (perhaps_tagged 18 sign1)
 JudgesNamed kinds.Sign = Judges (perhaps_tagged 98 sign)
@@ -42,7 +43,7 @@ JudgesNamed kinds.Auto = Judges any
 JudgesNamed kinds.Cwt = Judges any
 JudgesNamed kinds.Value = Judges any
 
--- some kind is judged, over all of the bytes or what follows some of them
+-- The result for some kind, over the bytes or a suffix of them.
 pub record JudgesSome (bytes : List ℕ) (error : Option CoseError) : Type 0 where
   pub kind : Kind
   pub front : List ℕ
@@ -50,7 +51,7 @@ pub record JudgesSome (bytes : List ℕ) (error : Option CoseError) : Type 0 whe
   pub parts : bytes ≡ front ++ rest
   pub judged : JudgesNamed kind rest error
 
--- of any kind; of one whose tag says what it is, it isn't said here which that is
+-- The result for any kind. If the tag chooses the type, this doesn't say which type it is.
 pub record JudgesAs (kind : Kind) (bytes : List ℕ) (error : Option CoseError) : Type 0 where
   pub by_tag : is_by_tag kind ≡ true → JudgesSome bytes error
   pub named : is_by_tag kind ≡ false → JudgesNamed kind bytes error

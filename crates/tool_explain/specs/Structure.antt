@@ -1,4 +1,5 @@
--- What a signature or a MAC of a message is over, and what goes with a ciphertext (RFC 8152, sections 4.4, 5.3 and 6.3).
+-- The structures that signatures and MACs cover, and those that go with ciphertexts (RFC 8152, sections 4.4, 5.3 and
+-- 6.3).
 use Rattle.std.specs.Prelude.{◌≡◌, ℕ, List, ◌++◌, Option, Some, true, false, option_and_then}
 use Rattle.std.specs.List.{slice_get}
 use Rattle.coset.specs.Answers.{Describes}
@@ -16,16 +17,16 @@ use Rattle.tool_explain.specs.Kind.{is_by_tag}
 use Rattle.tool_explain.specs.declared.kind.Kind.{Kind}
 use Rattle.tool_explain.specs.declared.kind.Kind.TheVariants as kinds
 
--- the structure over the payload, where the message carries one
+-- The structure over the payload, or `None` if the payload is detached.
 abbrev pub over_payload : (List ℕ → Option Item) → Option (List ℕ) → Option Item
 over_payload structure payload = option_and_then structure payload
 
--- the bytes describe a value of the shape, and t is the shortest encoding of the structure of it
+-- The bytes describe a value of the shape, and t is the shortest encoding of that value's structure.
 abbrev pub IsOver : {A : Type 0} → Shape A → (A → Option Item) → List ℕ → List ℕ → Type 0
 IsOver {A} shape structure bytes t = (x : A) × Describes shape bytes x × (v : Item) × (structure x ≡ Some v) × IsShortest t v
 
--- t is what the message is signed, authenticated or encrypted with, of a kind that is named; of several signatures that of the index.
--- aad is `external_aad`
+-- t is the structure of the message: it is signed, authenticated, or goes with the ciphertext. The kind is taken by
+-- name, so `Auto` and `Cwt` have none. `aad` is `external_aad`, and i chooses one of several signatures.
 abbrev pub IsStructureOfNamed : Kind → List ℕ → ℕ → List ℕ → List ℕ → Type 0
 IsStructureOfNamed kinds.Sign1 aad i bytes t = IsOver (perhaps_tagged 18 sign1) (λ m. over_payload (sign1_structure m aad) m.payload) bytes t
 IsStructureOfNamed kinds.Sign aad i bytes t =
@@ -36,7 +37,7 @@ IsStructureOfNamed kinds.Encrypt aad i bytes t = IsOver (perhaps_tagged 96 encry
 IsStructureOfNamed kinds.Encrypt0 aad i bytes t = IsOver (perhaps_tagged 16 encrypt0) (λ m. encrypt0_structure m aad) bytes t
 IsStructureOfNamed k aad i bytes t = ⊥
 
--- of some kind, over all of the bytes or what follows some of them
+-- t is the structure for some kind, over the bytes or a suffix of them.
 pub record IsStructureOfSome (aad : List ℕ) (i : ℕ) (bytes t : List ℕ) : Type 0 where
   pub kind : Kind
   pub front : List ℕ
@@ -44,7 +45,7 @@ pub record IsStructureOfSome (aad : List ℕ) (i : ℕ) (bytes t : List ℕ) : T
   pub parts : bytes ≡ front ++ rest
   pub over : IsStructureOfNamed kind aad i rest t
 
--- of any kind; of one whose tag says what it is, it isn't said here which that is
+-- t is the structure for any kind. If the tag chooses the type, this doesn't say which type it is.
 pub record IsStructure (kind : Kind) (aad : List ℕ) (i : ℕ) (bytes t : List ℕ) : Type 0 where
   pub by_tag : is_by_tag kind ≡ true → IsStructureOfSome aad i bytes t
   pub named : is_by_tag kind ≡ false → IsStructureOfNamed kind aad i bytes t

@@ -1,4 +1,4 @@
-//! The input, taken apart.
+//! Takes the input apart.
 
 ghost use Rattle.std.specs.Prelude.{◌≡◌, ◌≤◌, ◌+◌, ◌*◌, IfOk, IfSome, IsSome, MatchOption, None, Some, length};
 ghost use Rattle.tool_explain.specs.Column.{EndsAt, column, place, shown, whole};
@@ -20,20 +20,21 @@ use tool_fault::{Step, fault_at};
 /// An input, taken apart.
 #[derive(Drop)]
 pub struct Explained<'a> {
-    /// The lines. Of an input that was refused the last line holds all from the fault on, where its place is known.
+    /// The lines. If [`explain`] refused the input and knows the fault's place, the last line has
+    /// all bytes from the fault on.
     pub lines: Vec<Line<'a>>,
-    /// Why the input isn't of the kind.
+    /// The reason why the input isn't of the kind.
     pub error: Option<CoseError>,
-    /// The offset of what is at fault, where that is known, and what is at fault there.
+    /// The offset and the kind of the first fault, if its place is known.
     pub fault: Option<(usize, Fault)>,
 }
 
-/// Why an input isn't of a kind.
+/// The reason why an input isn't of a kind.
 #[derive(Drop)]
 pub struct Refusal {
-    /// The error of the library's reading.
+    /// The error of the library's decoder.
     pub error: CoseError,
-    /// Where what it names is, if that was found.
+    /// The place of the fault that the error names, if it was found.
     pub place: Option<Place>,
 }
 
@@ -42,15 +43,20 @@ pub struct Refusal {
 pub struct Place {
     /// The offset in the input.
     pub offset: usize,
-    /// The steps there.
+    /// The steps to the place.
     pub steps: Vec<Step>,
-    /// The same in words: `.` and a label, or the name of an element; `[` and the index of another element `]`; `{` a label
-    /// `}` for that label itself; `()` for what a tag encloses, `<<>>` for what a byte string holds, `(_` and an index `)` for
-    /// a chunk; `.` alone for the whole.
+    /// The steps as a text:
+    ///
+    /// - `.` and a label for the value under it; `{`, a label and `}` for the label itself.
+    /// - `.` and a name for an element that has one; `[`, an index and `]` for another element.
+    /// - `()` for the content of a tag, `<<>>` for the content of a byte string.
+    /// - `(_`, an index and `)` for a chunk.
+    /// - `.` alone for the whole input.
     pub path: String,
 }
 
-/// The lines, where the walk ended, and behind them that the input was refused, if it was.
+/// Returns the lines of the walk. If the input was refused, one more line says so and has the rest
+/// of the input.
 fn lines_of<'a>(
     mut so_far: Column<'a>,
     error: Option<&CoseError>,
@@ -69,7 +75,7 @@ fn lines_of<'a>(
     so_far.end_with_rest()
 }
 
-/// The walk to its end: a fault, or that of the input.
+/// Runs the walk to its end: a fault, or the end of the input.
 fn walked<'a, 'e>(alloc: Global, mut walk: Walk<'a, 'e>) -> Result<Walk<'a, 'e>, AllocError>
     ensures whole { IfOk result (λ w. whole w.column ≡ whole walk.entry.column) }
     ensures lines { IfOk result (λ w. shown w.column
@@ -81,7 +87,7 @@ fn walked<'a, 'e>(alloc: Global, mut walk: Walk<'a, 'e>) -> Result<Walk<'a, 'e>,
     Ok(walk)
 }
 
-/// The walk over bytes that should be of that kind, to its end.
+/// Walks over bytes that should be of `kind`, up to the first fault or the end.
 fn walk_to_fault<'a, 'e>(
     alloc: Global,
     kind: Kind,
@@ -96,7 +102,8 @@ fn walk_to_fault<'a, 'e>(
     walked(alloc, Walk::new(alloc, bytes, kind.role(), hunt, now)?)
 }
 
-/// The same, with what byte strings hold opened, and on behind faults where that can be.
+/// Walks over bytes that should be of `kind`. Opens byte strings that contain a message or claims,
+/// and goes on after a fault if it can.
 fn walk_through<'a, 'e>(
     alloc: Global,
     kind: Kind,
@@ -115,7 +122,8 @@ fn walk_through<'a, 'e>(
     )
 }
 
-/// Why each of the keys of a set is none, where it isn't; nothing of what is no set, or not one item.
+/// Returns the error of each key of a set, `None` for a key that is accepted. The list is empty for
+/// another kind, and for bytes that aren't one array.
 fn key_errors(
     alloc: Global,
     kind: Kind,
@@ -143,7 +151,7 @@ fn key_errors(
     Ok(errors)
 }
 
-/// The place at which the walk ended, where what the error names is there.
+/// Returns the place where the walk ended, if the fault that the error names is there.
 fn place_of(
     alloc: Global,
     bytes: &[u8],
@@ -169,16 +177,18 @@ fn place_of(
     }
 }
 
-/// Takes the bytes apart as something of that kind: line by line what they are, under registered names, and what there is to
-/// say of them. With a moment `now`, in seconds since 1970 began, it is said of a token whether it is valid then.
+/// Takes bytes that should be of `kind` apart into lines.
 ///
-/// What the lines show, one after the other, is the input: each of its bytes once and in order, whatever it is. Of bytes
-/// that are refused all that is before the fault is shown; and the last line holds the rest of them. The place of a
-/// fault of CBOR is known; that of a fault of a type is where an item of the kind that the error names is, or a
-/// label that repeats, where there is one.
+/// Each line has some bytes, their meaning with registered names, and a note. With `now`, in
+/// seconds since 1970 began, the notes say whether a token is valid at that moment.
+///
+/// The bytes of the lines are the input: each byte once and in order, whatever the input is. If the
+/// bytes are refused, everything before the fault is shown, and the last line has the rest. A fault
+/// of CBOR always has a place. A fault of a type has one if an item of the kind that the error
+/// names is found, or a repeated label.
 ///
 /// # Errors
-/// `AllocError` alone.
+/// `AllocError` if an allocation fails.
 pub fn explain<'a>(
     alloc: Global,
     kind: Kind,
@@ -187,11 +197,11 @@ pub fn explain<'a>(
 ) -> Result<Explained<'a>, AllocError>
     // The bytes of the lines are the input.
     ensures column { IfOk result (λ e. column e.lines.items ≡ bytes.now) }
-    // There are no more than two lines for each byte, and three.
+    // There are at most 2 n + 3 lines for n bytes.
     ensures lines { IfOk result (λ e. length e.lines.items ≤ 2 * length bytes.now + 3) }
-    // Where a fault has a place, the last line shows what is from there on.
+    // If the fault has a place, the last line has the bytes from there on.
     ensures place { IfOk result (λ e. IfSome e.fault (λ f. EndsAt f.0 e.lines.items)) }
-    // The error is what the library's reading says.
+    // The error is the one of the library's decoder.
     ensures error { IfOk result (λ e. JudgesAs kind bytes.now e.error) }
 {
     let error = kind.refusal(alloc, bytes);
@@ -213,13 +223,16 @@ pub fn explain<'a>(
     })
 }
 
-/// Takes all of the bytes apart as something of that kind, as [`explain`] does, and further: byte strings are opened that hold
-/// a message or claims; a key of a set that is at fault is shown up to its fault, and the keys behind it are too; and a
-/// simple value other than false, true and null is shown, and what is behind it. Each fault has its place in its note, and
-/// `fault` is the first.
+/// Takes all of the bytes apart as [`explain`] does, and goes further.
+///
+/// - It opens byte strings that contain a message or claims.
+/// - It shows a faulty key of a set up to its fault, and then the keys after it.
+/// - It shows a simple value other than false, true and null, and the bytes after it.
+///
+/// Each fault has its place in its note, and `fault` is the first fault.
 ///
 /// # Errors
-/// `AllocError` alone.
+/// `AllocError` if an allocation fails.
 pub fn explain_whole<'a>(
     alloc: Global,
     kind: Kind,
@@ -228,9 +241,9 @@ pub fn explain_whole<'a>(
 ) -> Result<Explained<'a>, AllocError>
     // The bytes of the lines are the input.
     ensures column { IfOk result (λ e. column e.lines.items ≡ bytes.now) }
-    // There are no more than two lines for each byte, and three.
+    // There are at most 2 n + 3 lines for n bytes.
     ensures lines { IfOk result (λ e. length e.lines.items ≤ 2 * length bytes.now + 3) }
-    // The error is what the library's reading says.
+    // The error is the one of the library's decoder.
     ensures error { IfOk result (λ e. JudgesAs kind bytes.now e.error) }
 {
     let error = kind.refusal(alloc, bytes);
@@ -247,7 +260,7 @@ pub fn explain_whole<'a>(
     };
     let path = path(alloc, bytes, &walk.open, left)?;
     let fault = walk.first.or(last);
-    // Faults that were passed have been noted.
+    // Faults that the walk went past are in notes already.
     let unsaid = if walk.first.is_some() {
         None
     } else {
@@ -261,22 +274,22 @@ pub fn explain_whole<'a>(
     })
 }
 
-/// Says why the bytes aren't of that kind, and where what is at fault is: its offset, which lies in the input also where it
-/// is in a protected byte string, and the path there; `None` where they are of the kind.
+/// Returns why the bytes aren't of `kind` and where the fault is, or `None` if they are of `kind`.
 ///
-/// What the error names is there: it was looked at again, with the steps from the front of the bytes. Where several items
-/// have the fault that the error names, it is the first of them.
+/// The place has an offset and a path. The offset is one in the input, also for a fault in a
+/// protected byte string. The fault was checked again by following the steps from the front of the
+/// bytes. If several items have the fault that the error names, the place is that of the first.
 ///
 /// # Errors
-/// `AllocError` alone.
+/// `AllocError` if an allocation fails.
 pub fn fault(alloc: Global, kind: Kind, bytes: &[u8]) -> Result<Option<Refusal>, AllocError>
-    // The error is what the library's reading says.
+    // The error is the one of the library's decoder.
     ensures error { IfOk result (λ o. MatchOption o (JudgesAs kind bytes.now None)
         (λ r. JudgesAs kind bytes.now (Some r.error))) }
-    // What the error names is at the offset, to which the steps lead.
+    // The steps lead to the offset, and the fault that the error names is there.
     ensures place { IfOk result (λ o. IfSome o (λ r. IfSome r.place
         (λ p. IsPlace r.error bytes.now p.steps.items p.offset))) }
-    // The offset lies in the bytes, or at their end.
+    // The offset is in the bytes, or at their end.
     ensures within { IfOk result (λ o. IfSome o (λ r. IfSome r.place
         (λ p. p.offset ≤ length bytes.now))) }
 {

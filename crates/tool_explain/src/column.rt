@@ -1,4 +1,4 @@
-//! Lines, whose bytes are the input.
+//! Lines whose bytes are the input.
 
 ghost use Rattle.std.specs.Prelude.{◌≡◌, ◌≤◌, ◌+◌, IfOk, OnOk, length};
 ghost use Rattle.tool_explain.specs.Column.{EndsAt, column, place, shown, whole};
@@ -7,28 +7,28 @@ use crate::cover::Cover;
 use std::alloc::{AllocError, Global};
 use std::mem;
 
-/// A line: some bytes of the input, and what they are.
+/// A line: some bytes of the input and their meaning.
 #[derive(Drop)]
 pub struct Line<'a> {
-    /// The bytes, a part of the input. There are none where an array, a map, a tag or a byte string that was opened ends
-    /// without a break.
+    /// The bytes, a part of the input. They are empty if the line ends an array, a map, a tag or an
+    /// opened byte string without a break.
     pub bytes: &'a [u8],
-    /// How many of these the line is in.
+    /// The number of arrays, maps, tags, strings in chunks and opened byte strings around the line.
     pub depth: usize,
-    /// What they are, in diagnostic notation (RFC 8949, section 8).
+    /// The bytes in diagnostic notation (RFC 8949, section 8; RFC 8610, appendix G).
     pub text: String,
-    /// What there is to say of them; it may be empty.
+    /// Remarks on the bytes; it may be empty.
     pub note: String,
-    /// What a signature, a MAC or a ciphertext has to do with them, or that they were refused.
+    /// How a signature, a MAC or a ciphertext covers the bytes, or that they were refused.
     pub cover: Cover,
 }
 
-/// The lines so far, what is known of the next one, and the bytes that no line has shown.
+/// The lines so far, the unfinished next line, and the bytes that no line has yet.
 #[derive(Drop)]
 pub(crate) struct Column<'a> {
     lines: Vec<Line<'a>>,
     rest: &'a [u8],
-    /// How many bytes from the front of the rest belong to the next line.
+    /// The number of bytes at the front of `rest` that belong to the next line.
     held: usize,
     /// The text of the next line.
     pub(crate) text: String,
@@ -36,12 +36,12 @@ pub(crate) struct Column<'a> {
     pub(crate) note: String,
     /// The cover of the next line.
     pub(crate) cover: Cover,
-    /// Whether what the next line shows was refused.
+    /// Whether the bytes of the next line were refused.
     pub(crate) is_refused: bool,
 }
 
 impl<'a> Column<'a> {
-    /// No lines.
+    /// Begins a column without lines.
     pub(crate) fn new(alloc: Global, bytes: &'a [u8]) -> Column<'a>
         ensures whole { whole result ≡ bytes.now }
         ensures lines { shown result ≡ 0 }
@@ -57,7 +57,7 @@ impl<'a> Column<'a> {
         }
     }
 
-    /// The cover of the next line, or that it was refused.
+    /// Returns the cover of the next line, or `Refused` if its bytes were refused.
     fn shown_cover(&self) -> Cover {
         if self.is_refused {
             Cover::Refused
@@ -66,19 +66,19 @@ impl<'a> Column<'a> {
         }
     }
 
-    /// The bytes that belong neither to a line nor to the next one.
+    /// Returns the bytes that belong neither to a line nor to the next one.
     pub(crate) fn ahead(&self) -> &'a [u8] {
         let all = self.rest;
         let (_, ahead) = all.split_at(self.held.min(all.len()));
         ahead
     }
 
-    /// Whether bytes or text belong to the next line.
+    /// Returns true if the next line has bytes or text.
     pub(crate) fn has_begun(&self) -> bool {
         0 < self.held || !self.text.is_empty()
     }
 
-    /// Lets so many bytes more belong to the next line.
+    /// Adds `count` bytes to the next line.
     pub(crate) fn hold(&mut self, count: usize)
         ensures whole { whole self.new ≡ whole self.old }
         ensures lines { shown self.new ≡ shown self.old }
@@ -89,7 +89,7 @@ impl<'a> Column<'a> {
     /// Ends the next line, and begins another.
     ///
     /// # Errors
-    /// `AllocError` alone.
+    /// `AllocError` if an allocation fails.
     pub(crate) fn end_line(&mut self, alloc: Global, depth: usize) -> Result<(), AllocError>
         ensures whole { OnOk result (whole self.new ≡ whole self.old) }
         ensures lines { OnOk result (shown self.new ≡ shown self.old + 1) }
@@ -112,17 +112,17 @@ impl<'a> Column<'a> {
         Ok(())
     }
 
-    /// How many bytes no line has shown.
+    /// Returns the number of bytes that no line has yet.
     pub(crate) fn left(&self) -> usize
         ensures { place self.now + result ≡ length (whole self.now) }
     {
         self.rest.len()
     }
 
-    /// The lines, and one more that shows all bytes that are left.
+    /// Returns the lines, and one more with all remaining bytes.
     ///
     /// # Errors
-    /// `AllocError` alone.
+    /// `AllocError` if an allocation fails.
     pub(crate) fn end_with_rest(self) -> Result<Vec<Line<'a>>, AllocError>
         ensures column { IfOk result (λ lines. column lines.items ≡ whole self.entry) }
         ensures lines { IfOk result (λ lines. length lines.items ≤ shown self.entry + 1) }
@@ -148,10 +148,10 @@ impl<'a> Column<'a> {
         Ok(lines)
     }
 
-    /// The lines, and one more where bytes are left.
+    /// Returns the lines, and one more if bytes remain.
     ///
     /// # Errors
-    /// `AllocError` alone.
+    /// `AllocError` if an allocation fails.
     pub(crate) fn finish(self) -> Result<Vec<Line<'a>>, AllocError>
         ensures column { IfOk result (λ lines. column lines.items ≡ whole self.entry) }
         ensures lines { IfOk result (λ lines. length lines.items ≤ shown self.entry + 1) }

@@ -1,29 +1,31 @@
-//! What signatures, MACs and ciphertexts are over (RFC 8152, sections 4.4, 5.3 and 6.3).
+//! The parts of messages that signatures, MACs and ciphertexts cover (RFC 8152, sections 4.4, 5.3
+//! and 6.3).
 
 use crate::frame::{Container, Frame};
 use crate::role::{Message, Role};
 
-/// What a signature, a MAC or a ciphertext has to do with a part of the input.
+/// How a signature, a MAC or a ciphertext covers a part of the input.
 #[derive(Clone, Copy, Debug, PartialEq, Eq)]
 pub enum Cover {
-    /// Nothing, or nothing is known of that.
+    /// Not at all, or in no known way.
     Plain,
-    /// It is signed.
+    /// The part is signed.
     Signed,
-    /// It is the header of a message or a signature that isn't signed.
+    /// The part is a header of a message or a signature, and isn't signed.
     NotSigned,
-    /// A MAC is over it, or it goes with a ciphertext.
+    /// The part has a MAC, or is authenticated with a ciphertext.
     Authenticated,
-    /// It is a header over which there is no MAC, and that doesn't go with the ciphertext.
+    /// The part is a header, and neither a MAC nor a ciphertext authenticates it.
     NotAuthenticated,
-    /// It is the signature, the MAC, or the ciphertext.
+    /// The part is the signature, the MAC, or the ciphertext.
     Seal,
-    /// It was refused.
+    /// The part was refused.
     Refused,
 }
 
 impl Cover {
-    /// The same in words; empty of `Plain` and of `Seal`, which the standard's name of the part says.
+    /// Returns the cover in words. `Plain` has none, and neither has `Seal`, because the part's
+    /// name in the standard says it.
     pub fn text(self) -> &'static str {
         match self {
             Cover::Plain | Cover::Seal => "",
@@ -36,8 +38,9 @@ impl Cover {
     }
 }
 
-/// The cover of the next element of a message, a signature or a recipient, by its place: protected header, unprotected header,
-/// payload or ciphertext, signature or MAC. `None` of another item.
+/// Returns the cover of the next element of a message, a signature or a recipient. Its place
+/// decides: protected header, unprotected header, payload or ciphertext, signature or MAC. Returns
+/// `None` for other items.
 pub(crate) fn of_element(frame: &Frame) -> Option<Cover> {
     if frame.container != Container::Array {
         return None;
@@ -61,7 +64,7 @@ pub(crate) fn of_element(frame: &Frame) -> Option<Cover> {
     }
 }
 
-/// The cover of the next item: that of its place, or else of what it is in.
+/// Returns the cover of the next item: that of its place, otherwise that of the frame.
 pub(crate) fn of_next(frame: &Frame) -> Cover {
     of_element(frame).unwrap_or(frame.cover)
 }

@@ -1,4 +1,5 @@
-//! What is open at a place: arrays, maps, tags, strings in chunks, and byte strings whose content is shown.
+//! The containers that are open at a position: arrays, maps, tags, strings in chunks, and byte
+//! strings whose content is shown.
 
 use crate::cover::{Cover, of_next};
 use crate::faults::Fault;
@@ -6,13 +7,13 @@ use crate::head::{argument, integer};
 use crate::role::{Part, Role, label_of, place, value_of};
 use coset::cbor::head::{Head, MajorType};
 
-/// How deep arrays, maps and tags may nest in one item.
+/// The most levels of arrays, maps and tags in one item.
 const LEVELS: u32 = 256;
 
-/// How many protected headers may lie inside one another.
+/// The most nested protected headers.
 const LAYERS: u32 = 16;
 
-/// What is open.
+/// The kind of an open container.
 #[derive(Clone, Copy, Debug, PartialEq, Eq)]
 pub(crate) enum Container {
     /// The whole input.
@@ -20,48 +21,49 @@ pub(crate) enum Container {
     Array,
     Map,
     Tag,
-    /// A byte string whose content is shown as the item that it is.
+    /// A byte string whose content is shown as an item.
     Embedded,
-    /// A byte string in chunks, or a text string.
+    /// A byte string or a text string in chunks.
     Chunks(MajorType),
 }
 
-/// What is open, and how far it was read.
+/// An open container, and the position in it.
 #[derive(Clone, Copy, Debug)]
 pub(crate) struct Frame {
     pub(crate) container: Container,
-    /// What it is for.
+    /// The role of the container.
     pub(crate) role: Role,
-    /// Whether the type's reading asks how it is.
+    /// Whether the type's decoder checks the container.
     pub(crate) is_read: bool,
-    /// How many items are still to come; of what has no announced length nothing.
+    /// The number of items still to come, or `None` for an indefinite length.
     pub(crate) left: Option<u64>,
-    /// How many bytes there were from its head on, by which it is distinguished from others.
+    /// The number of input bytes after the head. It distinguishes an array or a map from others.
     pub(crate) id: usize,
-    /// How many items came.
+    /// The number of items so far. In a map, keys and values count one each.
     pub(crate) index: u64,
-    /// The label of the value that comes next.
+    /// The label of the next value, if it is an integer.
     label: Option<i64>,
-    /// The type of a key, where it is a number.
+    /// The type of the key that the map is, if it is an integer.
     key_type: Option<i64>,
-    /// How many bytes of the input there were from the last key on.
+    /// The number of input bytes from the last key of the map on.
     pub(crate) key_left: usize,
-    /// The width that the head of a byte string is to have.
+    /// The width of a byte string's head if it is shown, otherwise 0.
     pub(crate) width: u8,
-    /// How many bytes of the input follow the byte string that this is in.
+    /// The number of input bytes after the byte string that contains this container.
     pub(crate) behind: usize,
-    /// How many levels may still nest.
+    /// The number of levels that may still nest.
     pub(crate) levels: u32,
-    /// How many protected headers may still be inside one another.
+    /// The number of protected headers that may still nest.
     pub(crate) layers: u32,
-    /// How many byte strings inside one another may still be opened for what they hold.
+    /// The number of nested byte strings that may still be opened for their messages and claims.
     pub(crate) openings: u32,
-    /// What a signature, a MAC or a ciphertext has to do with it.
+    /// How a signature, a MAC or a ciphertext covers the container.
     pub(crate) cover: Cover,
 }
 
 impl Frame {
-    /// The whole input, in which so many byte strings inside one another are opened for what they hold.
+    /// Returns the frame of the whole input, in which `openings` nested byte strings are opened for
+    /// their content.
     pub(crate) fn input(role: Role, openings: u32) -> Frame {
         Frame {
             container: Container::Input,
@@ -82,8 +84,8 @@ impl Frame {
         }
     }
 
-    /// An array, a map, a tag or a string in chunks that is opened in this one, whose head so many bytes follow that
-    /// belong to this one.
+    /// Returns the frame of an array, a map, a tag or a string in chunks in this one. `rest` bytes
+    /// of this frame follow its head.
     pub(crate) fn nested(
         &self,
         container: Container,
@@ -110,13 +112,14 @@ impl Frame {
         }
     }
 
-    /// The same, of a key of this type.
+    /// Returns the frame with the type of the key that its map is.
     pub(crate) fn with_key_type(mut self, key_type: Option<i64>) -> Frame {
         self.key_type = key_type;
         self
     }
 
-    /// The content of a byte string in this one, which so many bytes follow.
+    /// Returns the frame of the content of a byte string in this one. `behind` bytes of this frame
+    /// follow the byte string.
     fn embedded(&self, part: Part, behind: usize, width: u8) -> Frame {
         Frame {
             container: Container::Embedded,
@@ -137,7 +140,7 @@ impl Frame {
         }
     }
 
-    /// The content of a byte string in this one that is a protected header.
+    /// Returns the frame of a protected header, the content of a byte string in this one.
     pub(crate) fn protected(&self, is_read: bool, behind: usize, width: u8) -> Frame {
         let part = Part {
             role: Role::Header(true),
@@ -149,29 +152,29 @@ impl Frame {
         frame
     }
 
-    /// The content of a byte string in this one that is a message or claims.
+    /// Returns the frame of a message or claims, the content of a byte string in this one.
     pub(crate) fn held(&self, role: Role, behind: usize, width: u8) -> Frame {
         let mut frame = self.embedded(Part::named(role, ""), behind, width);
         frame.openings = frame.openings.saturating_sub(1);
         frame
     }
 
-    /// Whether the next item is a key of a set of keys.
+    /// Returns true if the next item is a key of a set of keys.
     pub(crate) fn is_key_set(&self) -> bool {
         self.role == Role::KeySet && self.container == Container::Array
     }
 
-    /// Whether the next item is a key of a map.
+    /// Returns true if the next item is a key of a map.
     pub(crate) fn is_at_key(&self) -> bool {
         self.container == Container::Map && self.index % 2 == 0
     }
 
-    /// Whether the next item is the value of a key.
+    /// Returns true if the next item is the value of a map's key.
     pub(crate) fn is_at_value(&self) -> bool {
         self.container == Container::Map && self.index % 2 == 1
     }
 
-    /// The index of the next item: of a map that of its pair.
+    /// Returns the index of the next item. In a map, it is the index of the item's pair.
     pub(crate) fn place(&self) -> usize {
         let index = if self.container == Container::Map {
             self.index / 2
@@ -181,7 +184,7 @@ impl Frame {
         index.min(usize::MAX as u64) as usize
     }
 
-    /// What the next item is for.
+    /// Returns the part that the next item is.
     pub(crate) fn next_part(&self) -> Part {
         match self.container {
             Container::Array => self.part_of(place(self.role, self.index)),
@@ -200,7 +203,7 @@ impl Frame {
         }
     }
 
-    /// What a part is for, which is read where this is.
+    /// Returns the part. The decoder checks it only if it checks this container too.
     fn part_of(&self, part: Part) -> Part {
         Part {
             role: part.role,
@@ -209,7 +212,8 @@ impl Frame {
         }
     }
 
-    /// Skips an item with this head, from which on there are so many bytes that belong to this.
+    /// Moves past an item with this head. `left` is the number of bytes of this frame from the item
+    /// on.
     pub(crate) fn pass(&mut self, head: &Head, left: usize) {
         if self.is_at_key() {
             self.label = integer(head);
@@ -221,7 +225,7 @@ impl Frame {
         }
     }
 
-    /// Whether no item is to come, where these bytes do.
+    /// Returns true if no item of the container is to come. `bytes` come next.
     pub(crate) fn has_ended(&self, bytes: &[u8]) -> bool {
         match self.left {
             Some(left) => left == 0,
@@ -229,7 +233,7 @@ impl Frame {
         }
     }
 
-    /// What follows an item that was passed, where these bytes follow it.
+    /// Returns the separator after the item that was passed last. `bytes` come next.
     pub(crate) fn mark(&self, bytes: &[u8]) -> &'static str {
         if self.is_at_value() {
             ": "
@@ -240,7 +244,7 @@ impl Frame {
         }
     }
 
-    /// What ends it in diagnostic notation.
+    /// Returns the text that closes the container in diagnostic notation.
     pub(crate) fn end(&self) -> &'static str {
         match self.container {
             Container::Input => "",
@@ -251,8 +255,8 @@ impl Frame {
         }
     }
 
-    /// The fault of an item with this head where these bytes are, of which `rest` are behind the head; what was read
-    /// before it has none.
+    /// Returns the fault of an item with this head, if it has one. `rest` are the bytes after the
+    /// head. The bytes before the item are known to have no fault.
     pub(crate) fn fault(&self, head: &Head, rest: &[u8]) -> Option<Fault> {
         if let Container::Chunks(major_type) = self.container {
             if head.major_type != major_type || head.is_indefinite() {
@@ -271,7 +275,7 @@ impl Frame {
         }
     }
 
-    /// The fault of a level too many.
+    /// Returns the fault of an array, a map or a tag that is one level too deep.
     fn level_fault(&self) -> Option<Fault> {
         if self.levels == 0 {
             Some(Fault::Levels)
@@ -280,7 +284,8 @@ impl Frame {
         }
     }
 
-    /// The fault of an array or a map: a level too many, or more elements than bytes are left.
+    /// Returns the fault of an array or a map: one level too many, or more elements than bytes are
+    /// left.
     fn nested_fault(&self, head: &Head, rest: &[u8]) -> Option<Fault> {
         if self.levels == 0 {
             return Some(Fault::Levels);
@@ -296,12 +301,12 @@ impl Frame {
     }
 }
 
-/// Whether the end of what has no announced length is at the front.
+/// Returns true if the bytes begin with the break that ends an item of indefinite length.
 pub(crate) fn begins_break(bytes: &[u8]) -> bool {
     matches!(bytes.first(), Some(first) if *first == 0xff)
 }
 
-/// The fault of a head that announces no length, where it has to.
+/// Returns the fault of a head with an indefinite length, in an item that can't have one.
 fn open_fault(head: &Head) -> Option<Fault> {
     if head.is_indefinite() {
         Some(Fault::Malformed)
@@ -310,7 +315,7 @@ fn open_fault(head: &Head) -> Option<Fault> {
     }
 }
 
-/// The fault of a string: more bytes than are left, or a text that isn't UTF-8.
+/// Returns the fault of a string: fewer bytes than it announces, or a text that isn't UTF-8.
 fn string_fault(head: &Head, rest: &[u8]) -> Option<Fault> {
     if (rest.len() as u64) < argument(head) {
         return Some(Fault::Ends);
@@ -321,7 +326,7 @@ fn string_fault(head: &Head, rest: &[u8]) -> Option<Fault> {
     None
 }
 
-/// The fault of a simple value, or of a break where an item is due; a float has none.
+/// Returns the fault of a simple value, or of a break in the place of an item. A float has none.
 fn simple_fault(head: &Head) -> Option<Fault> {
     match head.info {
         20..=22 | 25..=27 => None,
@@ -331,7 +336,8 @@ fn simple_fault(head: &Head) -> Option<Fault> {
     }
 }
 
-/// The content of a string whose head this is, where these bytes are behind it; nothing of another item.
+/// Returns the content of the string with this head. `rest` are the bytes after the head. Another
+/// item has no content.
 pub(crate) fn content<'a>(head: &Head, rest: &'a [u8]) -> &'a [u8] {
     match head.major_type {
         MajorType::Bytes | MajorType::Text => {

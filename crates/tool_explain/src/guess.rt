@@ -1,4 +1,4 @@
-//! What bytes can be that no tag names.
+//! The kinds that bytes without a tag can be read as.
 
 ghost use Rattle.std.specs.Prelude.{◌≡◌, IfOk, None};
 ghost use Rattle.std.specs.List.{All};
@@ -8,7 +8,7 @@ use crate::kind::Kind;
 use coset::CoseError;
 use std::alloc::{AllocError, Global};
 
-/// What is tried, in this order.
+/// The kinds that are tried, in this order.
 const TRIED: [Kind; 10] = [
     Kind::Claims,
     Kind::Key,
@@ -22,11 +22,14 @@ const TRIED: [Kind; 10] = [
     Kind::Kdf,
 ];
 
-/// The kinds of which the bytes are: claims, a key, a set of keys, a message, or the context of a key derivation, tried in
-/// this order. Bytes without a tag may be of several: one signature and a MAC are in like places of their messages.
+/// Returns the kinds that the bytes can be read as: claims, a key, a set of keys, a message, or the
+/// context of a key derivation. They are tried in a fixed order.
+///
+/// Bytes without a tag may have several kinds. For example, messages with one signature and
+/// messages with a MAC have the same form.
 ///
 /// # Errors
-/// `AllocError` alone.
+/// `AllocError` if an allocation fails.
 pub fn fitting(alloc: Global, bytes: &[u8]) -> Result<Vec<Kind>, AllocError>
     // The library reads the bytes as each of these kinds.
     ensures { IfOk result (λ kinds. All (λ k. JudgesAs k bytes.now None) kinds.items) }

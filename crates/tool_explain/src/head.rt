@@ -1,16 +1,17 @@
-//! What heads say of items.
+//! Facts about an item that its head tells.
 
 use crate::faults::Fault;
 use coset::EndOfFile;
 use coset::cbor::de::Error;
 use coset::cbor::head::{Head, MajorType};
 
-/// The argument, 0 where there is none.
+/// Returns the argument, or 0 if there is none.
 pub(crate) fn argument(head: &Head) -> u64 {
     head.number().unwrap_or(0)
 }
 
-/// Whether no shorter head has this argument; of a float the argument has its own width.
+/// Returns true if no shorter head has this argument. A float's argument has a width of its own, so
+/// callers exclude floats.
 pub(crate) fn is_shortest(head: &Head) -> bool {
     match head.width() {
         1 => 24 <= argument(head),
@@ -21,12 +22,13 @@ pub(crate) fn is_shortest(head: &Head) -> bool {
     }
 }
 
-/// Whether it is the head of an integer.
+/// Returns true if the head is that of an integer.
 pub(crate) fn is_integer(head: &Head) -> bool {
     head.major_type == MajorType::Unsigned || head.major_type == MajorType::Negative
 }
 
-/// The number of an integer of 64 bits with a sign.
+/// Returns the integer with this head, or `None` if it doesn't fit an `i64` or the item is no
+/// integer.
 pub(crate) fn integer(head: &Head) -> Option<i64> {
     let number = i64::try_from(argument(head)).ok()?;
     match head.major_type {
@@ -36,7 +38,7 @@ pub(crate) fn integer(head: &Head) -> Option<i64> {
     }
 }
 
-/// The number of a tag.
+/// Returns the number of a tag, or `None` for another item.
 pub(crate) fn tag(head: &Head) -> Option<u64> {
     match head.major_type {
         MajorType::Tag => head.number(),
@@ -44,7 +46,7 @@ pub(crate) fn tag(head: &Head) -> Option<u64> {
     }
 }
 
-/// The name of the item's kind in errors of the library.
+/// Returns the name that the library's errors give to items with this head.
 pub(crate) fn kind_name(head: &Head) -> &'static str {
     match head.major_type {
         MajorType::Unsigned | MajorType::Negative => "int",
@@ -59,13 +61,13 @@ pub(crate) fn kind_name(head: &Head) -> &'static str {
     }
 }
 
-/// What follows the head.
+/// Returns the bytes after the head.
 pub(crate) fn behind<'a>(head: &Head, bytes: &'a [u8]) -> &'a [u8] {
     let (_, rest) = bytes.split_at(head.size().min(bytes.len()));
     rest
 }
 
-/// What is at fault where no head could be read.
+/// Returns the fault of bytes from which no head can be read.
 pub(crate) fn head_fault(error: &Error<EndOfFile>) -> Fault {
     match error {
         Error::Io(_) => Fault::Ends,

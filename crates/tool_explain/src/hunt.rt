@@ -1,4 +1,4 @@
-//! Where the fault is for which a type's reading refused the bytes.
+//! The search for the fault for which a type's decoder refused the bytes.
 
 use crate::faults::Fault;
 use crate::frame::{Container, Frame};
@@ -12,12 +12,12 @@ use coset::{CborSerializable, CoseError, CoseSignature, Header};
 use std::alloc::{AllocError, Global};
 use std::collections::BTreeMap;
 
-/// What is sought.
+/// The fault that is searched for.
 #[derive(Clone, Copy, Debug)]
 enum Sought {
-    /// Nothing: the bytes were read, or their fault is one of CBOR.
+    /// None: the bytes were read, or their fault is one of CBOR.
     Nothing,
-    /// An item of this kind where that is asked for.
+    /// An item of the first kind, at a place that asks for the second.
     Unexpected(&'static str, &'static str),
     /// A signature that can't be read.
     Signature,
@@ -25,11 +25,12 @@ enum Sought {
     Operation,
     /// A label that repeats.
     Repeated,
-    /// IV beside Partial IV.
+    /// IV and Partial IV in one map.
     BothIvs,
-    /// A text that names no media type: for white space at its ends, or else for its slashes.
+    /// A text that is no media type. True if it has white space at its ends, otherwise its slashes
+    /// are wrong.
     MediaType(bool),
-    /// The 17th protected header inside others.
+    /// The 17th of nested protected headers.
     Depth,
     /// An integer outside of the range of its place.
     OutOfRange,
@@ -39,19 +40,19 @@ enum Sought {
     UnregisteredNonPrivate,
 }
 
-/// What is sought, and which labels came.
+/// The fault that is searched for, and the labels so far.
 #[derive(Drop)]
 pub(crate) struct Hunt<'e> {
     sought: Sought,
-    /// The error that names it.
+    /// The error that names the fault.
     pub(crate) error: Option<&'e CoseError>,
-    /// Labels by the map that they came in, each with its index there.
+    /// The labels so far, each with its map, and their indices there.
     labels: BTreeMap<String, usize>,
-    /// Where a label was found that came already, the index at which it came first.
+    /// The index of the first of two labels that must not both be there, once the second is found.
     pub(crate) earlier: Option<usize>,
 }
 
-/// Whether an item with this head may be at the place.
+/// Returns true if an item with this head may be at the place.
 fn fits(frame: &Frame, role: Role, head: &Head) -> bool {
     match role {
         Role::Message(_, _) | Role::Signature => {
@@ -89,7 +90,8 @@ fn fits(frame: &Frame, role: Role, head: &Head) -> bool {
     }
 }
 
-/// The number of the tag of a message or a countersignature (RFC 8152, table 1).
+/// Returns the tag number of a message (RFC 8152, table 1) or a countersignature (RFC 9338, section
+/// 3.1).
 fn tag_of(role: Role) -> u64 {
     match role {
         Role::Message(Message::Encrypt0, _) => 16,
@@ -102,7 +104,7 @@ fn tag_of(role: Role) -> u64 {
     }
 }
 
-/// How many elements the array with this head has, which is at the front of the bytes.
+/// Returns the number of elements of the array with this head at the front of the bytes.
 fn count_of(head: &Head, bytes: &[u8]) -> u64 {
     if let Some(count) = head.number() {
         return count;
@@ -119,7 +121,7 @@ fn count_of(head: &Head, bytes: &[u8]) -> u64 {
     count
 }
 
-/// Whether the map at the front of the bytes has the type of a key, which isn't the reserved one.
+/// Returns true if the map at the front of the bytes has a key type that isn't the reserved one.
 fn has_key_type(bytes: &[u8]) -> bool {
     let Ok((pull, _)) = Pull::new(bytes) else {
         return false;
@@ -135,7 +137,7 @@ fn has_key_type(bytes: &[u8]) -> bool {
     false
 }
 
-/// Whether an array with this role may have so many elements.
+/// Returns true if an array with this role may have `count` elements.
 fn has_count(role: Role, count: u64) -> bool {
     match role {
         Role::Message(Message::Encrypt0, _) | Role::Signature | Role::Party => count == 3,
@@ -148,7 +150,8 @@ fn has_count(role: Role, count: u64) -> bool {
     }
 }
 
-/// What an item is called that lacks what its role asks for; `None` where it lacks nothing.
+/// Returns the name that errors give to an item without something that its role requires. Returns
+/// `None` if nothing is missing.
 fn lacking(role: Role, head: &Head, bytes: &[u8]) -> Option<&'static str> {
     if role == Role::Key && !has_key_type(bytes) {
         return Some("no kty label");
@@ -164,7 +167,7 @@ fn lacking(role: Role, head: &Head, bytes: &[u8]) -> Option<&'static str> {
     }
 }
 
-/// Whether the array or the string with this head, which is at the front of the bytes, holds nothing.
+/// Returns true if the array or string with this head, at the front of the bytes, is empty.
 fn is_empty(head: &Head, bytes: &[u8]) -> bool {
     if head.major_type == MajorType::Array {
         return count_of(head, bytes) == 0;
@@ -175,7 +178,8 @@ fn is_empty(head: &Head, bytes: &[u8]) -> bool {
     }
 }
 
-/// How long the string in chunks is that is at the front.
+/// Returns the length of the longest chunk of the string in chunks at the front. It is 0 if the
+/// string is empty.
 fn content_length(bytes: &[u8]) -> u64 {
     let Ok((pull, _)) = Pull::new(bytes) else {
         return 0;
@@ -194,7 +198,7 @@ fn content_length(bytes: &[u8]) -> u64 {
     length as u64
 }
 
-/// Whether an error asks for this where an item with this role is.
+/// Returns true if an error that asks for `want` can be about an item with this role.
 fn asks(role: Role, want: &str) -> bool {
     match want {
         "bstr" => matches!(
@@ -213,7 +217,7 @@ fn asks(role: Role, want: &str) -> bool {
     }
 }
 
-/// What an item is called that may not be at its place; `None` of one that may.
+/// Returns the name that errors give to an item that may not be at its place, or `None` if it may.
 fn unexpected(frame: &Frame, role: Role, head: &Head, bytes: &[u8]) -> Option<&'static str> {
     if !fits(frame, role, head) {
         return Some(kind_name(head));
@@ -224,7 +228,7 @@ fn unexpected(frame: &Frame, role: Role, head: &Head, bytes: &[u8]) -> Option<&'
     lacking(role, head, bytes)
 }
 
-/// Whether an integer with this role has to be one of 64 bits with a sign.
+/// Returns true if an integer with this role must fit an `i64`.
 fn is_bounded(role: Role) -> bool {
     matches!(
         role,
@@ -243,7 +247,7 @@ fn is_bounded(role: Role) -> bool {
     )
 }
 
-/// Whether an integer is outside of the range of its role.
+/// Returns true if an integer is outside of the range of its role.
 fn is_out_of_range(role: Role, head: &Head) -> bool {
     if role == Role::Length {
         return head.major_type == MajorType::Negative;
@@ -251,7 +255,7 @@ fn is_out_of_range(role: Role, head: &Head) -> bool {
     is_bounded(role) && is_integer(head) && integer(head).is_none()
 }
 
-/// Whether the item at the front of the bytes is a signature (RFC 8152, section 4.1).
+/// Returns true if the item at the front of the bytes is a signature (RFC 8152, section 4.1).
 fn is_signature(alloc: Global, bytes: &[u8]) -> Result<bool, AllocError> {
     let Ok((pull, _)) = Pull::new(bytes) else {
         return Ok(false);
@@ -263,7 +267,8 @@ fn is_signature(alloc: Global, bytes: &[u8]) -> Result<bool, AllocError> {
     }
 }
 
-/// The text string at the front of the bytes, whose chunks are joined; `None` of another item.
+/// Returns the text string at the front of the bytes, with its chunks joined, or `None` for another
+/// item.
 fn text_of(alloc: Global, bytes: &[u8]) -> Result<Option<String>, AllocError> {
     let Ok((pull, _)) = Pull::new(bytes) else {
         return Ok(None);
@@ -274,8 +279,9 @@ fn text_of(alloc: Global, bytes: &[u8]) -> Result<Option<String>, AllocError> {
     }
 }
 
-/// Whether the text at the front of the bytes names no media type, for white space at its ends, or else for its slashes (RFC
-/// 8152, section 3.1).
+/// Returns true if the text at the front of the bytes is no media type (RFC 8152, section 3.1).
+/// With `is_spaced`, it has white space at its ends. Otherwise it has none, and the number of
+/// slashes is wrong.
 fn is_no_media_type(alloc: Global, bytes: &[u8], is_spaced: bool) -> Result<bool, AllocError> {
     let Some(text) = text_of(alloc, bytes)? else {
         return Ok(false);
@@ -289,7 +295,8 @@ fn is_no_media_type(alloc: Global, bytes: &[u8], is_spaced: bool) -> Result<bool
     })
 }
 
-/// The byte string at the front of the bytes, whose chunks are joined; it is empty of another item.
+/// Returns the byte string at the front of the bytes, with its chunks joined. It is empty for
+/// another item.
 fn content_of(alloc: Global, bytes: &[u8]) -> Result<Vec<u8>, AllocError> {
     let Ok((pull, _)) = Pull::new(bytes) else {
         return Ok(Vec::new(alloc));
@@ -301,7 +308,8 @@ fn content_of(alloc: Global, bytes: &[u8]) -> Result<Vec<u8>, AllocError> {
     }
 }
 
-/// Whether the bytes are something, and no header for this error (RFC 8152, section 3).
+/// Returns true if the content isn't empty, and decoding it as a header gives this error (RFC 8152,
+/// section 3).
 fn is_no_header_for(alloc: Global, content: &[u8], error: &CoseError) -> Result<bool, AllocError> {
     if content.is_empty() {
         return Ok(false);
@@ -316,7 +324,8 @@ fn is_no_header_for(alloc: Global, content: &[u8], error: &CoseError) -> Result<
     }
 }
 
-/// Whether the number has no name in the registry of its role, and whether that has no private range.
+/// Returns true if the number has no name in the registry of its role, and isn't for private use.
+/// `has_private` selects the registries with a private range, otherwise those without one.
 fn is_unregistered(role: Role, head: &Head, has_private: bool) -> bool {
     let Some(number) = integer(head) else {
         return false;
@@ -333,7 +342,7 @@ fn is_unregistered(role: Role, head: &Head, has_private: bool) -> bool {
 }
 
 impl<'e> Hunt<'e> {
-    /// The fault that the error names.
+    /// Begins the search for the fault that the error names.
     pub(crate) fn of(alloc: Global, error: Option<&'e CoseError>) -> Hunt<'e> {
         let sought = match error {
             Some(CoseError::UnexpectedItem(got, want)) => match *got {
@@ -359,10 +368,11 @@ impl<'e> Hunt<'e> {
         }
     }
 
-    /// The fault that is sought, where the item with this head, which is at the front of these bytes, is at fault.
+    /// Returns the fault that is searched for, if the item with this head at the front of the bytes
+    /// has it.
     ///
     /// # Errors
-    /// `AllocError` alone.
+    /// `AllocError` if an allocation fails.
     pub(crate) fn at(
         &mut self,
         alloc: Global,
@@ -407,7 +417,8 @@ impl<'e> Hunt<'e> {
         Ok(if found { Some(Fault::Shape) } else { None })
     }
 
-    /// The fault that is sought, where a protected header in chunks, which isn't opened, has it.
+    /// Returns the fault that is searched for, if it is in this protected header in chunks, which
+    /// isn't opened.
     fn in_chunks(&self, alloc: Global, bytes: &[u8]) -> Result<Option<Fault>, AllocError> {
         match self.error {
             Some(error) if is_no_header_for(alloc, &content_of(alloc, bytes)?, error)? => {
@@ -417,7 +428,8 @@ impl<'e> Hunt<'e> {
         }
     }
 
-    /// Whether what is sought is in a protected header that these bytes hold, which aren't one item.
+    /// Returns true if decoding this content of a protected header gives the error of CBOR that is
+    /// searched for.
     pub(crate) fn is_in(
         &self,
         alloc: Global,
@@ -433,7 +445,7 @@ impl<'e> Hunt<'e> {
         }
     }
 
-    /// Keeps a label, and says whether it came already.
+    /// Records a label. Returns true if it was recorded before.
     fn keep(&mut self, label: String, index: usize) -> Result<bool, AllocError> {
         match self.labels.insert(label, index)? {
             Some(earlier) => {
@@ -444,7 +456,7 @@ impl<'e> Hunt<'e> {
         }
     }
 
-    /// Whether the label at the front of the bytes came already in this map.
+    /// Returns true if the label at the front of the bytes came before in this map.
     fn repeats(
         &mut self,
         alloc: Global,
@@ -465,7 +477,7 @@ impl<'e> Hunt<'e> {
         self.keep(label, frame.place())
     }
 
-    /// Whether the head is that of IV or Partial IV, and the other came already in this map.
+    /// Returns true if the head is that of IV or Partial IV, and the other came before in this map.
     fn is_other_iv(
         &mut self,
         alloc: Global,

@@ -1,4 +1,4 @@
-//! What bytes should be.
+//! The kinds that input can have.
 
 ghost use Rattle.std.specs.Prelude.{◌≡◌, ◌++◌, List, MatchOption, ℕ};
 ghost use Rattle.coset.specs.PerhapsTagged.{perhaps_tagged};
@@ -16,15 +16,16 @@ use coset::{
 };
 use std::alloc::Global;
 
-/// What bytes should be.
+/// The kind that bytes should have.
 #[derive(Clone, Copy, Debug, PartialEq, Eq)]
 pub enum Kind {
-    /// What their tag says: a message, a countersignature, or under tag 61 a web token (RFC 8392, section 6); or else an
-    /// item of CBOR.
+    /// Chosen by the tag: a message, a countersignature, or under tag 61 a web token (RFC 8392,
+    /// section 6). Without such a tag, a CBOR item.
     Auto,
-    /// A web token: what its tag says, under tag 61 or not, with claims as its payload (RFC 8392, section 7).
+    /// A web token with claims as its payload (RFC 8392, section 7). The tag chooses the message,
+    /// with or without tag 61.
     Cwt,
-    /// An item of CBOR (RFC 8949, section 3).
+    /// A CBOR item (RFC 8949, section 3).
     Value,
     /// A message with one signature (RFC 8152, section 4.2).
     Sign1,
@@ -50,7 +51,7 @@ pub enum Kind {
     Kdf,
 }
 
-/// The item that a tag of this number at the front encloses; other bytes as they are.
+/// Returns the content of a tag of this number at the front, or other bytes as they are.
 fn without_tag(number: u64, bytes: &[u8]) -> &[u8]
     ensures { (front : List ℕ) × (bytes.now ≡ front ++ result.now) }
 {
@@ -60,7 +61,7 @@ fn without_tag(number: u64, bytes: &[u8]) -> &[u8]
     }
 }
 
-/// Why the bytes don't describe a value of the type.
+/// Returns why the bytes don't describe a value of the type, or `None` if they do.
 fn type_refusal<T: CborSerializable + Drop>(alloc: Global, bytes: &[u8]) -> Option<CoseError>
     ensures { Judges T.shape bytes.now result }
 {
@@ -70,7 +71,8 @@ fn type_refusal<T: CborSerializable + Drop>(alloc: Global, bytes: &[u8]) -> Opti
     }
 }
 
-/// Why the bytes don't describe a message of the type, plain or under its tag.
+/// Returns why the bytes don't describe a message of the type, plain or under its tag. Returns
+/// `None` if they do.
 fn message_refusal<T: TaggedCborSerializable + Drop>(
     alloc: Global,
     bytes: &[u8],
@@ -84,7 +86,7 @@ fn message_refusal<T: TaggedCborSerializable + Drop>(
 }
 
 impl Kind {
-    /// The kind of that name.
+    /// Returns the kind of that name.
     pub fn of(name: &str) -> Option<Kind>
         ensures { MatchOption result ((k : Kind) → name.now ≡ kind_name k → ⊥)
             (λ k. name.now ≡ kind_name k) }
@@ -108,7 +110,7 @@ impl Kind {
         }
     }
 
-    /// The name of the kind.
+    /// Returns the name of the kind.
     pub fn name(self) -> &'static str
         ensures { result.now ≡ kind_name self }
     {
@@ -130,7 +132,7 @@ impl Kind {
         }
     }
 
-    /// The kind that the tag at the front says (RFC 8152, table 1).
+    /// Returns the kind of the tag at the front (RFC 8152, table 1; RFC 9338, section 3.1).
     fn by_tag(bytes: &[u8]) -> Kind {
         let Ok((head, _)) = read_head(bytes) else {
             return Kind::Value;
@@ -147,7 +149,7 @@ impl Kind {
         }
     }
 
-    /// What the whole input is for.
+    /// Returns the role of the whole input.
     pub(crate) fn role(self) -> Role {
         match self {
             Kind::Auto => Role::Any,
@@ -167,8 +169,8 @@ impl Kind {
         }
     }
 
-    /// The kind by name, and the bytes that should be of it: of a kind whose tag says what it is, the kind that the tag
-    /// says, and what follows tag 61.
+    /// Returns the kind by name, and the bytes that should be of it. `Auto` and `Cwt` become the
+    /// kind of the tag, after tag 61 is removed.
     pub(crate) fn named(self, bytes: &[u8]) -> (Kind, &[u8])
         ensures { Names self bytes.now result.0 result.1.now }
     {
@@ -180,7 +182,8 @@ impl Kind {
         }
     }
 
-    /// Why the bytes aren't of the kind, as the library's reading says, or that memory ran out; `None` where they are.
+    /// Returns why the bytes aren't of the kind, or `None` if they are. The reason is the error of
+    /// the library's decoder, which may be `OutOfMemory`.
     pub fn refusal(self, alloc: Global, bytes: &[u8]) -> Option<CoseError>
         ensures { JudgesAs self bytes.now result }
     {
@@ -188,7 +191,7 @@ impl Kind {
         kind.refusal_of_named(alloc, named)
     }
 
-    /// Whether the tag says what it is.
+    /// Returns true for `Auto` and `Cwt`: the tag chooses their type.
     fn is_by_tag(self) -> bool
         ensures { result ≡ is_by_tag self }
     {
@@ -198,7 +201,8 @@ impl Kind {
         }
     }
 
-    /// The same, of a kind that is named.
+    /// Returns the same as `refusal`, without a look at the tag: `Auto` and `Cwt` are any CBOR
+    /// item.
     fn refusal_of_named(self, alloc: Global, bytes: &[u8]) -> Option<CoseError>
         ensures { JudgesNamed self bytes.now result }
     {

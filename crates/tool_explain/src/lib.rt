@@ -1,5 +1,6 @@
-//! A COSE message, a key, a set of keys, claims, or any CBOR, taken apart for whoever debugs it: diagnostic notation (RFC
-//! 8949, section 8) line by line, each beside the bytes that it shows.
+//! Takes input apart for debugging: a COSE message, a key, a set of keys, claims, or any CBOR. It
+//! is shown in diagnostic notation (RFC 8949, section 8; RFC 8610, appendix G), line by line, next
+//! to the bytes of each line.
 #![tactic(auto)]
 
 mod apart;

@@ -1,4 +1,4 @@
-//! Registered names, as IANA's registries spell them.
+//! Registered names, spelled as in IANA's registries.
 
 use coset::iana::{
     AkpKeyParameter, Ec2KeyParameter, EnumI64, HeaderAlgorithmParameter, HeaderParameter,
@@ -6,12 +6,13 @@ use coset::iana::{
     SymmetricKeyParameter, WalnutDsaKeyParameter,
 };
 
-/// The name that the number has in the registry T.
+/// Returns the name of the number in the registry `T`.
 pub(crate) fn registered<T: EnumI64 + Named + Drop>(number: i64) -> Option<&'static str> {
     Some(T::from_i64(number)?.name())
 }
 
-/// The name of a label of a header, or else of one that goes with the algorithm of a recipient.
+/// Returns the name of a header's label: of a common parameter, otherwise of one for a recipient's
+/// algorithm.
 pub(crate) fn header_label(number: i64) -> Option<&'static str> {
     match registered::<HeaderParameter>(number) {
         Some(name) => Some(name),
@@ -19,7 +20,7 @@ pub(crate) fn header_label(number: i64) -> Option<&'static str> {
     }
 }
 
-/// The name of a label of any key, or else of a key of this type.
+/// Returns the name of a key's label: of any key, otherwise of a key of this type.
 pub(crate) fn key_label(kty: Option<i64>, number: i64) -> Option<&'static str> {
     match registered::<KeyParameter>(number) {
         Some(name) => Some(name),
@@ -27,7 +28,8 @@ pub(crate) fn key_label(kty: Option<i64>, number: i64) -> Option<&'static str> {
     }
 }
 
-/// The name of a label of a key of this type, in IANA's registry "COSE Key Type Parameters".
+/// Returns the name of a label of a key of this type, from IANA's registry "COSE Key Type
+/// Parameters".
 fn of_type(kty: i64, number: i64) -> Option<&'static str> {
     match KeyType::from_i64(kty)? {
         KeyType::OKP => registered::<OkpKeyParameter>(number),

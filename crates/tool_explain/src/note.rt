@@ -1,4 +1,4 @@
-//! What there is to say of an item, by its head.
+//! Remarks on an item, from its head.
 
 use crate::cover::of_element;
 use crate::frame::Frame;
@@ -9,16 +9,16 @@ use coset::cbor::head::{Head, MajorType};
 use coset::cwt::Timestamp;
 use std::alloc::AllocError;
 
-/// The note of a line, to which pieces are added.
+/// The note of a line, to which remarks are added.
 #[derive(Drop)]
 struct Notes<'a> {
     text: &'a mut String,
-    /// What is between the note so far and the next piece.
+    /// The text between the note so far and the next remark.
     separator: &'static str,
 }
 
 impl Notes<'_> {
-    /// Begins a piece.
+    /// Begins a remark.
     fn begin(&mut self) -> Result<(), AllocError> {
         if !self.text.is_empty() {
             let separator = self.separator;
@@ -28,7 +28,7 @@ impl Notes<'_> {
         Ok(())
     }
 
-    /// Adds a piece, where it isn't empty.
+    /// Adds a remark, unless it is empty.
     fn add(&mut self, piece: &str) -> Result<(), AllocError> {
         if piece.is_empty() {
             return Ok(());
@@ -37,8 +37,8 @@ impl Notes<'_> {
         self.text.push_str(piece)
     }
 
-    /// Adds the date of a timestamp, and whether a token is valid at the moment `now`, where that is known (RFC 8392,
-    /// section 3.1).
+    /// Adds the date of a timestamp. If `now` is given, also adds whether the token is valid then
+    /// (RFC 8392, section 3.1).
     fn add_date(
         &mut self,
         role: Role,
@@ -58,7 +58,8 @@ impl Notes<'_> {
     }
 }
 
-/// The registered name of a number, or that it has none.
+/// Returns the registered name of a number, or that it has none. The text is empty if the role has
+/// no registry.
 fn name(role: Role, number: i64) -> &'static str {
     match name_of(role, number) {
         Some(name) => name,
@@ -74,8 +75,8 @@ fn name(role: Role, number: i64) -> &'static str {
     }
 }
 
-/// What there is to say of a value of an unprotected header, which no signature covers; it may be empty (RFC 8152, section
-/// 3.1).
+/// Returns a remark on a value of an unprotected header, which no signature covers (RFC 8152,
+/// section 3; on `alg` and `crit`, section 3.1). It may be empty.
 fn unprotected(frame: &Frame, role: Role) -> &'static str {
     match (frame.role, role) {
         (Role::Header(false), Role::Algorithm) => "the algorithm isn't protected",
@@ -84,7 +85,7 @@ fn unprotected(frame: &Frame, role: Role) -> &'static str {
     }
 }
 
-/// Whether a signature or a MAC is over an element of a message, or it goes with the ciphertext; it may be empty.
+/// Returns how a signature, a MAC or a ciphertext covers an element of a message. It may be empty.
 fn coverage(frame: &Frame) -> &'static str {
     match of_element(frame) {
         Some(cover) => cover.text(),
@@ -92,7 +93,8 @@ fn coverage(frame: &Frame) -> &'static str {
     }
 }
 
-/// That the payload or the ciphertext is detached, with `nil` in its place (RFC 8152, section 4.1); it may be empty.
+/// Returns "detached" if `nil` is in the place of the payload or the ciphertext (RFC 8152, section
+/// 4.1), otherwise an empty text.
 fn detached(frame: &Frame, head: &Head) -> &'static str {
     match (frame.role, frame.index) {
         (Role::Message(_, _), 2) if head.is_null() => "detached",
@@ -100,7 +102,8 @@ fn detached(frame: &Frame, head: &Head) -> &'static str {
     }
 }
 
-/// Adds the bits of a NaN, whose payload diagnostic notation doesn't show (RFC 8949, section 8).
+/// Adds the bits of a NaN, because diagnostic notation doesn't show its payload (RFC 8949, section
+/// 8).
 fn add_bits(notes: &mut Notes<'_>, head: &Head) -> Result<(), AllocError> {
     if !head.is_float() || !float(head).to_f64().is_nan() {
         return Ok(());
@@ -110,7 +113,7 @@ fn add_bits(notes: &mut Notes<'_>, head: &Head) -> Result<(), AllocError> {
     write!(notes.text, "bits 0x{number:x}")
 }
 
-/// Adds that it is a certificate, and how long, where that is announced.
+/// Adds that the item is a certificate, and its length if the head announces it.
 fn add_certificate(notes: &mut Notes<'_>, head: &Head) -> Result<(), AllocError> {
     notes.add("certificate")?;
     match head.number() {
@@ -119,10 +122,10 @@ fn add_certificate(notes: &mut Notes<'_>, head: &Head) -> Result<(), AllocError>
     }
 }
 
-/// Adds what there is to say of the item with this head, which is for that.
+/// Adds all remarks on the item with this head, which is this part.
 ///
 /// # Errors
-/// `AllocError` alone.
+/// `AllocError` if an allocation fails.
 pub(crate) fn push(
     note: &mut String,
     frame: &Frame,

@@ -1,4 +1,4 @@
-//! What items with parts open, and what opens them in diagnostic notation.
+//! The frames that items with parts open, and the text that opens them in diagnostic notation.
 
 use crate::frame::{Container, Frame, begins_break, content};
 use crate::head::{argument, behind, tag};
@@ -11,7 +11,7 @@ use coset::cbor::head::{Head, MajorType, read_head};
 use coset::cbor::value::Integer;
 use std::alloc::{AllocError, Global};
 
-/// How many items a map of this many pairs holds.
+/// Returns the number of items in a map of this many pairs.
 fn items(pairs: Option<u64>) -> Option<u64> {
     match pairs {
         Some(pairs) => Some(pairs.saturating_mul(2)),
@@ -19,8 +19,8 @@ fn items(pairs: Option<u64>) -> Option<u64> {
     }
 }
 
-/// What an item with this part and this head is for, where these bytes follow: countersignatures that begin with a byte string
-/// are one, and a submodule that is a map is claims.
+/// Refines the part of an item by its head and the bytes after it. Countersignatures that begin
+/// with a byte string are a single one. A submodule that is a map is claims.
 pub(crate) fn opened_part(part: Part, head: &Head, rest: &[u8]) -> Part {
     let is_one = head.major_type == MajorType::Array
         && head.number() != Some(0)
@@ -37,7 +37,8 @@ pub(crate) fn opened_part(part: Part, head: &Head, rest: &[u8]) -> Part {
     }
 }
 
-/// The type of the key at the front of the bytes, where it is a number (RFC 8152, section 7.1).
+/// Returns the type of the key at the front of the bytes, if it is an integer (RFC 8152, section
+/// 7.1).
 fn key_type_of(bytes: &[u8]) -> Option<i64> {
     let (pull, _) = Pull::new(bytes).ok()?;
     for (label, value) in pull.pairs()? {
@@ -48,7 +49,7 @@ fn key_type_of(bytes: &[u8]) -> Option<i64> {
     None
 }
 
-/// The frame of a map, of whose key the type is known before its label comes.
+/// Returns the frame of a map. For a key, it has the key's type before the label of the type comes.
 fn opened_map(opened: Frame, bytes: &[u8]) -> Frame {
     if opened.role == Role::Key {
         opened.with_key_type(key_type_of(bytes))
@@ -57,12 +58,15 @@ fn opened_map(opened: Frame, bytes: &[u8]) -> Frame {
     }
 }
 
-/// What the item with this head, which is at the front of these bytes, opens; `None` where it has no parts to show. The
-/// content of a protected byte string is opened where it is one item, or what is sought is in it; that of another where it
-/// is a message or claims.
+/// Returns the frame that the item at the front of the bytes opens, or `None` if it has no parts to
+/// show.
+///
+/// The content of a protected byte string is opened if it is one item. It is also opened if it has
+/// the fault that is searched for, which `is_sought` says. The content of another byte string is
+/// opened if it is a message or claims.
 ///
 /// # Errors
-/// `AllocError` alone.
+/// `AllocError` if an allocation fails.
 pub(crate) fn opening(
     alloc: Global,
     frame: &Frame,
@@ -102,7 +106,8 @@ pub(crate) fn opening(
     })
 }
 
-/// What the content of a byte string is, where it is shown: a protected header, a message, or claims.
+/// Returns the frame of a byte string's content, if it is shown: a protected header, a message, or
+/// claims.
 fn embedding(
     alloc: Global,
     frame: &Frame,
@@ -130,7 +135,8 @@ fn embedding(
     })
 }
 
-/// What the content of a byte string with this role is, where that is a message, a token, or claims.
+/// Returns the role of the content of a byte string with this role, if it is a message, a token, or
+/// claims.
 fn held(alloc: Global, role: Role, content: &[u8]) -> Result<Option<Role>, AllocError> {
     if role == Role::Plain {
         return Ok(None);
@@ -151,7 +157,8 @@ fn held(alloc: Global, role: Role, content: &[u8]) -> Result<Option<Role>, Alloc
     Ok(if is_claims { Some(Role::Claims) } else { None })
 }
 
-/// Whether the tag of a message or a token is at the front (RFC 8152, table 1; RFC 8392, section 6).
+/// Returns true if the tag of a message or a token is at the front (RFC 8152, table 1; RFC 8392,
+/// section 6).
 fn begins_with_message(bytes: &[u8]) -> bool {
     match read_head(bytes) {
         Ok((head, _)) => matches!(tag(&head), Some(16 | 17 | 18 | 61 | 96 | 97 | 98)),
@@ -159,7 +166,7 @@ fn begins_with_message(bytes: &[u8]) -> bool {
     }
 }
 
-/// Whether the library reads the bytes as something of that kind.
+/// Returns true if the library reads the bytes as this kind.
 fn is_of(alloc: Global, kind: Kind, bytes: &[u8]) -> Result<bool, AllocError> {
     match kind.refusal(alloc, bytes) {
         None => Ok(true),
@@ -168,7 +175,8 @@ fn is_of(alloc: Global, kind: Kind, bytes: &[u8]) -> Result<bool, AllocError> {
     }
 }
 
-/// Whether the bytes are claims, at least one, of which some may be without a registered name.
+/// Returns true if the bytes begin a map with pairs, and are read as claims or refused for a name
+/// that isn't registered.
 fn holds_claims(alloc: Global, bytes: &[u8]) -> Result<bool, AllocError> {
     match bytes.first() {
         Some(first) if *first / 32 == 5 && *first != 0xa0 => {}
@@ -181,7 +189,7 @@ fn holds_claims(alloc: Global, bytes: &[u8]) -> Result<bool, AllocError> {
     }
 }
 
-/// Whether the bytes are one item of CBOR.
+/// Returns true if the bytes are one CBOR item.
 fn is_item(bytes: &[u8]) -> bool {
     match Pull::new(bytes) {
         Ok((_, rest)) => rest.is_empty(),
@@ -189,7 +197,7 @@ fn is_item(bytes: &[u8]) -> bool {
     }
 }
 
-/// Adds what opens an item with parts, in diagnostic notation.
+/// Adds the text that opens an item with parts in diagnostic notation.
 pub(crate) fn push_opening(
     text: &mut String,
     opened: &Frame,

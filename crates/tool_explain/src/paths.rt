@@ -1,4 +1,4 @@
-//! How a place is reached: the steps there, and the path that is shown.
+//! The steps to a place, and the path that is shown for them.
 
 use crate::frame::{Container, Frame, content};
 use crate::role::place;
@@ -7,7 +7,7 @@ use coset::cbor::head::{MajorType, read_head};
 use std::alloc::{AllocError, Global};
 use tool_fault::Step;
 
-/// The step from what is open to the item in it that comes next; `None` from the input, which is no item.
+/// Returns the step from a container to its next item, or `None` from the input, which is no item.
 fn step(frame: &Frame) -> Option<Step> {
     let index = frame.place();
     match frame.container {
@@ -27,15 +27,15 @@ fn step(frame: &Frame) -> Option<Step> {
     }
 }
 
-/// What is open, as it was before the item came that is open in it.
+/// Returns the frame as it was before the item that is open in it.
 fn before(frame: &Frame) -> Frame {
     let mut frame = *frame;
     frame.index = frame.index.saturating_sub(1);
     frame
 }
 
-/// What is open, from the input on, with the item in it that leads on to the place, or is there: so many bytes of the input
-/// are from that on.
+/// Returns the open frames from the input on, each at the item that leads to the place or is there.
+/// `left` is the number of input bytes from the place on.
 fn frames(alloc: Global, open: &[Frame], left: usize) -> Result<Vec<Frame>, AllocError> {
     let mut frames = Vec::new(alloc);
     if let Some((last, outer)) = open.split_last() {
@@ -51,10 +51,11 @@ fn frames(alloc: Global, open: &[Frame], left: usize) -> Result<Vec<Frame>, Allo
     Ok(frames)
 }
 
-/// The steps to the next item of the last that is open, or to what follows the one item.
+/// Returns the steps to the next item of the last frame. With `is_behind`, they lead to the bytes
+/// after the one item.
 ///
 /// # Errors
-/// `AllocError` alone.
+/// `AllocError` if an allocation fails.
 pub(crate) fn steps(
     alloc: Global,
     open: &[Frame],
@@ -72,7 +73,7 @@ pub(crate) fn steps(
     Ok(steps)
 }
 
-/// Adds a label, with which the bytes begin; `?` for a key that has parts, or that can't be read.
+/// Adds the label at the front of the bytes. A key that has parts, or that can't be read, is `?`.
 fn push_label(alloc: Global, path: &mut String, bytes: &[u8]) -> Result<(), AllocError> {
     let so_far = path.len();
     push_leaf_at(alloc, path, bytes)?;
@@ -82,7 +83,7 @@ fn push_label(alloc: Global, path: &mut String, bytes: &[u8]) -> Result<(), Allo
     Ok(())
 }
 
-/// Adds an item without parts, with which the bytes begin, and nothing of another.
+/// Adds the item at the front of the bytes, if it has no parts.
 fn push_leaf_at(alloc: Global, path: &mut String, bytes: &[u8]) -> Result<(), AllocError> {
     match read_head(bytes) {
         Ok((head, rest)) => match head.major_type {
@@ -94,7 +95,7 @@ fn push_leaf_at(alloc: Global, path: &mut String, bytes: &[u8]) -> Result<(), Al
     }
 }
 
-/// Adds how the item is come to that what is open leads to.
+/// Adds the step from the container to its item.
 fn push_step(
     alloc: Global,
     path: &mut String,
@@ -125,12 +126,18 @@ fn push_step(
     }
 }
 
-/// The path to the next item of the last that is open, from which on there are so many of the bytes: `.` and a label or the name of
-/// an element, `[` an index `]`, `{` a label `}` for that label itself, `()` for what a tag encloses, `<<>>` for what a byte
-/// string holds, `(_` an index `)` for a chunk. It is `.` for the whole.
+/// Returns the path to the next item of the last frame. `left` is the number of bytes from that
+/// item on.
+///
+/// A path consists of these steps, and is `.` for the whole:
+///
+/// - `.` and a label or the name of an element, `[` an index `]`.
+/// - `{` a label `}` for that label itself.
+/// - `()` for the content of a tag, `<<>>` for the content of a byte string.
+/// - `(_` an index `)` for a chunk.
 ///
 /// # Errors
-/// `AllocError` alone.
+/// `AllocError` if an allocation fails.
 pub(crate) fn path(
     alloc: Global,
     bytes: &[u8],

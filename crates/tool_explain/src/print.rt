@@ -1,13 +1,13 @@
-//! Lines as a text.
+//! Lines as text.
 
 use crate::column::Line;
 use crate::cover::Cover;
 use std::alloc::{AllocError, Global};
 
-/// How many bytes are in a row.
+/// The number of bytes in a row.
 const BYTES: usize = 16;
 
-/// How many of the things that a line is in are seen by its indentation.
+/// The most levels that are indented.
 const STEPS: usize = 32;
 
 /// Adds the indentation of a line.
@@ -18,7 +18,8 @@ fn push_indentation(text: &mut String, depth: usize) -> Result<(), AllocError> {
     Ok(())
 }
 
-/// Adds the note of a line as a comment (RFC 8949, section 8), in which a slash is doubled.
+/// Adds the note of a line as a comment (RFC 8610, appendix G.6). A slash in the note is doubled:
+/// it ends one comment and begins another.
 fn push_note(text: &mut String, note: &str) -> Result<(), AllocError> {
     if note.is_empty() {
         return Ok(());
@@ -33,24 +34,26 @@ fn push_note(text: &mut String, note: &str) -> Result<(), AllocError> {
     text.push_str(" /")
 }
 
-/// Adds a line that has no bytes, and is a comment.
+/// Adds a comment as a line without bytes.
 ///
 /// # Errors
-/// `AllocError` alone.
+/// `AllocError` if an allocation fails.
 pub(crate) fn push_comment(text: &mut String, comment: &str) -> Result<(), AllocError> {
     write!(text, "{:32} ", "")?;
     push_note(text, comment)?;
     text.push('\n')
 }
 
-/// Adds a row of bytes in hexadecimal, as wide as any.
+/// Adds a row of bytes in hexadecimal, padded to the width of a full row.
 fn push_bytes(alloc: Global, text: &mut String, bytes: &[u8]) -> Result<(), AllocError> {
     let digits = hex::encode(alloc, bytes)?;
     write!(text, "{digits:32}")
 }
 
-/// What has a terminal show text in the colour of the cover: green what is signed or authenticated, yellow the headers that
-/// aren't, cyan signatures, MACs and ciphertexts, red what was refused; it may be empty.
+/// Returns the terminal's code for the colour of the cover. It may be empty.
+///
+/// Green is signed or authenticated, yellow a header that isn't. Cyan is a signature, a MAC or a
+/// ciphertext, red is refused.
 fn color(cover: Cover) -> &'static str {
     match cover {
         Cover::Plain => "",
@@ -61,10 +64,11 @@ fn color(cover: Cover) -> &'static str {
     }
 }
 
-/// What ends a colour.
+/// The terminal's code that ends a colour.
 const END: &str = "\u{1b}[0m";
 
-/// Adds the line between these: its bytes in rows, and beside the first one its text and its note.
+/// Adds the line between `begin` and `end`: its bytes in rows, with its text and its note next to
+/// the first row.
 fn push_line(
     alloc: Global,
     text: &mut String,
@@ -90,10 +94,10 @@ fn push_line(
     Ok(())
 }
 
-/// The lines with their bytes in hexadecimal, 16 in a row, and their notes as comments.
+/// Returns the lines with their bytes in hexadecimal, 16 in a row, and their notes as comments.
 ///
 /// # Errors
-/// `AllocError` alone.
+/// `AllocError` if an allocation fails.
 pub fn annotated(alloc: Global, lines: &[Line<'_>]) -> Result<String, AllocError> {
     let mut text = String::new(alloc);
     for line in lines {
@@ -102,10 +106,10 @@ pub fn annotated(alloc: Global, lines: &[Line<'_>]) -> Result<String, AllocError
     Ok(text)
 }
 
-/// The same for a terminal, in colours of what signatures, MACs and ciphertexts have to do with each line.
+/// Returns the same for a terminal, each line in the colour of its cover.
 ///
 /// # Errors
-/// `AllocError` alone.
+/// `AllocError` if an allocation fails.
 pub fn colored(alloc: Global, lines: &[Line<'_>]) -> Result<String, AllocError> {
     let mut text = String::new(alloc);
     for line in lines {
@@ -116,10 +120,10 @@ pub fn colored(alloc: Global, lines: &[Line<'_>]) -> Result<String, AllocError> 
     Ok(text)
 }
 
-/// The lines without their bytes and notes: diagnostic notation alone.
+/// Returns the lines without their bytes and notes: diagnostic notation alone.
 ///
 /// # Errors
-/// `AllocError` alone.
+/// `AllocError` if an allocation fails.
 pub fn notation(alloc: Global, lines: &[Line<'_>]) -> Result<String, AllocError> {
     let mut text = String::new(alloc);
     for line in lines {

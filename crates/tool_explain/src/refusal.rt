@@ -1,10 +1,10 @@
-//! What is said of input that was refused.
+//! The text about input that was refused.
 
 use crate::faults::Fault;
 use coset::CoseError;
 use std::alloc::AllocError;
 
-/// What is said of a fault.
+/// Returns the text about a fault.
 fn fault_text(fault: Fault) -> &'static str {
     match fault {
         Fault::Ends => "the bytes end, or more is announced than is left",
@@ -20,7 +20,7 @@ fn fault_text(fault: Fault) -> &'static str {
 /// Adds to the note of a line that the input was refused, and where.
 ///
 /// # Errors
-/// `AllocError` alone.
+/// `AllocError` if an allocation fails.
 pub(crate) fn push(
     note: &mut String,
     error: Option<&CoseError>,

@@ -1,4 +1,5 @@
-//! What an item is for, by its place: which names its labels and numbers have, and what its parts are for.
+//! The role of an item at its place: the names of its labels and numbers, and the roles of its
+//! parts.
 
 use crate::names;
 use coset::iana::{
@@ -17,16 +18,16 @@ pub(crate) enum Message {
     Encrypt,
 }
 
-/// What an item is for.
+/// The role of an item.
 #[derive(Clone, Copy, Debug, PartialEq, Eq)]
 pub(crate) enum Role {
-    /// Nothing is known, and tags say nothing.
+    /// An unknown item, in which tags say nothing.
     Plain,
-    /// Nothing is known but what tags say.
+    /// An unknown item, in which tags say what they enclose.
     Any,
-    /// What tag 61 encloses (RFC 8392, section 6).
+    /// The content of tag 61 (RFC 8392, section 6).
     Token,
-    /// A message, and whether its payload holds claims.
+    /// A message, and whether its payload is claims.
     Message(Message, bool),
     /// A signature of a message, or a countersignature.
     Signature,
@@ -37,15 +38,15 @@ pub(crate) enum Role {
     Recipients,
     /// A protected header in its byte string (RFC 8152, section 3).
     Protected,
-    /// A header, and whether it is a protected one.
+    /// A header, and whether it is protected.
     Header(bool),
-    /// A payload, and whether it holds claims.
+    /// A payload, and whether it is claims.
     Payload(bool),
     Bytes,
     /// A byte string that may not be empty.
     FilledBytes,
     Text,
-    /// Labels that are critical.
+    /// The labels of `crit`.
     Labels,
     CriticalLabel,
     Algorithm,
@@ -57,7 +58,7 @@ pub(crate) enum Role {
     Operation,
     Curve,
     Claims,
-    /// What confirms who presents a token (RFC 8747, section 3).
+    /// The key that confirms who presents a token (RFC 8747, section 3).
     Confirmation,
     Expiry,
     Start,
@@ -70,31 +71,32 @@ pub(crate) enum Role {
     Length,
     /// A byte string or null.
     MaybeBytes,
-    /// A label of a header, and whether that is protected.
+    /// A label of a header, and whether the header is protected.
     HeaderLabel(bool),
-    /// A label of a key of this type, where that is known.
+    /// A label of a key of this type, if the type is known.
     KeyLabel(Option<i64>),
     ClaimName,
     ConfirmationLabel,
-    /// The submodules of an attestation token (RFC 9711, section 4.2.18), and one of them: claims, or a token.
+    /// The submodules of an attestation token (RFC 9711, section 4.2.18). Each is claims, or a
+    /// token.
     Submodules,
     Submodule,
     /// A certificate, or an array of several (RFC 9360, section 2).
     Certificates,
 }
 
-/// What a place of an array or a map is for.
+/// A place in an array or a map.
 #[derive(Clone, Copy, Debug)]
 pub(crate) struct Part {
     pub(crate) role: Role,
-    /// What the standard calls it; it may be empty.
+    /// The standard's name for it; it may be empty.
     pub(crate) name: &'static str,
-    /// Whether the type's reading asks how it is.
+    /// Whether the type's decoder checks it.
     pub(crate) is_read: bool,
 }
 
 impl Part {
-    /// A place that the type's reading asks about.
+    /// Returns a place that the type's decoder checks.
     pub(crate) fn read(role: Role, name: &'static str) -> Part {
         Part {
             role,
@@ -103,7 +105,7 @@ impl Part {
         }
     }
 
-    /// A place that is shown under names, and about which the type's reading doesn't ask.
+    /// Returns a place that is shown with names, and that the type's decoder doesn't check.
     pub(crate) fn named(role: Role, name: &'static str) -> Part {
         Part {
             role,
@@ -113,7 +115,8 @@ impl Part {
     }
 }
 
-/// The role of what a tag of this number encloses (RFC 8152, table 1; RFC 8392, section 6).
+/// Returns the role of the content of a tag (RFC 8152, table 1; RFC 9338, section 3.1; RFC 8392,
+/// section 6).
 pub(crate) fn under_tag(role: Role, number: u64) -> Role {
     if role == Role::Plain {
         return Role::Plain;
@@ -133,7 +136,7 @@ pub(crate) fn under_tag(role: Role, number: u64) -> Role {
     }
 }
 
-/// The place of a message with this number, from 0 on.
+/// Returns the place of a message at this index, counted from 0.
 fn message_place(message: Message, claims: bool, index: u64) -> Part {
     match (index, message) {
         (0, _) => Part::read(Role::Protected, "protected"),
@@ -148,7 +151,7 @@ fn message_place(message: Message, claims: bool, index: u64) -> Part {
     }
 }
 
-/// The place of the context of a key derivation with this number, from 0 on.
+/// Returns the place of a key derivation's context at this index, counted from 0.
 fn context_place(index: u64) -> Part {
     match index {
         0 => Part::read(Role::Algorithm, "AlgorithmID"),
@@ -159,7 +162,7 @@ fn context_place(index: u64) -> Part {
     }
 }
 
-/// The place of an array with this role and number, from 0 on.
+/// Returns the place of an array with this role at this index, counted from 0.
 pub(crate) fn place(role: Role, index: u64) -> Part {
     match (role, index) {
         (Role::Message(message, claims), _) => message_place(message, claims, index),
@@ -186,7 +189,8 @@ pub(crate) fn place(role: Role, index: u64) -> Part {
     }
 }
 
-/// The label of a map with this role, of whose key the type is known or not.
+/// Returns the place of a label in a map with this role. `key_type` is the type of a key, if it is
+/// known.
 pub(crate) fn label_of(role: Role, key_type: Option<i64>) -> Part {
     match role {
         Role::Header(protected) => Part::read(Role::HeaderLabel(protected), ""),
@@ -198,7 +202,7 @@ pub(crate) fn label_of(role: Role, key_type: Option<i64>) -> Part {
     }
 }
 
-/// The value of a header's label.
+/// Returns the place of the value under a header's label.
 fn header_value(label: i64) -> Part {
     match label {
         1 => Part::read(Role::Algorithm, ""),
@@ -215,7 +219,7 @@ fn header_value(label: i64) -> Part {
     }
 }
 
-/// The value of a key's label.
+/// Returns the place of the value under a key's label.
 fn key_value(label: i64, key_type: Option<i64>) -> Part {
     match label {
         1 => Part::read(Role::KeyType, ""),
@@ -230,7 +234,7 @@ fn key_value(label: i64, key_type: Option<i64>) -> Part {
     }
 }
 
-/// The value of a claim's name.
+/// Returns the place of the value under a claim's name.
 fn claim_value(name: i64) -> Part {
     match name {
         1 | 2 | 3 => Part::read(Role::Text, ""),
@@ -244,7 +248,8 @@ fn claim_value(name: i64) -> Part {
     }
 }
 
-/// The value of a label of a map with this role; without a label, of one that is no number.
+/// Returns the place of a value in a map with this role. `label` is `None` if the label is no
+/// integer.
 pub(crate) fn value_of(role: Role, label: Option<i64>, key_type: Option<i64>) -> Part {
     if role == Role::Submodules {
         return Part::named(Role::Submodule, "");
@@ -263,7 +268,7 @@ pub(crate) fn value_of(role: Role, label: Option<i64>, key_type: Option<i64>) ->
 }
 
 impl Part {
-    /// A place of which nothing is known.
+    /// Returns a place without a known name or role.
     fn without_names(self) -> Part {
         match self.role {
             Role::Plain => Part::named(Role::Plain, ""),
@@ -272,7 +277,7 @@ impl Part {
     }
 }
 
-/// What the standards call an array or a map with this role; it may be empty.
+/// Returns the standard's name for an array or a map with this role. It may be empty.
 pub(crate) fn title(role: Role) -> &'static str {
     match role {
         Role::Message(Message::Sign1, _) => "COSE_Sign1",
@@ -291,7 +296,7 @@ pub(crate) fn title(role: Role) -> &'static str {
     }
 }
 
-/// The name that a number with this role has in its registry.
+/// Returns the name that a number with this role has in its registry.
 pub(crate) fn name_of(role: Role, number: i64) -> Option<&'static str> {
     match role {
         Role::HeaderLabel(_) | Role::CriticalLabel => names::header_label(number),
@@ -307,7 +312,7 @@ pub(crate) fn name_of(role: Role, number: i64) -> Option<&'static str> {
     }
 }
 
-/// The name of an element of the claim `cnf` (RFC 8747, section 3.1).
+/// Returns the name of an element of the claim `cnf` (RFC 8747, section 3.1).
 fn confirmation(number: i64) -> Option<&'static str> {
     match number {
         1 => Some("COSE_Key"),
@@ -317,7 +322,7 @@ fn confirmation(number: i64) -> Option<&'static str> {
     }
 }
 
-/// Whether numbers with this role have names in a registry.
+/// Returns true if numbers with this role have names in a registry.
 pub(crate) fn is_registered(role: Role) -> bool {
     matches!(
         role,
@@ -333,7 +338,7 @@ pub(crate) fn is_registered(role: Role) -> bool {
     )
 }
 
-/// Whether a number with this role is left to private use.
+/// Returns true if a number with this role is for private use.
 pub(crate) fn is_private(role: Role, number: i64) -> bool {
     match role {
         Role::HeaderLabel(_) | Role::CriticalLabel => HeaderParameter::is_private(number),

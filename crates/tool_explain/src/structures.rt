@@ -1,4 +1,5 @@
-//! What a signature or a MAC of a message is over, and what goes with a ciphertext (RFC 8152, sections 4.4, 5.3 and 6.3).
+//! The structures that signatures and MACs cover, and those that go with ciphertexts (RFC 8152,
+//! sections 4.4, 5.3 and 6.3).
 
 ghost use Rattle.std.specs.Prelude.{IfOk, IfSome, option_and_then};
 ghost use Rattle.std.specs.List.{slice_get};
@@ -19,7 +20,7 @@ use coset::{
 };
 use std::alloc::{AllocError, Global};
 
-/// What is signed of a message with one signature.
+/// Returns the `Sig_structure` of a message with one signature, unless the payload is detached.
 fn of_sign1(alloc: Global, bytes: &[u8], external_aad: &[u8]) -> Result<Option<Vec<u8>>, CoseError>
     ensures { IfOk result (λ o. IfSome o (λ b. IsOver (perhaps_tagged 18 sign1)
         (λ m. over_payload (sign1_structure m external_aad.now) m.payload) bytes.now b.items)) }
@@ -32,7 +33,7 @@ fn of_sign1(alloc: Global, bytes: &[u8], external_aad: &[u8]) -> Result<Option<V
     }
 }
 
-/// What the signature of this index signs.
+/// Returns the `Sig_structure` of the signature at this index, unless the payload is detached.
 fn of_sign(
     alloc: Global,
     bytes: &[u8],
@@ -54,7 +55,8 @@ fn of_sign(
     }
 }
 
-/// What is authenticated of a message with a MAC and recipients.
+/// Returns the `MAC_structure` of a message with a MAC and recipients, unless the payload is
+/// detached.
 fn of_mac(alloc: Global, bytes: &[u8], external_aad: &[u8]) -> Result<Option<Vec<u8>>, CoseError>
     ensures { IfOk result (λ o. IfSome o (λ b. IsOver (perhaps_tagged 97 mac)
         (λ m. over_payload (mac_structure_of m external_aad.now) m.payload) bytes.now b.items)) }
@@ -63,7 +65,7 @@ fn of_mac(alloc: Global, bytes: &[u8], external_aad: &[u8]) -> Result<Option<Vec
     message.tbm(alloc, external_aad)
 }
 
-/// What is authenticated of a message with a MAC.
+/// Returns the `MAC_structure` of a message with a MAC, unless the payload is detached.
 fn of_mac0(alloc: Global, bytes: &[u8], external_aad: &[u8]) -> Result<Option<Vec<u8>>, CoseError>
     ensures { IfOk result (λ o. IfSome o (λ b. IsOver (perhaps_tagged 17 mac0)
         (λ m. over_payload (mac0_structure m external_aad.now) m.payload) bytes.now b.items)) }
@@ -72,7 +74,7 @@ fn of_mac0(alloc: Global, bytes: &[u8], external_aad: &[u8]) -> Result<Option<Ve
     message.tbm(alloc, external_aad)
 }
 
-/// What goes with the ciphertext of an encrypted message with recipients.
+/// Returns the `Enc_structure` of an encrypted message with recipients.
 fn of_encrypt(alloc: Global, bytes: &[u8], external_aad: &[u8]) -> Result<Vec<u8>, CoseError>
     ensures { IfOk result (λ b. IsOver (perhaps_tagged 96 encrypt)
         (λ m. encrypt_structure_of m external_aad.now) bytes.now b.items) }
@@ -81,7 +83,7 @@ fn of_encrypt(alloc: Global, bytes: &[u8], external_aad: &[u8]) -> Result<Vec<u8
     message.aad(alloc, external_aad)
 }
 
-/// What goes with the ciphertext of an encrypted message.
+/// Returns the `Enc_structure` of an encrypted message.
 fn of_encrypt0(alloc: Global, bytes: &[u8], external_aad: &[u8]) -> Result<Vec<u8>, CoseError>
     ensures { IfOk result (λ b. IsOver (perhaps_tagged 16 encrypt0)
         (λ m. encrypt0_structure m external_aad.now) bytes.now b.items) }
@@ -90,7 +92,7 @@ fn of_encrypt0(alloc: Global, bytes: &[u8], external_aad: &[u8]) -> Result<Vec<u
     message.aad(alloc, external_aad)
 }
 
-/// The structure of bytes of a kind that is named.
+/// Returns the structure for a kind by name, without a look at the tag.
 fn of_named(
     alloc: Global,
     kind: Kind,
@@ -112,14 +114,22 @@ fn of_named(
     }
 }
 
-/// What the signature or the MAC of a message is over, or what goes with its ciphertext: the shortest encoding of its
-/// `Sig_structure`, `MAC_structure` or `Enc_structure` with this `external_aad`, and with protected headers as they were
-/// received (RFC 8152, sections 4.4, 5.3 and 6.3). Of a message with several signatures it is what the one of that index
-/// signs, counted from 0; other kinds have no use for `index`. `None` where the bytes aren't a message of the kind, where
-/// the payload is detached, and where there are no more than `index` signatures.
+/// Returns the structure that a message's signature or MAC covers, or that goes with its
+/// ciphertext.
+///
+/// It is the shortest encoding of the `Sig_structure`, `MAC_structure` or `Enc_structure` (RFC
+/// 8152, sections 4.4, 5.3 and 6.3). It has this `external_aad`, and the protected headers as they
+/// were received. In a message with several signatures, `index` chooses the signature, counted from
+/// 0. Other kinds ignore `index`.
+///
+/// Returns `None` in these cases:
+///
+/// - The bytes aren't a message of the kind.
+/// - The payload is detached.
+/// - The message has no signature at `index`.
 ///
 /// # Errors
-/// `AllocError` alone.
+/// `AllocError` if an allocation fails.
 pub fn structure(
     alloc: Global,
     kind: Kind,
@@ -138,10 +148,10 @@ pub fn structure(
     }
 }
 
-/// Of so many signatures it is shown what they sign.
+/// The most signatures whose structures are shown.
 const SHOWN: usize = 4;
 
-/// What the structure of a message of that kind is called; it is empty of another kind.
+/// Returns the name of the structure of a message of this kind. It is empty for another kind.
 fn title(kind: Kind) -> &'static str {
     match kind {
         Kind::Sign1 | Kind::Sign => "ToBeSigned",
@@ -151,7 +161,7 @@ fn title(kind: Kind) -> &'static str {
     }
 }
 
-/// What there is to say of a message's structure with that index: its title and its bytes.
+/// Returns the text about the structure at this index: its title and its bytes.
 fn note(
     alloc: Global,
     kind: Kind,
@@ -173,11 +183,11 @@ fn note(
     Ok(note)
 }
 
-/// What the signatures or the MAC of a message are over, or what goes with its ciphertext, in words, one for each of up to four
-/// signatures; nothing where [`structure`] returns `None`.
+/// Returns the message's structures as text, one for each of at most four signatures. The list is
+/// empty if [`structure`] returns `None`.
 ///
 /// # Errors
-/// `AllocError` alone.
+/// `AllocError` if an allocation fails.
 pub fn structure_notes(
     alloc: Global,
     kind: Kind,
@@ -196,10 +206,10 @@ pub fn structure_notes(
     Ok(notes)
 }
 
-/// The same as comments for under the lines.
+/// Returns the same as comments, to be shown under the lines.
 ///
 /// # Errors
-/// `AllocError` alone.
+/// `AllocError` if an allocation fails.
 pub fn annotated_structures(
     alloc: Global,
     kind: Kind,

@@ -1,17 +1,17 @@
-//! Diagnostic notation of what has no parts (RFC 8949, section 8).
+//! Diagnostic notation of items without parts (RFC 8949, section 8; RFC 8610, appendix G.2).
 
 use crate::head::{argument, is_shortest};
 use coset::cbor::head::{Head, MajorType};
 use coset::cbor::value::Float;
 use std::alloc::{AllocError, Global};
 
-/// Whether each byte is a printable character of ASCII, and there is one.
+/// Returns true if there are bytes, and each is a printable ASCII character.
 fn is_printable(bytes: &[u8]) -> bool {
     !bytes.is_empty() && bytes.iter().all(|b| b' ' <= *b && *b <= b'~')
 }
 
-/// Whether a terminal shows the character in its own place: no control character, and none that turns the direction of
-/// writing.
+/// Returns true if a terminal shows the character in its own place. It is then no control
+/// character, and doesn't change the direction of writing.
 fn is_shown(c: char) -> bool {
     !c.is_control()
         && !('\u{200b}'..='\u{200f}').contains(&c)
@@ -44,7 +44,7 @@ fn push_text(text: &mut String, content: &[u8]) -> Result<(), AllocError> {
     }
 }
 
-/// Adds a byte string, or a chunk of one: as a text where all of it is printable.
+/// Adds a byte string, or a chunk of one. It is shown as text if all of it is printable.
 fn push_bytes(alloc: Global, text: &mut String, content: &[u8]) -> Result<(), AllocError> {
     if is_printable(content) {
         return match str::from_utf8(content) {
@@ -66,7 +66,7 @@ fn push_negative(text: &mut String, number: u64) -> Result<(), AllocError> {
     }
 }
 
-/// A float with this head.
+/// Returns the float with this head.
 pub(crate) fn float(head: &Head) -> Float {
     let bits = argument(head);
     match head.width() {
@@ -101,7 +101,8 @@ fn push_simple(text: &mut String, number: u64) -> Result<(), AllocError> {
     }
 }
 
-/// The width of a head that is shown: of one that isn't the shortest, and of a float's; else 0.
+/// Returns the width of a head if it is shown, otherwise 0. It is shown for a head that isn't the
+/// shortest, and for a float.
 pub(crate) fn told_width(head: &Head) -> u8 {
     if !head.is_float() && is_shortest(head) {
         0
@@ -110,7 +111,7 @@ pub(crate) fn told_width(head: &Head) -> u8 {
     }
 }
 
-/// How a width is shown (RFC 8949, section 8.1); it may be empty.
+/// Returns the encoding indicator of a width (RFC 8949, section 8.1). It may be empty.
 pub(crate) fn width_mark(width: u8) -> &'static str {
     match width {
         1 => "_0",
@@ -121,11 +122,11 @@ pub(crate) fn width_mark(width: u8) -> &'static str {
     }
 }
 
-/// Adds an item without parts, or an array, a map or a string in chunks in which there is nothing, whose head this is, and
-/// whose content.
+/// Adds an item without parts, or an empty array, map or string in chunks. `content` is that of a
+/// string.
 ///
 /// # Errors
-/// `AllocError` alone.
+/// `AllocError` if an allocation fails.
 pub(crate) fn push_leaf(
     alloc: Global,
     text: &mut String,

@@ -1,5 +1,5 @@
-//! The walk over the input, a head at a time. What is open is kept in a list, so that the input doesn't choose how much
-//! stack this takes.
+//! The walk over the input, one head at a time. The open frames are in a list, so that the input
+//! doesn't choose how much stack the walk takes.
 
 ghost use Rattle.std.specs.Prelude.{◌≡◌, ◌≤◌, ◌+◌, ◌*◌, IfOk, OnOk};
 ghost use Rattle.tool_explain.specs.Column.{whole, shown};
@@ -20,39 +20,39 @@ use coset::cbor::de::Pull;
 use coset::cbor::head::{Head, read_head};
 use std::alloc::{AllocError, Global};
 
-/// How many are open of which a key of a set is the next item: the input and the set.
+/// The number of open frames if the next item is a key of a set: the input and the set.
 const KEYS: usize = 2;
 
-/// How many byte strings inside one another are opened for the messages and claims that they hold.
+/// The most nested byte strings that are opened for their messages and claims.
 const OPENINGS: u32 = 16;
 
-/// A place in the walk.
+/// The state of the walk.
 #[derive(Drop)]
 pub(crate) struct Walk<'a, 'e> {
-    /// All of the input.
+    /// The whole input.
     pub(crate) bytes: &'a [u8],
     pub(crate) column: Column<'a>,
-    /// What is open, from the input on; where the walk ended for a fault, the last is where that is.
+    /// The open frames, from the input on. If the walk ended at a fault, the last frame has it.
     pub(crate) open: Vec<Frame>,
-    /// What is sought.
+    /// The search for the fault.
     pub(crate) hunt: Hunt<'e>,
-    /// The moment at which the token is looked at, in seconds since 1970 began.
+    /// The moment for which a token's times are judged, in seconds since 1970 began.
     now: Option<i64>,
-    /// What is at fault at the place, where the walk ended for that.
+    /// The fault at which the walk ended, if it did.
     pub(crate) fault: Option<Fault>,
-    /// Whether it goes on behind faults where that can be.
+    /// Whether the walk goes on after a fault if it can.
     goes_on: bool,
-    /// Where the first fault is that it went on behind, and which it is.
+    /// The offset and the kind of the first fault after which the walk went on.
     pub(crate) first: Option<(usize, Fault)>,
-    /// Why each key of a set is none, where it isn't.
+    /// The error of each key of a set; `None` for a key that is accepted.
     keys: &'e [Option<CoseError>],
-    /// How many bytes of the input are behind the key that was begun last.
+    /// The number of input bytes after the key that was begun last.
     behind_key: usize,
-    /// Whether what is left of that key comes next.
+    /// Whether the rest of that key comes next.
     skips_key: bool,
 }
 
-/// The bytes from the place on that what is open may still take.
+/// Returns the bytes from the position on that belong to the frame.
 fn within<'a>(column: &Column<'a>, frame: &Frame) -> &'a [u8] {
     let ahead = column.ahead();
     let (bytes, _) = ahead.split_at(ahead.len().saturating_sub(frame.behind));
@@ -60,7 +60,7 @@ fn within<'a>(column: &Column<'a>, frame: &Frame) -> &'a [u8] {
 }
 
 impl<'a, 'e> Walk<'a, 'e> {
-    /// The front of the bytes, which are for that.
+    /// Begins a walk at the front of the bytes, which have this role.
     pub(crate) fn new(
         alloc: Global,
         bytes: &'a [u8],
@@ -89,7 +89,8 @@ impl<'a, 'e> Walk<'a, 'e> {
         })
     }
 
-    /// The same, in a walk that opens what byte strings hold, and goes on behind faults; the keys of a set have these.
+    /// Begins a walk that opens the content of byte strings, and goes on after faults. `keys` are
+    /// the errors of the keys of a set.
     pub(crate) fn through(
         alloc: Global,
         bytes: &'a [u8],
@@ -119,10 +120,10 @@ impl<'a, 'e> Walk<'a, 'e> {
         })
     }
 
-    /// Shows the next head, or the end of what is open, and says whether the walk goes on.
+    /// Shows the next head, or the end of a container. Returns true if the walk goes on.
     ///
     /// # Errors
-    /// `AllocError` alone.
+    /// `AllocError` if an allocation fails.
     pub(crate) fn step(&mut self, alloc: Global) -> Result<bool, AllocError>
         ensures whole { OnOk result (whole self.new.column ≡ whole self.old.column) }
         ensures lines { OnOk result (shown self.new.column ≤ shown self.old.column + 1) }
@@ -143,7 +144,7 @@ impl<'a, 'e> Walk<'a, 'e> {
         }
     }
 
-    /// Ends the walk at this place.
+    /// Ends the walk at this fault.
     fn stop(&mut self, frame: Frame, fault: Fault) -> Result<bool, AllocError>
         ensures column { self.new.column ≡ self.old.column }
     {
@@ -152,7 +153,7 @@ impl<'a, 'e> Walk<'a, 'e> {
         Ok(false)
     }
 
-    /// Shows the end of what is open.
+    /// Shows the end of a container.
     fn close(&mut self, alloc: Global, frame: Frame, bytes: &[u8]) -> Result<bool, AllocError>
         ensures whole { OnOk result (whole self.new.column ≡ whole self.old.column) }
         ensures lines { OnOk result (shown self.new.column ≤ shown self.old.column + 1) }
@@ -177,7 +178,7 @@ impl<'a, 'e> Walk<'a, 'e> {
         Ok(true)
     }
 
-    /// What follows what was closed.
+    /// Returns the separator after the container that was closed.
     fn mark_behind(&self) -> &'static str {
         match self.open.last() {
             Some(frame) => frame.mark(within(&self.column, frame)),
@@ -185,8 +186,8 @@ impl<'a, 'e> Walk<'a, 'e> {
         }
     }
 
-    /// The fault of an item with this head at the front of these bytes, of which `rest` are behind the head: one of CBOR, or
-    /// the one that is sought.
+    /// Returns the fault of the item at the front of the bytes: one of CBOR, or the one that is
+    /// searched for. `rest` are the bytes after its head.
     fn fault_of(
         &mut self,
         alloc: Global,
@@ -206,7 +207,8 @@ impl<'a, 'e> Walk<'a, 'e> {
         }
     }
 
-    /// Looks for the fault of the key of a set that is at the front of the bytes, as an element of this.
+    /// Begins the search for the fault of a set's key, which is at the front of the bytes and in
+    /// this frame.
     fn begin_key(&mut self, alloc: Global, frame: &Frame, bytes: &[u8])
         ensures column { self.new.column ≡ self.old.column }
     {
@@ -219,7 +221,7 @@ impl<'a, 'e> Walk<'a, 'e> {
         }
     }
 
-    /// Shows an item with this head at the front of these bytes, of which `rest` are behind the head, or its fault.
+    /// Shows the item at the front of the bytes, or its fault. `rest` are the bytes after its head.
     fn item(
         &mut self,
         alloc: Global,
@@ -247,7 +249,7 @@ impl<'a, 'e> Walk<'a, 'e> {
         }
     }
 
-    /// Adds to the front of the note that there is a fault in the next item of this.
+    /// Puts the fault in the next item of the frame at the front of the note.
     fn note_fault(&mut self, alloc: Global, frame: &Frame, fault: Fault) -> Result<(), AllocError>
         ensures whole { OnOk result (whole self.new.column ≡ whole self.old.column) }
         ensures lines { OnOk result (shown self.new.column ≡ shown self.old.column) }
@@ -276,13 +278,13 @@ impl<'a, 'e> Walk<'a, 'e> {
         Ok(())
     }
 
-    /// Whether the next item of this is a key of a set, or in one.
+    /// Returns true if the next item of the frame is a key of a set, or is in one.
     fn is_in_key(&self, frame: &Frame) -> bool {
         frame.is_key_set() || self.open.iter().any(|outer| outer.is_key_set())
     }
 
-    /// Ends what is shown of a key of a set, with a fault in the next item of this, whose head this is, and from which on there
-    /// are so many bytes.
+    /// Ends a key of a set at a fault in the next item of the frame. That item has this head, and
+    /// `left` bytes are from it on.
     fn end_key(
         &mut self,
         alloc: Global,
@@ -309,7 +311,7 @@ impl<'a, 'e> Walk<'a, 'e> {
         Ok(true)
     }
 
-    /// Shows what is left of a key of a set.
+    /// Shows the rest of a key of a set.
     fn skip_key(&mut self, alloc: Global) -> Result<bool, AllocError>
         ensures whole { OnOk result (whole self.new.column ≡ whole self.old.column) }
         ensures lines { OnOk result (shown self.new.column ≤ shown self.old.column + 1) }
@@ -321,7 +323,7 @@ impl<'a, 'e> Walk<'a, 'e> {
         Ok(true)
     }
 
-    /// Shows an item with this head at the front of these bytes, of which `rest` are behind the head.
+    /// Shows the item at the front of the bytes. `rest` are the bytes after its head.
     fn show(
         &mut self,
         alloc: Global,
@@ -363,7 +365,7 @@ impl<'a, 'e> Walk<'a, 'e> {
         self.column.hold(head.size());
         self.column.hold(content.len());
         if head.is_indefinite() {
-            // A string in chunks, of which there are none: what ends it.
+            // The break of a string without chunks.
             self.column.hold(1);
         }
         let mark = passed.mark(within(&self.column, &passed));
@@ -397,11 +399,11 @@ impl<'a, 'e> Walk<'a, 'e> {
         Ok(true)
     }
 
-    /// Walks to the end of what can be shown of so many bytes: each step shows a byte at least, or closes what was opened
-    /// with one.
+    /// Walks over `count` bytes, as far as they can be shown. Each step shows at least one byte, or
+    /// closes a container that a byte opened.
     ///
     /// # Errors
-    /// `AllocError` alone.
+    /// `AllocError` if an allocation fails.
     pub(crate) fn run(&mut self, alloc: Global, count: usize) -> Result<(), AllocError>
         ensures whole { OnOk result (whole self.new.column ≡ whole self.old.column) }
         ensures lines { OnOk result (shown self.new.column
@@ -415,10 +417,10 @@ impl<'a, 'e> Walk<'a, 'e> {
         Ok(())
     }
 
-    /// Ends the line that was begun, if one was.
+    /// Ends the line that was begun, if there is one.
     ///
     /// # Errors
-    /// `AllocError` alone.
+    /// `AllocError` if an allocation fails.
     pub(crate) fn end_line(&mut self, alloc: Global) -> Result<(), AllocError>
         ensures whole { OnOk result (whole self.new.column ≡ whole self.old.column) }
         ensures lines { OnOk result (shown self.new.column ≤ shown self.old.column + 1) }

@@ -16,7 +16,7 @@ front_syntax t i zero fault = go fault.0 fault.1 fault.2 fault.3 fault.4
     go [] s parts at found = subst (λ (b : List ℕ). SyntaxAt [] b) (sym parts) found
     go (x ∷ c) s parts at found = absurd (omega (arith, at, zero))
 
--- more is announced than is there
+-- The head announces more than there is.
 pub lacks : (t : List ℕ) (h : Head) (rest : List ℕ) → BeginsWithHead t h rest → AnnouncesMore h (length rest) → LacksContent t
 lacks t h rest b (n, is, more) = record {
   m = major_type_number h.major_type;

@@ -1,11 +1,11 @@
--- Steps one after the other.
+-- Several steps, one after another.
 use Rattle.std.proofs.Common.{◌≡◌, ℕ, ◌+◌, ◌≤◌, List, [], ◌∷◌, ◌++◌, length, refl, ap, subst, arith}
 use Rattle.std.proofs.lemmas.List.{length-append}
 use Rattle.tool_fault.specs.Steps.{Goes, Leads, Splits}
 use Rattle.tool_fault.specs.declared.step.Step.{Step}
 use Rattle.tool_fault.specs.declared.step.Step.TheVariants.{Element, Key, Value, Enclosed, ByteChunk, TextChunk, Content, Behind}
 
--- one more step
+-- Following one more step.
 pub leads_on :
     (steps : List Step) (step : Step) (b s t : List ℕ) (n k m : ℕ) → Leads steps b n s → Goes step s k t → m ≡ n + k → Leads (steps ++ step ∷ []) b m t
 leads_on [] step b s t n k m (none, same) goes sum =
@@ -16,7 +16,7 @@ leads_on (first ∷ steps) step b s t n k m (i, j, mid, goes_first, leads, total
 split_within : (P : List ℕ → Type 0) (b s : List ℕ) (n : ℕ) → Splits P b n s → n + length s ≡ length b
 split_within P b s n (o, parts, len, is) = omega (arith, ap length parts, length-append o s, len)
 
--- a step leads no farther than to the end
+-- A step leads no farther than to the end.
 goes_within : (step : Step) (b s : List ℕ) (n : ℕ) → Goes step b n s → n + length s ≤ length b
 goes_within (Element i) b s n goes = omega (arith, split_within _ b s n goes)
 goes_within (Key i) b s n goes = omega (arith, split_within _ b s n goes)
@@ -27,7 +27,7 @@ goes_within (TextChunk i) b s n goes = omega (arith, split_within _ b s n goes)
 goes_within Content b s n (o, rest, parts, len, is) = omega (arith, ap length parts, length-append o (s ++ rest), length-append s rest, len)
 goes_within Behind b s n goes = omega (arith, split_within _ b s n goes)
 
--- and steps neither
+-- Several steps lead no farther than to the end.
 pub leads_within : (steps : List Step) (b t : List ℕ) (n : ℕ) → Leads steps b n t → n + length t ≤ length b
 leads_within [] b t n (none, same) = omega (arith, none, ap length same)
 leads_within (step ∷ steps) b t n (i, j, mid, goes, leads, total) =

@@ -1,4 +1,4 @@
--- Elements behind a head, one after the other.
+-- The elements after a head.
 use Rattle.std.proofs.Common.{◌≡◌, ℕ, suc, ◌+◌, ◌-◌, List, [], ◌∷◌, ◌++◌, length, Option, Some, refl, sym, ap, subst, ◌∙◌, append_assoc, arith}
 use Rattle.std.proofs.Common.{inl, inr}
 use Rattle.std.proofs.lemmas.List.{append-nil, length-append}
@@ -11,7 +11,7 @@ use Rattle.coset.specs.MajorType.TheVariants.{Tag, Bytes}
 use Rattle.coset.specs.ReadHeads.{BeginsWithHead, IsHeadOf, head_number, initial_byte, width_of}
 use Rattle.tool_fault.specs.Steps.{Announces, Encloses, Holds, Opening, Opens, Passes, Splits}
 
--- one more at the end
+-- The items, and one more after them.
 abbrev and_item : Items → Item → Items
 and_item no_items v = item v no_items
 and_item (item w ws) v = item w (and_item ws v)
@@ -39,7 +39,7 @@ passes_one b n r p s v before is parts = record {
 
 -- ---- where steps lead
 
--- a head with that argument
+-- A head with this argument.
 pub is_headed :
     (b : List ℕ) (h : Head) (rest : List ℕ) (n : ℕ) (w : BeginsWithHead b h rest) → head_number h ≡ Some n
     → IsHead (major_type_number h.major_type) n (initial_byte h ∷ w.argument)

@@ -1,4 +1,4 @@
--- What errors call an item that isn't as its place asks.
+-- The names that errors give to unexpected items.
 use Rattle.std.specs.Prelude.{◌≡◌, ℕ, List, [], Some, codes}
 use Rattle.coset.specs.Answers.{DescribesNothing}
 use Rattle.coset.specs.Fields.{IsMediaType}
@@ -8,11 +8,12 @@ use Rattle.coset.specs.Keys.{key}
 use Rattle.coset.specs.Kinds.{kind}
 use Rattle.coset.specs.Parts.{as_array, as_bytes, as_text}
 
--- a text that names no media type
+-- A text that is no media type.
 abbrev pub IsNoMediaType : Item → Type 0
 IsNoMediaType v = (s : List ℕ) × (as_text v ≡ Some s) × (IsMediaType s → ⊥)
 
--- so errors call the item v, whose encoding is b: by the name of its kind, or by what it lacks
+-- The name that errors give to the item v with the encoding b. It is the item's kind, or says that something is
+-- missing.
 pub data IsCalled : List ℕ → List ℕ → Item → Type 0 where
   by_kind : (b : List ℕ) (v : Item) → IsCalled (kind v) b v
   no_bytes : (b : List ℕ) (v : Item) → as_bytes v ≡ Some [] → IsCalled (codes "empty bstr") b v

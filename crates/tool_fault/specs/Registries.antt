@@ -1,4 +1,4 @@
--- Numbers without a name in registries of IANA (RFC 8152, section 16).
+-- Numbers without a name in IANA registries (RFC 8152, section 16).
 use Rattle.std.specs.Prelude.{◌≡◌, ◌⊎◌, ℤ, Option, Some, None, false}
 use Rattle.coset.specs.Item.{Item}
 use Rattle.coset.specs.Parts.{as_integer}
@@ -16,18 +16,19 @@ use Rattle.coset_iana.specs.declared.content_formats.TheConstants.{COAP_CONTENT_
 use Rattle.coset_iana.specs.declared.headers.TheConstants.{HEADER_PARAMETERS}
 use Rattle.coset_iana.specs.declared.keys.TheConstants.{KEY_OPERATIONS, KEY_TYPES}
 
--- none of the values of the registry has the number
+-- None of the registry's values has this number.
 abbrev pub HasNoName : {T : Type 0} → (ℤ → Option T) → ℤ → Type 0
 HasNoName value_of z = value_of z ≡ None
 
--- an integer without a name in the registry of formats of content, of types of keys, or of operations
+-- An integer without a name in the registry of content formats, of key types, or of key operations.
 abbrev pub IsUnassigned : Item → Type 0
 IsUnassigned v =
     (z : ℤ) × (as_integer v ≡ Some z)
     × (HasNoName (first_numbered formats.number COAP_CONTENT_FORMATS) z
     ⊎ (HasNoName (first_numbered key_types.number KEY_TYPES) z ⊎ HasNoName (first_numbered operations.number KEY_OPERATIONS) z))
 
--- an integer that isn't for private use, and without a name in the registry of algorithms, of header parameters, or of claims
+-- An integer outside the private range, without a name in the registry of algorithms, of header parameters, or of
+-- claims.
 abbrev pub IsUnassignedAndNotPrivate : Item → Type 0
 IsUnassignedAndNotPrivate v =
     (z : ℤ) × (as_integer v ≡ Some z) × (is_private_use z ≡ false)

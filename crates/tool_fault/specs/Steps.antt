@@ -8,7 +8,7 @@ use Rattle.coset.specs.ReadHeads.{head_number}
 use Rattle.tool_fault.specs.declared.step.Step.{Step}
 use Rattle.tool_fault.specs.declared.step.Step.TheVariants.{Element, Key, Value, Enclosed, ByteChunk, TextChunk, Content, Behind}
 
--- so many items are at the front of b, and s behind them
+-- `count` items are at the front of b, followed by s.
 pub record Passes (b : List ℕ) (count : ℕ) (s : List ℕ) : Type 0 where
   pub items : Items
   pub encodings : List ℕ
@@ -16,12 +16,13 @@ pub record Passes (b : List ℕ) (count : ℕ) (s : List ℕ) : Type 0 where
   pub number : items_count items ≡ count
   pub parts : b ≡ encodings ++ s
 
--- h is a head of major type m behind which the item with that index follows, of a map each key and each value counted: it announces more
--- items than that, or no length
+-- h is a head of major type m, and an item at index i follows it. Keys and values of a map count one each. h announces
+-- more than i items, or has an indefinite length.
 abbrev pub Opening : ℕ → ℕ → List ℕ → Type 0
 Opening m i h = ((n : ℕ) × IsHead m n h × (((m ≡ 4) × (i < n)) ⊎ ((m ≡ 5) × (i < 2 * n)))) ⊎ (h ≡ (32 * m + 31) ∷ [])
 
--- o opens an array (type 4), a map (5) or a string in chunks (2, 3), and then has i of its elements, not all
+-- o is the head of an array (major type 4), a map (5) or an indefinite-length string (2, 3), and then i elements. The
+-- head announces more than these, or has an indefinite length.
 pub record Opens (m i : ℕ) (o : List ℕ) : Type 0 where
   pub head : List ℕ
   pub opening : Opening m i head
@@ -29,30 +30,30 @@ pub record Opens (m i : ℕ) (o : List ℕ) : Type 0 where
   pub passes : Passes members i []
   pub parts : o ≡ head ++ members
 
--- the head announces that element
+-- The head announces an element at index i, or has an indefinite length.
 abbrev pub Announces : Head → ℕ → Type 0
 Announces h i =
     (head_number h ≡ None)
     ⊎ ((n : ℕ) × (head_number h ≡ Some n)
     × (((major_type_number h.major_type ≡ 4) × (i < n)) ⊎ ((major_type_number h.major_type ≡ 5) × (i < 2 * n))))
 
--- b is o and then s, of which P holds, and o are n bytes
+-- b is o followed by s. P holds of o, which has n bytes.
 abbrev pub Splits : (List ℕ → Type 0) → List ℕ → ℕ → List ℕ → Type 0
 Splits P b n s = (o : List ℕ) × (b ≡ o ++ s) × (length o ≡ n) × P o
 
--- o is the head of a tag
+-- o is the head of a tag.
 abbrev pub Encloses : List ℕ → Type 0
 Encloses o = (t : ℕ) × IsHead 6 t o
 
--- o is an item, and something follows it
+-- o is an item, and something follows it.
 abbrev pub IsFront : List ℕ → List ℕ → Type 0
 IsFront s o = ((v : Item) × IsItem o v) × (s ≢ [])
 
--- b begins with a byte string of announced length that holds s, behind a head of n bytes
+-- b begins with a definite-length byte string. Its head has n bytes, and its content is s.
 abbrev pub Holds : List ℕ → ℕ → List ℕ → Type 0
 Holds b n s = (o : List ℕ) × (rest : List ℕ) × (b ≡ o ++ (s ++ rest)) × (length o ≡ n) × IsHead 2 (length s) o
 
--- from the item at the front of b the step leads n bytes on, to the front of s
+-- From the item at the front of b, the step leads n bytes on, to the front of s.
 abbrev pub Goes : Step → List ℕ → ℕ → List ℕ → Type 0
 Goes (Element i) b n s = Splits (Opens 4 i) b n s
 Goes (Key i) b n s = Splits (Opens 5 (i * 2)) b n s
@@ -63,14 +64,15 @@ Goes (TextChunk i) b n s = Splits (Opens 3 i) b n s
 Goes Content b n s = Holds b n s
 Goes Behind b n s = Splits (IsFront s) b n s
 
--- one after the other the steps lead n bytes on, to the front of t
+-- One after another, the steps lead n bytes on, to the front of t.
 abbrev pub Leads : List Step → List ℕ → ℕ → List ℕ → Type 0
 Leads [] b n t = (n ≡ 0) × (t ≡ b)
 Leads (step ∷ steps) b n t = (k : ℕ) × (m : ℕ) × (s : List ℕ) × Goes step b k s × Leads steps s m t × (n ≡ k + m)
 
--- ---- how deep
+-- ---- depth
 
--- how many arrays, maps and tags the steps lead into, since the last byte string whose content they lead to
+-- The number of steps into arrays, maps, tags and indefinite-length strings. A step into the content of a byte string
+-- resets it to 0.
 abbrev pub levels_from : ℕ → List Step → ℕ
 levels_from n [] = n
 levels_from n (Content ∷ steps) = levels_from 0 steps
@@ -80,7 +82,7 @@ levels_from n (step ∷ steps) = levels_from (suc n) steps
 abbrev pub levels : List Step → ℕ
 levels steps = levels_from 0 steps
 
--- how many byte strings they lead into
+-- The number of steps into the content of a byte string.
 abbrev pub layers : List Step → ℕ
 layers [] = 0
 layers (Content ∷ steps) = suc (layers steps)

@@ -1,4 +1,4 @@
-//! Labels at places.
+//! Labels at the front of bytes.
 
 ghost use Rattle.std.specs.Prelude.{IfOk, IfSome, IsTrue, pos};
 ghost use Rattle.coset.specs.Labels.{label};
@@ -9,7 +9,7 @@ use coset::cbor::de::Pull;
 use coset::{CborSerializable, CoseError, Label};
 use std::alloc::{AllocError, Global};
 
-/// The label at the front of the bytes; `None` where none is there.
+/// Returns the label at the front of the bytes, or `None` if there is none.
 fn label_at(alloc: Global, bytes: &[u8]) -> Result<Option<Label>, AllocError>
     ensures { IfOk result (λ o. IfSome o (λ l. Stands (IsLabel l) bytes.now)) }
 {
@@ -23,7 +23,7 @@ fn label_at(alloc: Global, bytes: &[u8]) -> Result<Option<Label>, AllocError>
     }
 }
 
-/// Whether one label is at the front of both.
+/// Returns true if the same label is at the front of both.
 pub(crate) fn are_same(alloc: Global, one: &[u8], other: &[u8]) -> Result<bool, AllocError>
     ensures { IfOk result (λ b. IsTrue b → StandTogether SameLabel one.now other.now) }
 {
@@ -36,7 +36,7 @@ pub(crate) fn are_same(alloc: Global, one: &[u8], other: &[u8]) -> Result<bool, 
     Ok(first == second)
 }
 
-/// Whether the label with this number is at the front of the bytes.
+/// Returns true if the label with this number is at the front of the bytes.
 fn is_number(alloc: Global, bytes: &[u8], number: i64) -> Result<bool, AllocError>
     ensures { IfOk result (λ b. IsTrue b → Stands (label_is number) bytes.now) }
 {
@@ -46,7 +46,8 @@ fn is_number(alloc: Global, bytes: &[u8], number: i64) -> Result<bool, AllocErro
     }
 }
 
-/// Whether IV is at the front of the one and Partial IV at that of the other (RFC 8152, section 3.1).
+/// Returns true if IV is at the front of one and Partial IV at the front of the other (RFC 8152,
+/// section 3.1).
 pub(crate) fn are_both_ivs(alloc: Global, one: &[u8], other: &[u8]) -> Result<bool, AllocError>
     ensures { IfOk result (λ b. IsTrue b → StandTogether BothIvs one.now other.now) }
 {

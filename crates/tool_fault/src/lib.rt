@@ -1,4 +1,5 @@
-//! Where a fault is in bytes: places, the steps that lead to them, and whether what an error names is there.
+//! Places of faults in bytes: the steps that lead to a place, and whether an error's fault is
+//! there.
 #![tactic(auto)]
 
 mod label;

@@ -1,4 +1,4 @@
-//! Faults of CBOR, where they are (RFC 8949, section 5.3).
+//! CBOR faults at the front of bytes (RFC 8949, sections 3 and 5.3.1, and appendices C and F).
 
 ghost use Rattle.std.specs.Prelude.{◌≡◌, IsTrue, []};
 ghost use Rattle.coset.specs.Faults.{Ends, IsNotSupported, Nests, NoChunk, SyntaxAt};
@@ -10,13 +10,14 @@ use coset::EndOfFile;
 use coset::cbor::de::{Error, Pull};
 use coset::cbor::head::{Head, MajorType, read_head};
 
-/// How deep arrays, maps and tags may nest in one item.
+/// The most levels of arrays, maps and tags in one item.
 const LEVELS: usize = 256;
 
-/// How many byte strings may lie inside one another, each with an item of its own as its content.
+/// The most nested byte strings, each with an item of its own as its content.
 const LAYERS: usize = 16;
 
-/// Whether the bytes end before the head at the front does, or before what it announces.
+/// Returns true if the bytes end before the head at the front is complete, or the content that it
+/// announces.
 fn ends(bytes: &[u8]) -> bool
     ensures { IsTrue result → Ends bytes.now }
 {
@@ -29,7 +30,7 @@ fn ends(bytes: &[u8]) -> bool
     }
 }
 
-/// Whether the head announces more than so many bytes can be.
+/// Returns true if the head announces more than `left` bytes can contain.
 fn announces_more(head: Head, left: usize) -> bool
     ensures { IsTrue result → AnnouncesMore head left }
 {
@@ -45,7 +46,7 @@ fn announces_more(head: Head, left: usize) -> bool
     }
 }
 
-/// Whether the chunk of a byte string, or of a text string, can't begin so.
+/// Returns true if the first byte is neither the start of a chunk of the string nor the break.
 fn begins_no_chunk(is_text: bool, bytes: &[u8]) -> bool
     ensures { IsTrue result → NoChunk is_text bytes.now }
 {
@@ -56,7 +57,8 @@ fn begins_no_chunk(is_text: bool, bytes: &[u8]) -> bool
     *first != 255 && !(*first / 32 == major_type && *first % 32 <= 27)
 }
 
-/// Whether the step leads to a chunk, and no chunk begins as the bytes do.
+/// Returns true if the step leads to a chunk, and the first byte is neither its start nor the
+/// break.
 fn begins_no_chunk_there(last: Option<Step>, bytes: &[u8]) -> bool
     ensures { IsTrue result → BeginsNoChunk last bytes.now }
 {
@@ -70,7 +72,7 @@ fn begins_no_chunk_there(last: Option<Step>, bytes: &[u8]) -> bool
     }
 }
 
-/// Whether the front of the bytes is not well-formed, to which the last step leads.
+/// Returns true if the bytes begin nothing well-formed. `last` is the step that leads to them.
 fn is_syntax_fault(last: Option<Step>, bytes: &[u8]) -> bool
     ensures { IsTrue result → IsSyntaxFault last bytes.now }
 {
@@ -80,7 +82,7 @@ fn is_syntax_fault(last: Option<Step>, bytes: &[u8]) -> bool
     is_syntax_fault_at_front(bytes)
 }
 
-/// Whether no item begins as the bytes do.
+/// Returns true if the bytes begin no item, because of a syntax error at offset 0.
 fn is_syntax_fault_at_front(bytes: &[u8]) -> bool
     ensures { IsTrue result → SyntaxAt [] bytes.now }
 {
@@ -93,7 +95,7 @@ fn is_syntax_fault_at_front(bytes: &[u8]) -> bool
     }
 }
 
-/// Whether a simple value is at the front that isn't false, true or null.
+/// Returns true if a simple value is at the front that isn't false, true or null.
 fn is_not_supported(bytes: &[u8]) -> bool
     ensures { IsTrue result → IsNotSupported bytes.now }
 {
@@ -106,7 +108,8 @@ fn is_not_supported(bytes: &[u8]) -> bool
     }
 }
 
-/// How many arrays, maps and tags the steps lead into, since the last byte string whose content they lead to.
+/// Returns the number of steps into arrays, maps, tags and indefinite-length strings. A step into
+/// the content of a byte string resets it to 0.
 fn levels(steps: &[Step]) -> usize
     ensures { result ≡ levels steps.now }
 {
@@ -121,7 +124,7 @@ fn levels(steps: &[Step]) -> usize
     levels
 }
 
-/// How many byte strings the steps lead into.
+/// Returns the number of steps into the content of a byte string.
 fn layers(steps: &[Step]) -> usize
     ensures { result ≡ layers steps.now }
 {
@@ -134,7 +137,7 @@ fn layers(steps: &[Step]) -> usize
     layers
 }
 
-/// Whether an array, a map or a tag begins.
+/// Returns true if an array, a map or a tag begins.
 fn nests(bytes: &[u8]) -> bool
     ensures { IsTrue result → Nests bytes.now }
 {
@@ -144,7 +147,7 @@ fn nests(bytes: &[u8]) -> bool
     }
 }
 
-/// Whether a byte string is at the front.
+/// Returns true if a byte string is at the front.
 fn is_byte_string(bytes: &[u8]) -> bool
     ensures { IsTrue result → Stands IsByteString bytes.now }
 {
@@ -154,7 +157,9 @@ fn is_byte_string(bytes: &[u8]) -> bool
     }
 }
 
-/// Whether what begins there is too deep: the 257th level of one item, or the 17th of items inside one another.
+/// Returns true if the bytes begin something too deep.
+///
+/// This is the 257th level of an item, or the 17th of nested byte strings with items as content.
 fn is_too_deep(steps: &[Step], bytes: &[u8]) -> bool
     ensures { IsTrue result → IsTooDeep steps.now bytes.now }
 {
@@ -164,7 +169,7 @@ fn is_too_deep(steps: &[Step], bytes: &[u8]) -> bool
     is_byte_string(bytes) && layers(steps) == LAYERS
 }
 
-/// The last of the steps.
+/// Returns the last of the steps, or `None` if there are none.
 pub(crate) fn last_step(steps: &[Step]) -> Option<Step>
     ensures { result ≡ last_step steps.now }
 {
@@ -174,7 +179,8 @@ pub(crate) fn last_step(steps: &[Step]) -> Option<Step>
     }
 }
 
-/// Whether the fault of CBOR that the error names is at the front of the bytes, to which the steps lead.
+/// Returns true if the CBOR fault that `error` names is at the front of the bytes, the place of the
+/// steps.
 pub(crate) fn is_malformed(error: &Error<EndOfFile>, steps: &[Step], bytes: &[u8]) -> bool
     ensures { IsTrue result → IsMalformed error.now steps.now bytes.now }
 {

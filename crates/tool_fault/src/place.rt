@@ -1,4 +1,4 @@
-//! Places at which what an error names is.
+//! The places of faults. A place is the position in bytes to which steps lead.
 
 ghost use Rattle.std.specs.Prelude.{◌≤◌, IfOk, IfSome, length};
 ghost use Rattle.tool_fault.specs.Places.{IsPlace};
@@ -8,14 +8,25 @@ use crate::step::{Step, follow};
 use coset::CoseError;
 use std::alloc::{AllocError, Global};
 
-/// The offset of the place to which the steps lead from the front of the bytes, where what the error names is there:
-/// an item that isn't as the error says, a number that is out of range or has no name, the second of two labels that are one,
-/// a head that isn't well-formed or announces more than is left, a level too many, bytes behind an item. `earlier` is the
-/// index of the first of two labels. What is inside a byte string in chunks has no offset of its own: the place is then
-/// that string's, which holds no header. `None` where the steps lead nowhere, or to something else.
+/// Returns the offset of the place, or `None` if the fault that `error` names isn't there.
+///
+/// `steps` lead to the place from the front of `bytes`. `None` also means that they lead nowhere.
+/// These faults have a place:
+///
+/// - An item that isn't as the error says.
+/// - A number that is out of range or has no name.
+/// - The second of two labels that are the same, or of IV and Partial IV. `earlier` is the index of
+///   the first one.
+/// - A malformed head, chunk or text string, or a head that announces more than is left.
+/// - A simple value that isn't supported.
+/// - One level too many.
+/// - Bytes after an item.
+///
+/// The content of an indefinite-length byte string has no offset of its own. If that content is no
+/// header, the place is the byte string itself.
 ///
 /// # Errors
-/// `AllocError` alone.
+/// `AllocError` if an allocation fails.
 pub fn fault_at(
     alloc: Global,
     bytes: &[u8],
@@ -23,7 +34,7 @@ pub fn fault_at(
     steps: &[Step],
     earlier: Option<usize>,
 ) -> Result<Option<usize>, AllocError>
-    // What the error names is at the offset, to which the steps lead.
+    // The steps lead to the offset, and it is the place of the fault.
     ensures place { IfOk result (λ o. IfSome o (IsPlace error.now bytes.now steps.now)) }
     // The offset lies in the bytes, or at their end.
     ensures within { IfOk result (λ o. IfSome o (λ n. n ≤ length bytes.now)) }

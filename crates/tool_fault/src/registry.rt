@@ -12,7 +12,7 @@ use coset::iana::{
     WithPrivateRange,
 };
 
-/// Whether an integer is at the front that isn't one of 64 bits with a sign, or is negative.
+/// Returns true if the item at the front is an integer that doesn't fit an `i64`, or is negative.
 pub(crate) fn is_out_of_range(bytes: &[u8]) -> bool
     ensures { IsTrue result → Stands IsOutOfRange bytes.now }
 {
@@ -25,7 +25,7 @@ pub(crate) fn is_out_of_range(bytes: &[u8]) -> bool
     }
 }
 
-/// The integer at the front.
+/// Returns the integer at the front, or `None` if there is none.
 fn integer_at(bytes: &[u8]) -> Option<Integer>
     ensures { IfSome result (λ z. Stands (λ v. as_integer v ≡ Some z) bytes.now) }
 {
@@ -35,7 +35,7 @@ fn integer_at(bytes: &[u8]) -> Option<Integer>
     }
 }
 
-/// The integer at the front, where it is one of 64 bits with a sign.
+/// Returns the integer at the front, or `None` if there is none or it doesn't fit an `i64`.
 fn number_at(bytes: &[u8]) -> Option<i64>
     ensures { IfSome result (λ z. Stands (λ v. as_integer v ≡ Some z) bytes.now) }
 {
@@ -43,7 +43,7 @@ fn number_at(bytes: &[u8]) -> Option<i64>
     i64::try_from(number).ok()
 }
 
-/// Whether no value of the registry has the number.
+/// Returns true if no value of the registry has this number.
 fn has_no_name<T: EnumI64 + Drop>(number: i64) -> bool
     ensures { IsTrue result → HasNoName T.value_of number }
 {
@@ -53,8 +53,10 @@ fn has_no_name<T: EnumI64 + Drop>(number: i64) -> bool
     }
 }
 
-/// Whether an integer is at the front that has no name in a registry without a private range: of formats of content, of
-/// types of keys, or of operations.
+/// Returns true if the integer at the front has no name in one of the registries without a private
+/// range.
+///
+/// These are the registries of content formats, of key types, and of key operations.
 pub(crate) fn is_unassigned(bytes: &[u8]) -> bool
     ensures { IsTrue result → Stands IsUnassigned bytes.now }
 {
@@ -70,8 +72,10 @@ pub(crate) fn is_unassigned(bytes: &[u8]) -> bool
     has_no_name::<KeyOperation>(number)
 }
 
-/// Whether an integer is at the front that has no name in a registry with a private range, and is outside of that: of
-/// algorithms, of header parameters, or of claims.
+/// Returns true if the integer at the front has no name in one of the registries with a private
+/// range, and is outside that range.
+///
+/// These are the registries of algorithms, of header parameters, and of claims.
 pub(crate) fn is_unassigned_and_not_private(bytes: &[u8]) -> bool
     ensures { IsTrue result → Stands IsUnassignedAndNotPrivate bytes.now }
 {

@@ -1,4 +1,4 @@
-//! What is at a second place in an array or a map, and shouldn't.
+//! Repeated labels in an array or a map, and IV together with Partial IV.
 
 ghost use Rattle.std.specs.Prelude.{IfOk, IfSome, IsTrue};
 ghost use Rattle.tool_fault.specs.Places.{AreTwo, BothIvs, IsEarlier, Repeats, SameLabel};
@@ -7,7 +7,7 @@ use crate::label::{are_both_ivs, are_same};
 use crate::step::{Step, follow, go};
 use std::alloc::{AllocError, Global};
 
-/// The step to the key or the element with that index, where this step leads to a later one.
+/// Returns the step to the key or the element at `index`, if `last` leads to a later one.
 fn earlier_step(last: Step, index: usize) -> Option<Step>
     ensures { IfSome result (λ first. IsEarlier first last) }
 {
@@ -18,8 +18,9 @@ fn earlier_step(last: Step, index: usize) -> Option<Step>
     }
 }
 
-/// Where the last of the steps leads, and before it where the key or the element with that index is in the same array or
-/// map.
+/// Returns the bytes at the key or element with this index, and those at the place of the steps.
+///
+/// Both are in the same array or map, in this order.
 fn both_places<'a>(bytes: &'a [u8], steps: &[Step], index: usize) -> Option<(&'a [u8], &'a [u8])>
     ensures { IfSome result (λ p. AreTwo bytes.now steps.now p.0.now p.1.now) }
 {
@@ -31,7 +32,9 @@ fn both_places<'a>(bytes: &'a [u8], steps: &[Step], index: usize) -> Option<(&'a
     Some((one, other))
 }
 
-/// Whether the label that the last of the steps leads to is at an earlier one already, that of this index.
+/// Returns true if the label at the place of the steps is also at the index `earlier`.
+///
+/// Both are in the same array or map.
 pub(crate) fn repeats_label(
     alloc: Global,
     bytes: &[u8],
@@ -49,7 +52,9 @@ pub(crate) fn repeats_label(
     }
 }
 
-/// Whether of IV and Partial IV the last of the steps leads to the second.
+/// Returns true if IV and Partial IV are at the index `earlier` and at the place of the steps.
+///
+/// They may be in either order.
 pub(crate) fn has_both_ivs(
     alloc: Global,
     bytes: &[u8],

@@ -1,4 +1,4 @@
-//! Whether what an error names is at a place.
+//! Checks whether the fault that an error names is at a place.
 
 ghost use Rattle.std.specs.Prelude.{◌≡◌, IfOk, IsTrue, Some};
 ghost use Rattle.tool_fault.specs.Places.{HoldsNoHeader, IsUnexpected, StandsThere, last_step};
@@ -12,7 +12,9 @@ use coset::cbor::de::Pull;
 use coset::{CoseError, Header};
 use std::alloc::{AllocError, Global};
 
-/// Whether what an item is called is at the front of the bytes, to which the steps lead from the front of the whole.
+/// Returns true if the item that an error calls `got` is at the front of `bytes`.
+///
+/// `bytes` is the place to which `steps` lead from the front of `whole`.
 fn is_unexpected(
     alloc: Global,
     got: &str,
@@ -30,8 +32,10 @@ fn is_unexpected(
     }
 }
 
-/// Whether what the error names is at the front of the bytes, to which the steps lead from the front of the whole.
-/// Where it is that something occurs twice, `earlier` is the index of the first of the two.
+/// Returns true if the fault that `error` names is at the front of `bytes`.
+///
+/// `bytes` is the place to which `steps` lead from the front of `whole`. If the fault is that
+/// something occurs twice, `earlier` is the index of its first occurrence.
 pub(crate) fn stands_there(
     alloc: Global,
     error: &CoseError,
@@ -57,8 +61,8 @@ pub(crate) fn stands_there(
     }
 }
 
-/// Whether a byte string in chunks is at the front of the bytes that holds something, and no header (RFC 8152, section
-/// 3).
+/// Returns true if an indefinite-length byte string is at the front, and its content is no header
+/// (RFC 8152, section 3).
 pub(crate) fn holds_no_header(alloc: Global, bytes: &[u8]) -> Result<bool, AllocError>
     ensures { IfOk result (λ b. IsTrue b → HoldsNoHeader bytes.now) }
 {

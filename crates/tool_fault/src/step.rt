@@ -1,4 +1,4 @@
-//! Steps to a place in bytes, and following them.
+//! Steps to a place in bytes, and functions that follow them.
 
 ghost use Rattle.std.specs.Prelude.{◌≡◌, ◌+◌, ◌*◌, ◌++◌, ◌≤◌, IfSome, IsTrue, length, ℕ};
 ghost use Rattle.coset.specs.Grammar.{IsHead};
@@ -8,28 +8,28 @@ ghost use Rattle.tool_fault.specs.Steps.{Announces, Encloses, Goes, Holds, IsFro
 use coset::cbor::de::Pull;
 use coset::cbor::head::{Head, MajorType, read_head};
 
-/// A step from an item to a part of it, or to what follows it. Indices count from 0.
+/// A step from an item to one of its parts, or to the bytes after it. Indices count from 0.
 #[derive(Clone, Copy, Debug, PartialEq, Eq)]
 pub enum Step {
-    /// To the element of an array with this index.
+    /// To the element of an array at this index.
     Element(usize),
-    /// To the key of the pair of a map with this index.
+    /// To the key of a map's pair at this index.
     Key(usize),
-    /// To the value of the pair of a map with this index.
+    /// To the value of a map's pair at this index.
     Value(usize),
-    /// To what a tag encloses.
+    /// To the content of a tag.
     Enclosed,
-    /// To the chunk of a byte string in chunks with this index.
+    /// To the chunk of an indefinite-length byte string at this index.
     ByteChunk(usize),
-    /// To the chunk of a text string in chunks with this index.
+    /// To the chunk of an indefinite-length text string at this index.
     TextChunk(usize),
-    /// To what a byte string holds, whose length is announced.
+    /// To the content of a definite-length byte string.
     Content,
-    /// To the bytes behind the item.
+    /// To the bytes after the item.
     Behind,
 }
 
-/// What follows so many items; `None` where there are fewer.
+/// Returns the bytes after `count` items, or `None` if there are fewer items.
 fn skip(bytes: &[u8], count: usize) -> Option<&[u8]>
     ensures { IfSome result (λ rest. Passes bytes.now count rest.now) }
 {
@@ -43,7 +43,9 @@ fn skip(bytes: &[u8], count: usize) -> Option<&[u8]>
     Some(rest)
 }
 
-/// Whether an element with that index follows the head: of a map a key or a value, each counted.
+/// Returns true if the head announces an element at this index, or has an indefinite length.
+///
+/// The keys and the values of a map count one each.
 fn announces(head: Head, index: usize) -> bool
     ensures { IsTrue result → Announces head index }
 {
@@ -57,7 +59,8 @@ fn announces(head: Head, index: usize) -> bool
     }
 }
 
-/// The bytes from the element with that index on, and how many are before it, where an item of that type is at the front.
+/// Returns the offset of the element at this index, and the bytes from there on. The item at the
+/// front must have this major type.
 fn member(bytes: &[u8], major_type: MajorType, index: usize) -> Option<(usize, &[u8])>
     ensures { IfSome result (λ p. Splits (Opens (major_type_number major_type) index)
         bytes.now p.0 p.1.now) }
@@ -72,7 +75,7 @@ fn member(bytes: &[u8], major_type: MajorType, index: usize) -> Option<(usize, &
     Some((bytes.len() - part.len(), part))
 }
 
-/// What a tag at the front encloses, and how many bytes are before it.
+/// Returns the offset of the content of the tag at the front, and the bytes from there on.
 fn enclosed(bytes: &[u8]) -> Option<(usize, &[u8])>
     ensures { IfSome result (λ p. Splits Encloses bytes.now p.0 p.1.now) }
 {
@@ -86,7 +89,8 @@ fn enclosed(bytes: &[u8]) -> Option<(usize, &[u8])>
     Some((head.size(), rest))
 }
 
-/// What a byte string at the front holds, whose length is announced, and how many bytes are before it.
+/// Returns the offset of the content of the definite-length byte string at the front, and that
+/// content.
 fn content(bytes: &[u8]) -> Option<(usize, &[u8])>
     ensures { IfSome result (λ p. Holds bytes.now p.0 p.1.now) }
 {
@@ -104,7 +108,8 @@ fn content(bytes: &[u8]) -> Option<(usize, &[u8])>
     Some((head.size(), content))
 }
 
-/// The bytes behind the item at the front, of which there are some, and how many are before them.
+/// Returns the offset of the bytes after the item at the front, and these bytes. There must be
+/// some.
 fn behind(bytes: &[u8]) -> Option<(usize, &[u8])>
     ensures { IfSome result (λ p. Splits (IsFront p.1.now) bytes.now p.0 p.1.now) }
 {
@@ -117,8 +122,10 @@ fn behind(bytes: &[u8]) -> Option<(usize, &[u8])>
     Some((pull.slice().len(), rest))
 }
 
-/// Where the step leads from the item at the front: how many bytes are before that place, and the bytes from there on, up
-/// to the end of what they are part of.
+/// Follows the step from the item at the front. Returns the offset of the place, and the bytes from
+/// there on.
+///
+/// The bytes end with `bytes`, or with the byte string if the step leads to its content.
 pub(crate) fn go(bytes: &[u8], step: Step) -> Option<(usize, &[u8])>
     ensures { IfSome result (λ p. Goes step bytes.now p.0 p.1.now) }
 {
@@ -134,8 +141,10 @@ pub(crate) fn go(bytes: &[u8], step: Step) -> Option<(usize, &[u8])>
     }
 }
 
-/// Where the steps lead, one after the other, from the front of the bytes: how many bytes are before that place, and the
-/// bytes from there on, up to the end of the bytes or of the byte string that it lies in. `None` where they lead nowhere.
+/// Follows the steps, one after another, from the front of the bytes.
+///
+/// Returns the offset of the place and the bytes from there on, or `None` if the steps lead
+/// nowhere. The bytes end with `bytes`, or with the byte string whose content the place is in.
 pub fn follow<'a>(bytes: &'a [u8], steps: &[Step]) -> Option<(usize, &'a [u8])>
     ensures { IfSome result (λ p. Leads steps.now bytes.now p.0 p.1.now) }
 {

@@ -1,4 +1,4 @@
-//! Items that aren't as their place asks, by what errors call them.
+//! Unexpected items, by the names that errors give them.
 
 ghost use Rattle.std.specs.Prelude.{◌≡◌, IfOk, IfSome, IsTrue, Some, [], length, filter, ◌==◌};
 ghost use Rattle.coset.specs.Answers.{DescribesNothing};
@@ -16,7 +16,7 @@ use coset::{CborSerializable, CoseError, CoseKey, CoseSignature};
 use coset_codec::util::pull_type_error;
 use std::alloc::{AllocError, Global};
 
-/// Why the bytes don't describe a value of the type.
+/// Returns the error of decoding the bytes as this type, or `None` if they describe a value.
 fn refusal<T: CborSerializable + Drop>(alloc: Global, bytes: &[u8]) -> Option<CoseError>
     ensures { IfSome result (λ e. UnlessMemory e (λ _. DescribesNothing T.shape bytes.now)) }
 {
@@ -26,7 +26,7 @@ fn refusal<T: CborSerializable + Drop>(alloc: Global, bytes: &[u8]) -> Option<Co
     }
 }
 
-/// Whether the bytes describe no value of the type.
+/// Returns true if the bytes describe no value of the type.
 pub(crate) fn describe_none<T: CborSerializable + Drop>(
     alloc: Global,
     bytes: &[u8],
@@ -42,7 +42,7 @@ pub(crate) fn describe_none<T: CborSerializable + Drop>(
     }
 }
 
-/// Whether the name of the item's kind is this.
+/// Returns true if `name` is the name of the item's kind.
 fn is_kind(item: Pull<'_>, name: &str) -> bool
     ensures { IsTrue result → kind (pull_item item.entry) ≡ name.now }
 {
@@ -52,7 +52,7 @@ fn is_kind(item: Pull<'_>, name: &str) -> bool
     }
 }
 
-/// Whether the item is a byte string that holds nothing.
+/// Returns true if the item is an empty byte string.
 fn holds_no_bytes(alloc: Global, item: Pull<'_>) -> Result<bool, AllocError>
     ensures { IfOk result (λ b. IsTrue b → as_bytes (pull_item item.entry) ≡ Some []) }
 {
@@ -63,7 +63,7 @@ fn holds_no_bytes(alloc: Global, item: Pull<'_>) -> Result<bool, AllocError>
     }
 }
 
-/// Whether the item is a text string that holds nothing.
+/// Returns true if the item is an empty text string.
 fn holds_no_text(alloc: Global, item: Pull<'_>) -> Result<bool, AllocError>
     ensures { IfOk result (λ b. IsTrue b → as_text (pull_item item.entry) ≡ Some []) }
 {
@@ -74,7 +74,7 @@ fn holds_no_text(alloc: Global, item: Pull<'_>) -> Result<bool, AllocError>
     }
 }
 
-/// Whether the item is an array without elements.
+/// Returns true if the item is an array without elements.
 fn has_no_elements(item: Pull<'_>) -> bool
     ensures { IsTrue result → as_array (pull_item item.entry) ≡ Some no_items }
 {
@@ -84,21 +84,21 @@ fn has_no_elements(item: Pull<'_>) -> bool
     }
 }
 
-/// How many of the text's bytes are `/`.
+/// Returns the number of bytes of the text that are `/`.
 fn slashes(text: &str) -> usize
     ensures { result ≡ length (filter (λ b. b == 47) text.now) }
 {
     text.as_bytes().iter().filter(|b| **b == b'/').count()
 }
 
-/// Whether the text begins or ends with white space, or hasn't exactly one `/`.
+/// Returns true if the text begins or ends with white space, or doesn't have exactly one `/`.
 fn is_no_media_type(text: &str) -> bool
     ensures { IsTrue result → IsMediaType text.now → ⊥ }
 {
     text.trim() != text || slashes(text) != 1
 }
 
-/// Whether the item is a text that names no media type (RFC 8152, section 3.1).
+/// Returns true if the item is a text that is no media type (RFC 8152, section 3.1).
 fn holds_no_media_type(alloc: Global, item: Pull<'_>) -> Result<bool, AllocError>
     ensures { IfOk result (λ b. IsTrue b → IsNoMediaType (pull_item item.entry)) }
 {
@@ -109,7 +109,8 @@ fn holds_no_media_type(alloc: Global, item: Pull<'_>) -> Result<bool, AllocError
     }
 }
 
-/// Whether the item is what an error calls it that says what was found in place of what was asked for.
+/// Returns true if `got` is true of the item. `got` is the name that an error gives to an
+/// unexpected item.
 fn is_item_called(alloc: Global, got: &str, item: Pull<'_>) -> Result<bool, AllocError>
     ensures { IfOk result (λ b. IsTrue b
         → IsCalled got.now (pull_bytes item.entry) (pull_item item.entry)) }
@@ -125,7 +126,7 @@ fn is_item_called(alloc: Global, got: &str, item: Pull<'_>) -> Result<bool, Allo
     }
 }
 
-/// As above, of the item at the front of the bytes.
+/// Returns true if `got` is true of the item at the front of the bytes.
 pub(crate) fn is_called(alloc: Global, got: &str, bytes: &[u8]) -> Result<bool, AllocError>
     ensures { IfOk result (λ b. IsTrue b → BeginsCalled got.now bytes.now) }
 {

@@ -1,27 +1,29 @@
-//! What the arguments ask for.
+//! Reads the arguments.
 
 use std::alloc::{AllocError, Global};
 use tool_explain::Kind;
 use tool_view::{Asked, Form};
 
-/// How inputs are looked at, by the arguments so far.
+/// The options from the arguments so far.
 #[derive(Drop)]
 pub struct Arguments {
-    /// How the next input is.
+    /// How the next input is shown.
     pub asked: Asked,
-    /// Whether lines are written in colours where that isn't said.
+    /// Whether lines are in colours if no argument says it.
     is_terminal: bool,
 }
 
 impl Arguments {
-    /// Nothing is said yet: lines are in colours for a terminal.
+    /// Returns the options before the first argument. Lines have colours if the output is a
+    /// terminal.
     pub fn new(alloc: Global, is_terminal: bool) -> Arguments {
         let mut asked = Asked::new(alloc);
         asked.is_colored = is_terminal;
         Arguments { asked, is_terminal }
     }
 
-    /// Takes what is to be written; of a page nothing else is.
+    /// Takes the form of the output, and returns true if it is allowed. A page allows no other
+    /// form.
     fn takes_form(&mut self, form: Form) -> bool {
         if self.asked.form == Form::Page {
             return form == Form::Page;
@@ -30,7 +32,7 @@ impl Arguments {
         true
     }
 
-    /// Takes when there are colours.
+    /// Takes when there are colours, and returns true if the word is known.
     fn takes_color(&mut self, when: &str) -> bool {
         self.asked.is_colored = match when {
             "always" => true,
@@ -41,7 +43,7 @@ impl Arguments {
         true
     }
 
-    /// Takes an `external_aad` in hexadecimal.
+    /// Takes an `external_aad`, and returns true if it is hexadecimal.
     fn takes_aad(&mut self, alloc: Global, digits: &str) -> Result<bool, AllocError> {
         match hex::decode(alloc, digits) {
             Ok(bytes) => {
@@ -53,7 +55,7 @@ impl Arguments {
         }
     }
 
-    /// Takes an option, and says whether it is one.
+    /// Takes an option, and returns true if it is one.
     fn takes_option(&mut self, alloc: Global, argument: &str) -> Result<bool, AllocError> {
         if let Some(moment) = argument.strip_prefix("--now=") {
             self.asked.now = moment.parse::<i64>().ok();
@@ -73,10 +75,10 @@ impl Arguments {
         })
     }
 
-    /// Takes an argument that says how, and says whether it is one.
+    /// Takes a kind or an option, and returns true if the argument is one.
     ///
     /// # Errors
-    /// `AllocError` alone.
+    /// `AllocError` if an allocation fails.
     pub fn takes(&mut self, alloc: Global, argument: &str) -> Result<bool, AllocError> {
         match Kind::of(argument) {
             Some(kind) => {

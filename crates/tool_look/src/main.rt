@@ -1,7 +1,10 @@
-//! `tool_look [OPTION..] [KIND] [FILE]..`: takes apart what files hold, or standard input where there are none: bytes as they
-//! are, or spelled in hexadecimal or base64. How a file is looked at is said in front of it. What each was read as is on
-//! standard error. The status is 0 where all are of their kinds, 1 where one was refused, 2 where one couldn't be read, or
-//! memory ran out.
+//! `tool_look [OPTION..] [KIND] [FILE]..` takes apart the content of files, or of standard input if
+//! no file is named.
+//!
+//! A file has raw bytes, or bytes in hexadecimal or base64. The options and the kind before a file
+//! say how it is shown. Standard error says how each file was read. The status is 0 if all are of
+//! their kinds, and 1 if one was refused. It is 2 if one couldn't be read, an argument wasn't
+//! understood, or an allocation failed.
 #![tactic(auto)]
 
 mod arguments;
@@ -12,7 +15,7 @@ use std::process::ExitCode;
 use std::{env, fs, io};
 use tool_view::{Asked, END, FRONT, Form, Shown, UNANSWERED, look};
 
-/// What is printed where an argument isn't understood.
+/// The text for an argument that isn't understood.
 const USAGE: &str = "usage: tool_look [OPTION..] [KIND] [FILE]..
 A file, or standard input where none is named, holds bytes as they are; or hexadecimal, also with 0x, spaces, commas and colons,
 or as h'..'; or base64 or base64url, also as b64'..' or behind Bearer.
@@ -23,7 +26,7 @@ that the input is accepted; with --html a page. --now=SECONDS since 1970 began i
 --external-aad=HEX is what goes with messages. --color=auto, always or never: auto is in a terminal, without NO_COLOR.
 ";
 
-/// Whether standard output is a terminal that may have colours.
+/// Returns true if standard output is a terminal that may have colours.
 fn is_terminal(rt: &HostRuntime) -> bool {
     let is_without = match env::var(rt, "NO_COLOR") {
         Ok(value) => !value.is_empty(),
@@ -32,7 +35,7 @@ fn is_terminal(rt: &HostRuntime) -> bool {
     !is_without && rt.stdout().is_terminal()
 }
 
-/// Takes an input of that name apart, and returns the status.
+/// Shows an input of that name, and returns the status.
 fn show(rt: &HostRuntime, asked: &Asked, input: &[u8], name: &str) -> io::Result<u8> {
     let Shown { said, text, status } = look(rt.alloc(), asked, input, name)?;
     if name.is_empty() {
@@ -47,7 +50,7 @@ fn show(rt: &HostRuntime, asked: &Asked, input: &[u8], name: &str) -> io::Result
     Ok(status)
 }
 
-/// Takes a file apart, and returns the status.
+/// Shows a file, and returns the status.
 fn show_file(rt: &HostRuntime, asked: &Asked, name: &str) -> io::Result<u8> {
     match fs::read(rt, name) {
         Ok(input) => show(rt, asked, &input, name),
@@ -59,14 +62,14 @@ fn show_file(rt: &HostRuntime, asked: &Asked, name: &str) -> io::Result<u8> {
     }
 }
 
-/// Takes standard input apart, and returns the status.
+/// Shows standard input, and returns the status.
 fn show_input(rt: &HostRuntime, asked: &Asked) -> io::Result<u8> {
     let mut input = Vec::new(rt.alloc());
     rt.stdin().read_to_end(&mut input)?;
     show(rt, asked, &input, "")
 }
 
-/// Takes all files apart that the arguments name, or standard input, and returns the greatest status.
+/// Shows all files that the arguments name, or standard input, and returns the greatest status.
 fn answer(rt: &HostRuntime, mut arguments: Arguments) -> io::Result<u8> {
     let mut status = None;
     for argument in env::args(rt)?.skip(1) {
@@ -87,7 +90,7 @@ fn answer(rt: &HostRuntime, mut arguments: Arguments) -> io::Result<u8> {
     }
 }
 
-/// The same, within a page where that is asked for.
+/// Does the same, inside a page if the arguments ask for one.
 fn answer_all(rt: &HostRuntime) -> io::Result<u8> {
     let mut arguments = Arguments::new(rt.alloc(), is_terminal(rt));
     if !env::args(rt)?

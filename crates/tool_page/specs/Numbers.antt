@@ -1,9 +1,9 @@
--- Numbers as kinds.
+-- The numbers of kinds.
 use Rattle.std.specs.Prelude.{◌==◌, ℕ, if◌then◌else◌}
 use Rattle.tool_explain.specs.declared.kind.Kind.{Kind}
 use Rattle.tool_explain.specs.declared.kind.Kind.TheVariants as kinds
 
--- the kind of that number
+-- The kind with this number.
 abbrev pub kind_of : ℕ → Kind
 kind_of n =
     if n == 1 then kinds.Cwt else

@@ -1,4 +1,4 @@
-//! Answers in the page's memory.
+//! Writes answers into the page's memory.
 
 ghost use Rattle.std.specs.Prelude.{◌≡◌};
 ghost use Rattle.tool_page.specs.Told.{Tells, number_of};
@@ -7,19 +7,19 @@ ghost use Rattle.tool_view.specs.Accepted.{AcceptsInput};
 use std::alloc::Global;
 use tool_view::{Asked, look};
 
-/// Why there is no answer.
+/// The reason why there is no answer.
 #[derive(Clone, Copy, Debug)]
 pub enum Unanswered {
-    /// Memory ran out.
+    /// An allocation failed.
     Memory,
     /// There is no room for an answer of this length.
     Short(usize),
 }
 
-/// Writes the text to the front of `out`, and returns the status that goes with it.
+/// Writes the text to the front of `out`, and returns its status.
 ///
 /// # Errors
-/// `Short`.
+/// `Short` if `out` is too short, which is then unchanged.
 fn put(text: &[u8], status: u8, out: &mut [u8], len: &mut usize) -> Result<u8, Unanswered>
     ensures { Tells (λ s. s ≡ status) out.old out.new len.new result }
 {
@@ -32,10 +32,11 @@ fn put(text: &[u8], status: u8, out: &mut [u8], len: &mut usize) -> Result<u8, U
     Ok(status)
 }
 
-/// Writes what is shown of an input to the front of `out`, and returns the status.
+/// Writes the text about an input to the front of `out`, and returns the status.
 ///
 /// # Errors
-/// Each of `Unanswered`.
+/// - `Memory` if an allocation fails.
+/// - `Short` if `out` is too short for the text.
 pub(crate) fn answered(
     alloc: Global,
     asked: &Asked,
@@ -53,7 +54,7 @@ pub(crate) fn answered(
     }
 }
 
-/// The number of an answer.
+/// Returns the number that the page gets for an answer.
 pub(crate) fn number_of(answer: Result<u8, Unanswered>) -> i32
     ensures { result ≡ number_of answer }
 {

@@ -1,4 +1,5 @@
-//! The viewer for a page: one function by the C calling convention, which `tools/page` compiles to WebAssembly.
+//! The viewer for a page: one function with the C calling convention, which `tools/page` compiles
+//! to WebAssembly.
 #![tactic(auto)]
 
 ghost use Rattle.std.specs.Prelude.{◌≡◌, ℕ, Result};
@@ -14,9 +15,16 @@ use answer::{Unanswered, answered, number_of};
 use numbers::asked;
 use std::alloc::Global;
 
-/// Looks at an input, and writes what is shown of it to the front of `out`; `len` is its length. The status is 0 where the input
-/// is of the kind, and 1 where it was refused. Where memory ran out it is 2, and `len` is 0; where `out` has no room for the
-/// text it is 3, and `len` is the length that is needed: `out` is then as it was. `now` is a moment where `has_now` isn't 0.
+/// Shows an input: writes text to the front of `out`, and its length to `len`.
+///
+/// `now` is a moment unless `has_now` is 0. Returns one of these numbers:
+///
+/// - 0 if the input is of the kind.
+/// - 1 if it was refused.
+/// - 2 if an allocation failed. Then `len` is 0.
+/// - 3 if `out` has no room for the text. Then `len` is the length that is needed.
+///
+/// With 2 and 3, `out` is unchanged.
 #[unsafe(no_mangle)]
 pub extern "C" fn page_look(
     alloc: Global,
@@ -29,7 +37,7 @@ pub extern "C" fn page_look(
     out: &mut [u8],
     len: &mut usize,
 ) -> i32
-    // No more is written than there is room for, and 0 says that the library reads the input as something of the kind.
+    // At most `out` is written. 0 says that the library reads the input as its kind.
     ensures { (r : Result ℕ Unanswered) × (result ≡ number_of r) × Tells
         (λ s. s ≡ 0 → AcceptsInput (kind_of kind) input.now) out.old out.new len.new r }
 {

@@ -1,4 +1,4 @@
-//! Numbers as kinds and forms.
+//! The numbers of kinds and forms.
 
 ghost use Rattle.std.specs.Prelude.{◌≡◌, IfOk};
 ghost use Rattle.tool_page.specs.Numbers.{kind_of};
@@ -7,7 +7,7 @@ use std::alloc::{AllocError, Global};
 use tool_explain::Kind;
 use tool_view::{Asked, Form};
 
-/// The kind of that number.
+/// Returns the kind with this number.
 fn kind_of(number: u32) -> Kind
     ensures { result ≡ kind_of number }
 {
@@ -29,7 +29,7 @@ fn kind_of(number: u32) -> Kind
     }
 }
 
-/// The form of that number.
+/// Returns the form with this number.
 fn form_of(number: u32) -> Form {
     match number {
         1 => Form::Annotated,
@@ -39,10 +39,10 @@ fn form_of(number: u32) -> Form {
     }
 }
 
-/// How an input is looked at, by these numbers.
+/// Returns the options with these numbers.
 ///
 /// # Errors
-/// `AllocError` alone.
+/// `AllocError` if an allocation fails.
 pub(crate) fn asked(
     alloc: Global,
     kind: u32,

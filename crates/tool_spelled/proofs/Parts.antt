@@ -3,11 +3,11 @@ use Rattle.std.proofs.Common.{◌≡◌, ◌≤◌, ◌+◌, ◌-◌, ℕ, List,
 use Rattle.std.proofs.lemmas.List.{append-nil, length-append, length-take-le, take-append-drop}
 use Rattle.tool_spelled.specs.Framed.{IsPart}
 
--- all of it
+-- The whole input is a part of itself.
 pub whole : (text : List ℕ) → IsPart text 0 text
 whole text = record { front = []; back = []; parts = sym (append-nil text); place = refl }
 
--- what is between so many at the front, and others at the end
+-- The text between n characters at the front and others at the end.
 pub between : (text inner found : List ℕ) (n m : ℕ) → inner ≡ drop n text → length inner + n ≡ length text → found ≡ take m inner → IsPart text n found
 between text inner found n m behind count before =
     record {
@@ -19,13 +19,13 @@ between text inner found n m behind count before =
       place = length-take-le n text (omega (arith, count));
     }
 
--- what is behind others
+-- The text after others.
 pub behind : (text front found : List ℕ) → text ≡ front ++ found → IsPart text (length text - length found) found
 behind text front found is =
     let count : length text ≡ length front + length found = ap length is ∙ length-append front found in
     record { front = front; back = []; parts = is ∙ ap (λ t. front ++ t) (sym (append-nil found)); place = omega (arith, count) }
 
--- a part of a part
+-- A part of a part is a part.
 pub inner :
     (input trimmed text found front back : List ℕ) (n : ℕ) → input ≡ trimmed ++ back → trimmed ≡ front ++ text → IsPart text n found
     → IsPart input (length trimmed - length text + n) found
@@ -43,13 +43,13 @@ inner input trimmed text found front back n ends begins is =
       place = omega (arith, count, both, place);
     }
 
--- the rest of the rest
+-- A suffix of a suffix is a suffix.
 pub behind_both :
     (text rest found : List ℕ) → (front : List ℕ) × (text ≡ front ++ rest) → (front : List ℕ) × (rest ≡ front ++ found)
     → (front : List ℕ) × (text ≡ front ++ found)
 behind_both text rest found outer inner = (outer.0 ++ inner.0, outer.1 ∙ ap (λ t. outer.0 ++ t) inner.1 ∙ sym (append_assoc outer.0 inner.0 found))
 
--- and all but its first
+-- A suffix without its first element is a suffix.
 pub behind_first :
     (text left rest : List ℕ) (c : ℕ) → (front : List ℕ) × (text ≡ front ++ left) → left ≡ c ∷ rest → (front : List ℕ) × (text ≡ front ++ rest)
 behind_first text left rest c outer is = behind_both text left rest outer (c ∷ [], is)

@@ -1,4 +1,4 @@
--- Texts that spell bytes, a step at a time.
+-- Reading a text that spells bytes, one step at a time.
 use Rattle.std.proofs.Common.{◌≡◌, ◌≤◌, ◌<◌, ◌+◌, ◌⊎◌, inl, inr, ℕ, List, [], ◌∷◌, ◌++◌, ◌∙◌, true, Some, length, sym, ap, subst, refl, arith, append_assoc}
 use Rattle.std.proofs.lemmas.List.{append-nil}
 use Rattle.tool_spelled.specs.Base64.{AreDigits, IsPadding, is_break, digit_number}
@@ -30,7 +30,7 @@ byte_behind_prefix text rest c p x y v parts prefix is = (
   let e = ap length parts in grind (arith, e),
 )
 
--- what is behind a prefix, or the text as it is, begins with a byte
+-- The next part of a text is a byte, after a prefix or without one.
 pub behind_prefix : (text digits : List ℕ) (n : Next) → IsBehindPrefix text digits → BeginsWithByte digits n → IsFront text n
 behind_prefix text digits End w n = absurd n
 behind_prefix text digits (Between rest) w n = absurd n
@@ -45,7 +45,7 @@ behind_prefix text digits (Misspelled n) w h =
       | inr p ↦ let e = ap length p.2 in grind (arith, e, h)
     ]
 
--- nothing is left
+-- At the end of the text.
 pub spelled_to_end : (text left bytes : List ℕ) → left ≡ [] → ((b : List ℕ) → IsHexadecimal left b → IsHexadecimal text (bytes ++ b)) → IsHexadecimal text bytes
 spelled_to_end text left bytes none so_far =
     subst (λ (b : List ℕ). IsHexadecimal text b) (append-nil bytes) (so_far [] (subst (λ (t : List ℕ). IsHexadecimal t []) (sym none) hexadecimal.ends))
@@ -63,7 +63,7 @@ pub without_both :
 without_both text rest digits outer inner =
     (61 ∷ 61 ∷ [], outer ∙ ap (λ t. t ++ (61 ∷ [])) inner ∙ append_assoc digits (61 ∷ []) (61 ∷ []), base64.two)
 
--- one more digit
+-- The text has one more digit.
 pub one_digit :
     (digits left rest numbers pushed : List ℕ) (c v : ℕ) → left ≡ c ∷ rest → digit_number c ≡ Some v → pushed ≡ numbers ++ (v ∷ [])
     → ((n : List ℕ) → AreDigits left n → AreDigits digits (numbers ++ n)) → (n : List ℕ) → AreDigits rest n → AreDigits digits (pushed ++ n)
@@ -71,7 +71,7 @@ one_digit digits left rest numbers pushed c v parts is push so_far n h =
     subst (λ (b : List ℕ). AreDigits digits b) (sym (ap (λ p. p ++ n) push ∙ append_assoc numbers (v ∷ []) n))
     (so_far (v ∷ n) (subst (λ (t : List ℕ). AreDigits t (v ∷ n)) (sym parts) (base64.digit c v rest n is h)))
 
--- one more that is none
+-- The text has one more character that is no digit.
 pub one_break :
     (digits left rest numbers : List ℕ) (c : ℕ) → left ≡ c ∷ rest → is_break c ≡ true
     → ((n : List ℕ) → AreDigits left n → AreDigits digits (numbers ++ n)) → (n : List ℕ) → AreDigits rest n → AreDigits digits (numbers ++ n)
@@ -82,7 +82,7 @@ nothing : (xs : List ℕ) → length xs ≡ 0 → xs ≡ []
 nothing [] e = refl
 nothing (x ∷ xs) e = grind (arith, e)
 
--- no digit is left
+-- At the end of the digits.
 pub digits_to_end :
     (digits left numbers : List ℕ) → length left ≡ 0 → ((n : List ℕ) → AreDigits left n → AreDigits digits (numbers ++ n)) → AreDigits digits numbers
 digits_to_end digits left numbers none so_far =

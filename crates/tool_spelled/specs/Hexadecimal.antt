@@ -4,36 +4,36 @@ use Rattle.std.specs.Char.{digit_value}
 use Rattle.tool_spelled.specs.declared.hexadecimal.Next.{Next}
 use Rattle.tool_spelled.specs.declared.hexadecimal.Next.TheVariants as next
 
--- what may be between bytes: white space, a comma, a colon
+-- The characters that may be between bytes: white space, a comma, a colon.
 abbrev pub is_between : ℕ → Bool
 is_between c = c == 9 || c == 10 || c == 12 || c == 13 || c == 32 || c == 44 || c == 58
 
--- `0x` and `\x`, in either case
+-- `0x` and `\x`, with `x` in either case.
 abbrev pub is_prefix : ℕ → ℕ → Bool
 is_prefix c x = (c == 48 || c == 92) && (x == 120 || x == 88)
 
--- the byte of two digits, of either case
+-- The byte of two digits of either case.
 abbrev pub IsByte : ℕ → ℕ → ℕ → Type 0
 IsByte x y v = (digit_value x < 16) × (digit_value y < 16) × (v ≡ digit_value x * 16 + digit_value y)
 
--- the text spells the bytes: two digits for each, also behind a prefix, and what may be between them
+-- The text spells the bytes. Each byte is two digits, which a prefix may precede. Separators may be between bytes.
 pub data IsHexadecimal : List ℕ → List ℕ → Type 0 where
   ends : IsHexadecimal [] []
   between : (c : ℕ) (t b : List ℕ) → is_between c ≡ true → IsHexadecimal t b → IsHexadecimal (c ∷ t) b
   digits : (x y v : ℕ) (t b : List ℕ) → IsByte x y v → IsHexadecimal t b → IsHexadecimal (x ∷ y ∷ t) (v ∷ b)
   prefixed : (c p x y v : ℕ) (t b : List ℕ) → is_prefix c p ≡ true → IsByte x y v → IsHexadecimal t b → IsHexadecimal (c ∷ p ∷ x ∷ y ∷ t) (v ∷ b)
 
--- the rest is the text, or what is behind a prefix
+-- The rest is the text, or the text after a prefix.
 abbrev pub IsBehindPrefix : List ℕ → List ℕ → Type 0
 IsBehindPrefix text rest = (rest ≡ text) ⊎ ((c : ℕ) × (p : ℕ) × (text ≡ c ∷ p ∷ rest) × (is_prefix c p ≡ true))
 
--- a byte without a prefix is next in a text
+-- The next part of a text is a byte without a prefix.
 abbrev pub BeginsWithByte : List ℕ → Next → Type 0
 BeginsWithByte text (next.Byte v rest) = (x : ℕ) × (y : ℕ) × (text ≡ x ∷ y ∷ rest.now) × IsByte x y v
 BeginsWithByte text (next.Misspelled n) = n ≤ length text
 BeginsWithByte text n = ⊥
 
--- what is next in a text: with what follows spelling bytes, the whole spells these, behind the next one
+-- The next part of a text. If the rest spells bytes, the text spells them too, after the next byte if there is one.
 abbrev pub IsFront : List ℕ → Next → Type 0
 IsFront text next.End = text ≡ []
 IsFront text (next.Between rest) = ((b : List ℕ) → IsHexadecimal rest.now b → IsHexadecimal text b) × (length rest.now < length text)

@@ -7,14 +7,14 @@ ghost use Rattle.tool_spelled.specs.Spelled.{IsWithin};
 use crate::read::Misspelled;
 use std::alloc::{AllocError, Global};
 
-/// Whether the character may be between digits: white space.
+/// Returns true if the character may be between digits, which means white space.
 fn is_break(byte: u8) -> bool
     ensures { result ≡ is_break byte }
 {
     matches!(byte, b'\t' | b'\n' | 0x0c | b'\r' | b' ')
 }
 
-/// The number of a digit.
+/// Returns the number of a digit, or `None` for another character.
 fn digit_number(digit: u8) -> Option<u8>
     ensures { result ≡ digit_number digit }
 {
@@ -28,7 +28,7 @@ fn digit_number(digit: u8) -> Option<u8>
     }
 }
 
-/// What is before a sign `=` at the end.
+/// Returns the text before a sign `=` at its end, or `None` if there is no such sign.
 fn before_sign(text: &[u8]) -> Option<&[u8]>
     ensures { IfSome result (λ t. text.now ≡ t.now ++ (61 ∷ [])) }
 {
@@ -38,7 +38,7 @@ fn before_sign(text: &[u8]) -> Option<&[u8]>
     }
 }
 
-/// The digits without the padding behind them.
+/// Returns the digits without the padding after them.
 fn without_padding(text: &[u8]) -> &[u8]
     ensures { (padding : List ℕ) × (text.now ≡ result.now ++ padding) × IsPadding padding }
 {
@@ -51,7 +51,7 @@ fn without_padding(text: &[u8]) -> &[u8]
     }
 }
 
-/// The numbers of the digits, or where there is none.
+/// Returns the numbers of the digits, or the offset of a character that is no digit.
 fn numbers(alloc: Global, digits: &[u8]) -> Result<Result<Vec<u8>, Misspelled>, AllocError>
     ensures spelled { IfOk result (λ r. IfOk r (λ numbers. AreDigits digits.now numbers.items)) }
     ensures within { IfOk result (λ r. IfErr r (IsWithin digits.now)) }
@@ -70,28 +70,29 @@ fn numbers(alloc: Global, digits: &[u8]) -> Result<Result<Vec<u8>, Misspelled>, 
     Ok(Ok(numbers))
 }
 
-/// The first byte of a group, by the numbers of its first and its second digit.
+/// Returns the first byte of a group, from the numbers of its first and second digit.
 fn first_byte(first: u8, second: u8) -> u8
     ensures { result ≡ first_byte first second }
 {
     first % 64 * 4 + second / 16 % 4
 }
 
-/// The second byte of a group, by the numbers of its second and its third digit.
+/// Returns the second byte of a group, from the numbers of its second and third digit.
 fn second_byte(second: u8, third: u8) -> u8
     ensures { result ≡ second_byte second third }
 {
     second % 16 * 16 + third / 4 % 16
 }
 
-/// The third byte of a group, by the numbers of its third and its fourth digit.
+/// Returns the third byte of a group, from the numbers of its third and fourth digit.
 fn third_byte(third: u8, fourth: u8) -> u8
     ensures { result ≡ third_byte third fourth }
 {
     third % 4 * 64 + fourth % 64
 }
 
-/// The bytes of groups of four digits with these numbers, of which the last may have two or three; `None` where it has one.
+/// Returns the bytes of groups of four digits with these numbers. The last group may have two or
+/// three digits. Returns `None` if it has one.
 fn bytes_of(alloc: Global, numbers: &[u8]) -> Result<Option<Vec<u8>>, AllocError>
     ensures { IfOk result (λ o. MatchOption o (bytes_of numbers.now ≡ None)
         (λ bytes. bytes_of numbers.now ≡ Some bytes.items)) }
@@ -116,11 +117,13 @@ fn bytes_of(alloc: Global, numbers: &[u8]) -> Result<Option<Vec<u8>>, AllocError
     Ok(Some(bytes))
 }
 
-/// The bytes that the text spells, in digits of either alphabet, with padding behind them or without, and with white space
-/// between them; or where it is misspelled.
+/// Returns the bytes that the text spells, or where it is misspelled.
+///
+/// The digits are of either alphabet, with or without padding after them. White space may be
+/// between them.
 ///
 /// # Errors
-/// `AllocError` alone.
+/// `AllocError` if an allocation fails.
 pub(crate) fn bytes(alloc: Global, text: &[u8]) -> Result<Result<Vec<u8>, Misspelled>, AllocError>
     ensures spelled { IfOk result (λ r. IfOk r (λ bytes. IsBase64 text.now bytes.items)) }
     ensures within { IfOk result (λ r. IfErr r (IsWithin text.now)) }

@@ -1,4 +1,4 @@
-//! What an input spells its bytes in, and where in it the text is that does.
+//! Finds the text in an input that spells its bytes, and how it spells them.
 
 ghost use Rattle.std.specs.Prelude.{◌≡◌, ◌++◌, IfSome, List, ℕ, length};
 ghost use Rattle.tool_spelled.specs.Framed.{IsPart};
@@ -8,7 +8,7 @@ use crate::hexadecimal::{is_between, is_prefix};
 /// How bytes are spelled.
 #[derive(Clone, Copy, Debug, PartialEq, Eq)]
 pub enum Spelling {
-    /// As they are.
+    /// As raw bytes.
     Binary,
     /// In hexadecimal.
     Hexadecimal,
@@ -16,23 +16,23 @@ pub enum Spelling {
     Base64,
 }
 
-/// A text that spells bytes, and how; it is a part of an input.
+/// A part of an input that spells bytes, and how it spells them.
 #[derive(Clone, Copy, Debug)]
 pub struct Text<'a> {
-    /// How.
+    /// How the text spells the bytes.
     pub spelling: Spelling,
-    /// Where in the input the text begins.
+    /// The offset of the text in the input.
     pub offset: usize,
     /// The text.
     pub text: &'a [u8],
 }
 
-/// Whether the character is white space.
+/// Returns true if the character is white space.
 fn is_space(byte: u8) -> bool {
     matches!(byte, b'\t' | b'\n' | 0x0c | b'\r' | b' ')
 }
 
-/// Whether the bytes are a text: UTF-8 without other control characters than white space.
+/// Returns true if the bytes are text: UTF-8 without control characters other than white space.
 fn is_text(input: &[u8]) -> bool {
     str::from_utf8(input).is_ok()
         && input
@@ -40,7 +40,7 @@ fn is_text(input: &[u8]) -> bool {
             .all(|byte| is_space(*byte) || (b' ' <= *byte && *byte != 0x7f))
 }
 
-/// What follows the white space at the front.
+/// Returns the text after the white space at the front.
 fn without_front(text: &[u8]) -> &[u8]
     ensures { (front : List ℕ) × (text.now ≡ front ++ result.now) }
 {
@@ -54,7 +54,7 @@ fn without_front(text: &[u8]) -> &[u8]
     left
 }
 
-/// What is before the white space at the end.
+/// Returns the text before the white space at the end.
 fn without_end(text: &[u8]) -> &[u8]
     ensures { (back : List ℕ) × (text.now ≡ result.now ++ back) }
 {
@@ -68,7 +68,8 @@ fn without_end(text: &[u8]) -> &[u8]
     left
 }
 
-/// What follows the word, in letters of either case, where the text begins with that.
+/// Returns the text after the word, if the text begins with it. The word's letters may be of either
+/// case.
 fn behind_word<'a>(text: &'a [u8], word: &[u8]) -> Option<&'a [u8]>
     ensures { IfSome result (λ t. (front : List ℕ) × (text.now ≡ front ++ t.now)) }
 {
@@ -80,7 +81,8 @@ fn behind_word<'a>(text: &'a [u8], word: &[u8]) -> Option<&'a [u8]>
     }
 }
 
-/// What follows `Authorization:` and white space, where the text begins with that.
+/// Returns the text after `Authorization:` and white space, or the whole text if it doesn't begin
+/// so.
 fn without_name(text: &[u8]) -> &[u8]
     ensures { (front : List ℕ) × (text.now ≡ front ++ result.now) }
 {
@@ -90,7 +92,7 @@ fn without_name(text: &[u8]) -> &[u8]
     }
 }
 
-/// The token of a line `Authorization: Bearer` or `Bearer` (RFC 6750, section 2.1).
+/// Returns the token of a line `Authorization: Bearer` or `Bearer` (RFC 6750, section 2.1).
 fn bearer(text: &[u8]) -> Option<&[u8]>
     ensures { IfSome result (λ t. (front : List ℕ) × (text.now ≡ front ++ t.now)) }
 {
@@ -104,7 +106,7 @@ fn bearer(text: &[u8]) -> Option<&[u8]>
     }
 }
 
-/// What is between `front` and a quote at the end.
+/// Returns the text between `front` and a quote at the end.
 fn quoted<'a>(text: &'a [u8], front: &[u8]) -> Option<&'a [u8]>
     ensures { IfSome result (λ t. IsPart text.now (length front.now) t.now) }
 {
@@ -113,8 +115,10 @@ fn quoted<'a>(text: &'a [u8], front: &[u8]) -> Option<&'a [u8]>
     Some(found)
 }
 
-/// Whether a text without quotes is meant as hexadecimal: it begins with `0x` or `\x`, or there is something between digits of a
-/// line, or two thirds of what is no line break are hexadecimal digits. Of base64 a third is.
+/// Returns true if a text without quotes is meant as hexadecimal.
+///
+/// This is so if it begins with `0x` or `\x`, or has a separator within a line. It is also so if at
+/// least two thirds of it are hexadecimal digits, line breaks aside. In base64 about a third are.
 fn is_hexadecimal(text: &[u8]) -> bool {
     if let [first, second, ..] = text {
         if is_prefix(*first, *second) {
@@ -135,7 +139,7 @@ fn is_hexadecimal(text: &[u8]) -> bool {
     others <= digits / 2
 }
 
-/// How the text spells bytes, and which part of it does.
+/// Returns the part of the text that spells bytes, and how it does.
 fn part(text: &[u8]) -> Text<'_>
     ensures { IsPart text.now result.offset result.text.now }
 {
@@ -172,8 +176,13 @@ fn part(text: &[u8]) -> Text<'_>
     }
 }
 
-/// What the input spells its bytes in: the bytes as they are, where they are no text; hexadecimal in `h'` and `'`, base64 or
-/// base64url in `b64'` and `'` or behind `Bearer`; else hexadecimal, where most of its characters are of that, or base64.
+/// Returns the part of the input that spells its bytes, and how it does.
+///
+/// - An input that is no text is raw bytes.
+/// - Between `h'` and `'` it is hexadecimal.
+/// - Between `b64'` and `'`, or after `Bearer`, it is base64 or base64url.
+/// - Any other text is hexadecimal if it begins with `0x` or `\x`, or has separators or mostly
+///   hexadecimal digits. Otherwise it is base64.
 pub fn text_of(input: &[u8]) -> Text<'_>
     ensures { IsPart input.now result.offset result.text.now }
 {

@@ -7,33 +7,33 @@ ghost use Rattle.tool_spelled.specs.Spelled.{IsWithin};
 use crate::read::Misspelled;
 use std::alloc::{AllocError, Global};
 
-/// What is next in a text.
+/// The next part of a text.
 enum Next<'a> {
-    /// Nothing.
+    /// The end of the text.
     End,
-    /// What may be between bytes, and what follows it.
+    /// A separator between bytes, and the text after it.
     Between(&'a [u8]),
-    /// A byte, and what follows it.
+    /// A byte, and the text after it.
     Byte(u8, &'a [u8]),
-    /// Neither, and at which offset from here.
+    /// Something else, and its offset from here.
     Misspelled(usize),
 }
 
-/// Whether the character may be between bytes: white space, a colon, a comma.
+/// Returns true if the character may be between bytes: white space, a colon, or a comma.
 pub(crate) fn is_between(byte: u8) -> bool
     ensures { result ≡ is_between byte }
 {
     matches!(byte, b'\t' | b'\n' | 0x0c | b'\r' | b' ' | b',' | b':')
 }
 
-/// Whether the two characters may be in front of a byte: `0x` or `\x`.
+/// Returns true if the two characters may precede a byte: `0x` or `\x`.
 pub(crate) fn is_prefix(first: u8, second: u8) -> bool
     ensures { result ≡ is_prefix first second }
 {
     (first == b'0' || first == b'\\') && (second == b'x' || second == b'X')
 }
 
-/// The byte of two digits.
+/// Returns the byte of two digits, or `None` if one of them is no digit.
 fn byte_of(high: u8, low: u8) -> Option<u8>
     ensures { IfSome result (IsByte high low) }
 {
@@ -42,7 +42,7 @@ fn byte_of(high: u8, low: u8) -> Option<u8>
     Some((high * 16 + low) as u8)
 }
 
-/// What is behind `0x` or `\x`, where the text begins with that.
+/// Returns the text after `0x` or `\x`, or the whole text if it doesn't begin so.
 fn without_prefix(text: &[u8]) -> &[u8]
     ensures { IsBehindPrefix text.now result.now }
 {
@@ -52,7 +52,8 @@ fn without_prefix(text: &[u8]) -> &[u8]
     }
 }
 
-/// The byte at the front of the text, and what follows it, or at which of its digits there is none.
+/// Returns the byte at the front of the text and the text after it, or the offset of the missing
+/// digit.
 fn byte_at_front(text: &[u8]) -> Next<'_>
     ensures { BeginsWithByte text.now result }
 {
@@ -67,7 +68,7 @@ fn byte_at_front(text: &[u8]) -> Next<'_>
     }
 }
 
-/// What is at the front of the text.
+/// Returns the part at the front of the text.
 fn front(text: &[u8]) -> Next<'_>
     ensures { IsFront text.now result }
 {
@@ -84,11 +85,13 @@ fn front(text: &[u8]) -> Next<'_>
     }
 }
 
-/// The bytes that the text spells: two digits of either case for each, also behind `0x` or `\x`, with white space, colons and
-/// commas between them; or where it is misspelled.
+/// Returns the bytes that the text spells, or where it is misspelled.
+///
+/// Each byte is two digits of either case, which `0x` or `\x` may precede. White space, colons and
+/// commas may be between bytes.
 ///
 /// # Errors
-/// `AllocError` alone.
+/// `AllocError` if an allocation fails.
 pub(crate) fn bytes(alloc: Global, text: &[u8]) -> Result<Result<Vec<u8>, Misspelled>, AllocError>
     ensures spelled { IfOk result (λ r. IfOk r (λ bytes. IsHexadecimal text.now bytes.items)) }
     ensures within { IfOk result (λ r. IfErr r (IsWithin text.now)) }

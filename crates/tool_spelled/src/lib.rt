@@ -1,5 +1,6 @@
-//! Bytes as people have them: in a file as they are, in hexadecimal, in base64 or base64url (RFC 4648), in quotes as diagnostic
-//! notation has them (RFC 8949, section 8), in a line `Authorization: Bearer` (RFC 6750).
+//! Reads bytes in the spellings that people use: raw, in hexadecimal, or in base64 or base64url
+//! (RFC 4648). The text may be quoted as in diagnostic notation (RFC 8949, section 8), or be in a
+//! line `Authorization: Bearer` (RFC 6750).
 #![tactic(auto)]
 
 mod base64;

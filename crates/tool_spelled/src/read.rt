@@ -7,15 +7,16 @@ use crate::framed::{Spelling, Text};
 use crate::{base64, hexadecimal};
 use std::alloc::{AllocError, Global};
 
-/// The offset in a text at which it goes on as no spelling does; that of its end, where something is missing there.
+/// The offset in a text of the first character that the spelling doesn't allow, or of the text's
+/// end if something is missing there.
 #[derive(Clone, Copy, Debug, PartialEq, Eq)]
 pub struct Misspelled(pub usize);
 
 impl Text<'_> {
-    /// The bytes that the text spells, or where it is misspelled.
+    /// Returns the bytes that the text spells, or where it is misspelled.
     ///
     /// # Errors
-    /// `AllocError` alone.
+    /// `AllocError` if an allocation fails.
     pub fn bytes(&self, alloc: Global) -> Result<Result<Vec<u8>, Misspelled>, AllocError>
         ensures spelled { IfOk result (λ r. IfOk r (λ bytes.
             Spells self.now.spelling self.now.text.now bytes.items)) }

@@ -1,4 +1,4 @@
--- What a status of 0 says, by its parts.
+-- The parts of what a status of 0 means.
 use Rattle.std.proofs.Common.{◌≡◌, ℕ, List, None}
 use Rattle.tool_explain.specs.Refusal.{JudgesAs}
 use Rattle.tool_explain.specs.declared.kind.Kind.{Kind}

@@ -1,4 +1,4 @@
--- What a status of 0 says of an input.
+-- The meaning of a status of 0.
 use Rattle.std.specs.Prelude.{◌≡◌, ℕ, List, None}
 use Rattle.tool_explain.specs.Refusal.{JudgesAs}
 use Rattle.tool_explain.specs.declared.kind.Kind.{Kind}
@@ -7,13 +7,13 @@ use Rattle.tool_spelled.specs.Framed.{IsPart}
 use Rattle.tool_spelled.specs.Spelled.{Spells}
 use Rattle.tool_spelled.specs.declared.framed.Spelling.{Spelling}
 
--- the library reads the bytes as something of the kind; or of some kind, where that is left to the bytes
+-- The library reads the bytes as the kind. If the kind is `Auto`, it reads them as some kind.
 pub record Accepts (kind : Kind) (bytes : List ℕ) : Type 0 where
   pub read_as : Kind
   pub named : (kind ≡ kinds.Auto → ⊥) → read_as ≡ kind
   pub judged : JudgesAs read_as bytes None
 
--- the same of the bytes that a part of the input spells
+-- The library reads the bytes that a part of the input spells, as above.
 pub record AcceptsInput (kind : Kind) (input : List ℕ) : Type 0 where
   pub spelling : Spelling
   pub offset : ℕ

@@ -1,40 +1,42 @@
-//! How inputs are looked at.
+//! The options by which an input is shown.
 
 use std::alloc::Global;
 use tool_explain::Kind;
 
-/// What is written of an input.
+/// The form in which an input is shown.
 #[derive(Clone, Copy, Debug, PartialEq, Eq)]
 pub enum Form {
-    /// Its lines, with bytes and notes.
+    /// Lines with bytes and notes.
     Annotated,
-    /// The same as a part of a page of HTML.
+    /// The same lines as a part of an HTML page.
     Page,
-    /// The same for a program that shows them.
+    /// The same lines for a program that shows them.
     Rows,
     /// Diagnostic notation alone.
     Plain,
-    /// Where the fault is, and which it is.
+    /// The place of the fault, and the fault.
     Where,
 }
 
-/// How an input is looked at.
+/// The options by which an input is shown.
 #[derive(Drop)]
 pub struct Asked {
-    /// What the input should be.
+    /// The kind that the input should have.
     pub kind: Kind,
-    /// What is written.
+    /// The form of the output.
     pub form: Form,
-    /// The moment at which a token is looked at, in seconds since 1970 began.
+    /// The moment for which a token's times are judged, in seconds since 1970 began.
     pub now: Option<i64>,
-    /// What the application has authenticated beside messages (RFC 8152, section 4.3).
+    /// The bytes that the application authenticates in addition to messages (RFC 8152, section
+    /// 4.3).
     pub external_aad: Vec<u8>,
     /// Whether lines are written in colours.
     pub is_colored: bool,
 }
 
 impl Asked {
-    /// By the tag, with bytes and notes, at no moment, with an empty `external_aad`, and without colours.
+    /// Returns the default options: the kind by the tag, bytes and notes, no moment, an empty
+    /// `external_aad`, no colours.
     pub fn new(alloc: Global) -> Asked {
         Asked {
             kind: Kind::Auto,

@@ -1,5 +1,5 @@
-//! The viewer without its reading of files: what is written of an input, which spells bytes, as a text, as a part of a page of
-//! HTML, or as rows for a program that shows them.
+//! The viewer without its reading of files. It shows an input, which spells bytes, as text, as a
+//! part of an HTML page, or as rows for a program.
 #![tactic(auto)]
 
 mod asked;

@@ -1,9 +1,9 @@
-//! Lines as a page of HTML, without scripts and outside links.
+//! Lines as an HTML page, without scripts and outside links.
 
 use std::alloc::{AllocError, Global};
 use tool_explain::{Cover, Line};
 
-/// What is in front of all inputs.
+/// The part of the page before all inputs.
 pub const FRONT: &str = r##"<!DOCTYPE html>
 <html lang="en">
 <head>
@@ -50,16 +50,16 @@ em { color: #444; }
 </ul>
 "##;
 
-/// What is behind all inputs.
+/// The part of the page after all inputs.
 pub const END: &str = "</body>\n</html>\n";
 
-/// How deep lines are seen to be by their indentation.
+/// The most levels that are indented.
 const STEPS: usize = 32;
 
-/// How deep lines fold in one another; deeper ones don't fold.
+/// The most levels of lines that fold. Deeper lines don't fold.
 const FOLDS: usize = 100;
 
-/// Adds the text, so that it is one.
+/// Adds the text, with the characters escaped that HTML reserves, and control characters replaced.
 fn push_escaped(page: &mut String, text: &str) -> Result<(), AllocError> {
     for c in text.chars() {
         match c {
@@ -75,7 +75,7 @@ fn push_escaped(page: &mut String, text: &str) -> Result<(), AllocError> {
     Ok(())
 }
 
-/// The class of a line.
+/// Returns the CSS class of a line.
 fn class(cover: Cover) -> &'static str {
     match cover {
         Cover::Plain => "",
@@ -86,7 +86,7 @@ fn class(cover: Cover) -> &'static str {
     }
 }
 
-/// Adds a line in an element of that name: its bytes, what a signature or a MAC has to do with them, what they are.
+/// Adds a line in an element of that name: its bytes, its cover in words, its text and its note.
 fn push_row(
     alloc: Global,
     page: &mut String,
@@ -106,7 +106,7 @@ fn push_row(
     write!(page, "</em></span></{name}>\n")
 }
 
-/// Ends what folds at this depth and deeper, the deepest first.
+/// Ends the folds at this depth and deeper, the deepest first.
 fn end_folds(page: &mut String, folds: &mut Vec<usize>, depth: usize) -> Result<(), AllocError> {
     for _ in 0..folds.len() {
         let Some(last) = folds.pop() else {
@@ -121,7 +121,7 @@ fn end_folds(page: &mut String, folds: &mut Vec<usize>, depth: usize) -> Result<
     Ok(())
 }
 
-/// Adds a line, which folds where the next one is deeper, up to the one that ends it.
+/// Adds a line. If the next line is deeper, the line folds the lines up to the one that ends it.
 fn push_line(
     alloc: Global,
     page: &mut String,
@@ -139,7 +139,7 @@ fn push_line(
     end_folds(page, folds, line.depth)
 }
 
-/// How deep the line at that index is; 0 behind the last.
+/// Returns the depth of the line at the index, or 0 after the last line.
 fn depth_at(lines: &[Line<'_>], index: usize) -> usize {
     match lines.get(index) {
         Some(line) => line.depth,
@@ -157,10 +157,11 @@ fn push_lines(alloc: Global, page: &mut String, lines: &[Line<'_>]) -> Result<()
     end_folds(page, &mut folds, 0)
 }
 
-/// An input in a page: its name, what it was read as, its lines, and notes for under them.
+/// Returns the part of the page for an input: its name, how it was read, its lines, and the notes
+/// under them.
 ///
 /// # Errors
-/// `AllocError` alone.
+/// `AllocError` if an allocation fails.
 pub fn section(
     alloc: Global,
     name: &str,

@@ -3,7 +3,7 @@
 use std::alloc::{AllocError, Global};
 use tool_explain::{Cover, Line};
 
-/// The letter of a cover.
+/// Returns the letter of a cover.
 fn letter(cover: Cover) -> char {
     match cover {
         Cover::Plain => '-',
@@ -16,8 +16,8 @@ fn letter(cover: Cover) -> char {
     }
 }
 
-/// Adds a row: the letter of its cover, how deep it is, its bytes in hexadecimal, its text and its note, with tabs between
-/// them. No text or note has a control character.
+/// Adds a row: the letter of the cover, the depth, the bytes in hexadecimal, the text and the note,
+/// separated by tabs. No text or note has a control character.
 fn push_row(alloc: Global, text: &mut String, line: &Line<'_>) -> Result<(), AllocError> {
     let (letter, depth, digits) = (
         letter(line.cover),
@@ -31,10 +31,11 @@ fn push_row(alloc: Global, text: &mut String, line: &Line<'_>) -> Result<(), All
     text.push('\n')
 }
 
-/// What the input was read as in a row of its own; a row for each line; and behind `=` the notes for under them.
+/// Returns the rows: one that says how the input was read, one for each line, and one for each
+/// note, which begins with `=`.
 ///
 /// # Errors
-/// `AllocError` alone.
+/// `AllocError` if an allocation fails.
 pub fn rows(
     alloc: Global,
     said: &str,

@@ -1,4 +1,4 @@
-//! What is written for an input.
+//! The output for an input.
 
 ghost use Rattle.std.specs.Prelude.{◌≡◌, IfOk, None, false};
 ghost use Rattle.tool_explain.specs.Refusal.{JudgesAs};
@@ -16,34 +16,34 @@ use tool_explain::{
 };
 use tool_spelled::{Spelling, line_and_column, text_of};
 
-/// The status of an input that is of the kind.
+/// The status of an input that has its kind.
 const TAKEN: u8 = 0;
 
 /// The status of an input that was refused.
 const REFUSED: u8 = 1;
 
-/// The status of a call that names no file that can be read, or for which there wasn't memory enough.
+/// The status if a file can't be read, an argument isn't understood, or an allocation fails.
 pub const UNANSWERED: u8 = 2;
 
-/// What is written for an input.
+/// The output for an input.
 #[derive(Drop)]
 pub struct Shown {
-    /// A line for standard error: what the input was read as, or where it is misspelled.
+    /// A line for standard error: how the input was read, or where it is misspelled.
     pub said: String,
-    /// What the bytes are.
+    /// The text about the bytes.
     pub text: String,
     /// The status.
     pub status: u8,
 }
 
-/// The status of an input that is refused, or not.
+/// Returns the status of an input that was refused or not.
 fn status_of(is_refused: bool) -> u8
     ensures { result ≡ 0 → is_refused ≡ false }
 {
     if is_refused { REFUSED } else { TAKEN }
 }
 
-/// What a spelling is called.
+/// Returns the name of a spelling.
 fn spelling_name(spelling: Spelling) -> &'static str {
     match spelling {
         Spelling::Binary => "binary",
@@ -52,7 +52,8 @@ fn spelling_name(spelling: Spelling) -> &'static str {
     }
 }
 
-/// The character at that offset, where a terminal shows it; `None` at the end, too.
+/// Returns the character at the offset, if a terminal shows it. Returns `None` at the end of the
+/// input too.
 fn shown_at(input: &[u8], offset: usize) -> Option<char> {
     let (_, rest) = input.split_at(offset.min(input.len()));
     let c = str::from_utf8(rest).ok()?.chars().next()?;
@@ -63,7 +64,7 @@ fn shown_at(input: &[u8], offset: usize) -> Option<char> {
     }
 }
 
-/// What a digit of a spelling is called.
+/// Returns the name of a digit of a spelling.
 fn digit(spelling: Spelling) -> &'static str {
     match spelling {
         Spelling::Hexadecimal => "hexadecimal digit",
@@ -71,7 +72,7 @@ fn digit(spelling: Spelling) -> &'static str {
     }
 }
 
-/// What could be done about a character that is no digit.
+/// Returns advice about a character that is no digit.
 fn hint(spelling: Spelling, c: char) -> &'static str {
     match (spelling, c) {
         (Spelling::Hexadecimal, _) => "; base64 that looks like hexadecimal is read as b64'..'",
@@ -80,7 +81,7 @@ fn hint(spelling: Spelling, c: char) -> &'static str {
     }
 }
 
-/// That the input is misspelled at this offset.
+/// Returns the text that the input is misspelled at this offset.
 fn misspelled(
     alloc: Global,
     spelling: Spelling,
@@ -100,7 +101,7 @@ fn misspelled(
     Ok(text)
 }
 
-/// Whether the bytes begin with a tag.
+/// Returns true if the bytes begin with a tag.
 fn begins_with_tag(bytes: &[u8]) -> bool {
     match bytes.first() {
         Some(first) => *first / 32 == 6,
@@ -108,7 +109,7 @@ fn begins_with_tag(bytes: &[u8]) -> bool {
     }
 }
 
-/// Adds that the bytes are shown as something of the first of these kinds, and which others they can be.
+/// Adds that the bytes are shown as the first of these kinds, and which other kinds read them.
 fn push_fitting(said: &mut String, kinds: &[Kind]) -> Result<(), AllocError> {
     let Some((first, others)) = kinds.split_first() else {
         return said.push_str("; it has no tag, and is shown as CBOR: no other KIND reads it");
@@ -124,8 +125,8 @@ fn push_fitting(said: &mut String, kinds: &[Kind]) -> Result<(), AllocError> {
     Ok(())
 }
 
-/// What the bytes are looked at as: where neither a kind nor a tag says what they are, the first that they can be, which is
-/// said.
+/// Returns the kind by which the bytes are shown. If neither `asked` nor a tag says it, this is the
+/// first kind that reads them, and `said` tells which.
 fn kind_of(
     alloc: Global,
     asked: &Asked,
@@ -149,7 +150,8 @@ fn kind_of(
     }
 }
 
-/// The offset of the fault, the path there and the error, in one line; `accepted` where there is none.
+/// Returns one line with the offset of the fault, its path and the error, or `accepted` if there is
+/// no fault.
 fn fault_line(alloc: Global, kind: Kind, bytes: &[u8]) -> Result<(String, u8), AllocError>
     ensures { IfOk result (λ r. r.1 ≡ 0 → JudgesAs kind bytes.now None) }
 {
@@ -167,7 +169,8 @@ fn fault_line(alloc: Global, kind: Kind, bytes: &[u8]) -> Result<(String, u8), A
     Ok((text, REFUSED))
 }
 
-/// The lines of bytes as a text, and behind them what is signed as comments.
+/// Returns the lines as text, followed by comments with the structures that are signed,
+/// authenticated, or go with the ciphertext.
 fn annotated_text(
     alloc: Global,
     asked: &Asked,
@@ -185,7 +188,7 @@ fn annotated_text(
     Ok(text)
 }
 
-/// The lines of bytes in the form that is asked for, and the status.
+/// Returns the lines in the form that `asked` has, and the status.
 fn lines_of(
     alloc: Global,
     asked: &Asked,
@@ -213,7 +216,7 @@ fn lines_of(
     Ok((text, status))
 }
 
-/// Diagnostic notation alone, and the status.
+/// Returns diagnostic notation alone, and the status.
 fn notation_of(
     alloc: Global,
     asked: &Asked,
@@ -227,7 +230,7 @@ fn notation_of(
     Ok((notation(alloc, &explained.lines)?, status))
 }
 
-/// What is written for bytes of an input of that name that were read as it is said.
+/// Returns the output for the bytes of an input of that name. `said` tells how the input was read.
 fn look_at(
     alloc: Global,
     asked: &Asked,
@@ -249,11 +252,12 @@ fn look_at(
     Ok(Shown { said, text, status })
 }
 
-/// What is written for an input of that name. The status is 0 only where the library reads the bytes that it spells as something
-/// of the kind.
+/// Returns the output for an input of that name.
+///
+/// The status is 0 only if the library reads the bytes that the input spells as its kind.
 ///
 /// # Errors
-/// `AllocError` alone.
+/// `AllocError` if an allocation fails.
 pub fn look(alloc: Global, asked: &Asked, input: &[u8], name: &str) -> Result<Shown, AllocError>
     ensures { IfOk result
         (λ shown. shown.status ≡ 0 → AcceptsInput asked.entry.now.kind input.now) }

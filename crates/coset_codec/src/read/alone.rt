@@ -1,4 +1,4 @@
-//! Items that are read each by itself, so that one that isn't understood leaves the others.
+//! Reading items independently, so that a refused item does not affect the others.
 
 ghost use Rattle.std.specs.Prelude.{◌≡◌, IfOk, IfErr};
 ghost use Rattle.coset_cbor.specs.Pulls.{pull_item};
@@ -13,10 +13,10 @@ use crate::util::pull_type_error;
 use coset_cbor::de::Pull;
 use std::alloc::Global;
 
-/// The value that the item describes, or else why it describes none.
+/// Returns the value that an item describes, or the reason why it describes none.
 ///
 /// # Errors
-/// `OutOfMemory` alone: it says nothing of the item.
+/// `OutOfMemory` if an allocation fails. This says nothing about the item.
 pub fn read_alone<T: FromPull + Drop>(alloc: Global, item: Pull<'_>) -> Result<Result<T>>
     ensures alone { IfOk result (IsReadAlone T.shape T.view (pull_item item.entry)) }
     ensures memory { IfErr result (λ e. e ≡ OutOfMemory) }
@@ -28,11 +28,13 @@ pub fn read_alone<T: FromPull + Drop>(alloc: Global, item: Pull<'_>) -> Result<R
     }
 }
 
-/// Reads each element of the array that the bytes are by itself, in order: the value that it describes, or else why it
-/// describes none. So a key of an unknown type leaves the other keys of its set (RFC 9052, section 7).
+/// Reads each element of an array independently, in order. `bytes` must be one array. Each result
+/// is the value that the element describes, or the reason why it describes none. So a key of an
+/// unknown type does not affect the other keys of its set (RFC 9052, section 7).
 ///
 /// # Errors
-/// Why the bytes aren't an array, or `OutOfMemory`.
+/// - `DecodeFailed`, `ExtraneousData` or `UnexpectedItem` if the bytes are not one array.
+/// - `OutOfMemory` if an allocation fails.
 pub fn each_from_slice<T: FromPull + Drop>(alloc: Global, bytes: &[u8]) -> Result<Vec<Result<T>>>
     ensures each { IfOk result (λ all. AreReadAlone T.shape T.view bytes.now all.items) }
     ensures refused { IfErr result (λ e. IsRefused elements bytes.now e) }

@@ -1,5 +1,6 @@
-//! Reading forward: an item is read where it is, and who reads it goes just behind it, whatever is returned. So the
-//! bytes of what holds itself, as headers do, are passed once at whatever depth.
+//! Reading forward: an item is read in place, and its reader leaves the input just after it,
+//! whatever the result. So the bytes of nested types, such as headers in headers, are read once at
+//! any depth.
 
 ghost use Rattle.std.specs.Prelude.{◌≡◌, ◌≤◌, ◌<◌, List, ℕ, IfErr, IfOk, IsOkAnd, IsSome, IsTrue, OnErr, OnOk};
 ghost use Rattle.coset_value.specs.Item.{Item, null, Items, no_items, Pairs, no_pairs};
@@ -21,34 +22,34 @@ use coset_cbor::value::Value;
 use std::alloc::Global;
 use std::{mem, vec};
 
-/// An item that is read where it is.
+/// The input of every reader: an item that is read in place.
 #[derive(Drop)]
 pub enum Decoder<'a> {
-    /// A value, and null once it was read.
+    /// A value, which is replaced by null when it is read.
     Tree(Value),
-    /// The place of a checked item in bytes.
+    /// The position of a checked item in bytes.
     Lent(Cursor<'a>),
 }
 
-/// The elements of an array that are still to come.
+/// The elements of an array that are still to be read.
 #[derive(Drop)]
 pub enum ArrayElements {
-    /// Those of a value.
+    /// The elements of a value.
     Tree(vec::IntoIter<Value>),
-    /// Those of an array in bytes.
+    /// The elements of an array in bytes.
     Lent(Remaining),
 }
 
-/// The pairs of a map that are still to come.
+/// The pairs of a map that are still to be read.
 #[derive(Drop)]
 pub enum MapEntries {
-    /// Those of a value.
+    /// The pairs of a value.
     Tree(vec::IntoIter<(Value, Value)>),
-    /// Those of a map in bytes.
+    /// The pairs of a map in bytes.
     Lent(Remaining),
 }
 
-/// The elements of a value that is an array.
+/// Returns the elements of a value that is an array.
 fn tree_elements(value: Value, want: &'static str) -> Result<ArrayElements>
     ensures deeper { IfOk result (λ m. (s : State)
         → items_size m s < input_size (tree (value_item value))) }
@@ -60,7 +61,7 @@ fn tree_elements(value: Value, want: &'static str) -> Result<ArrayElements>
     }
 }
 
-/// The pairs of a value that is a map.
+/// Returns the pairs of a value that is a map.
 fn tree_pairs(value: Value) -> Result<MapEntries>
     ensures deeper { IfOk result (λ m. (s : State)
         → pairs_size m s < input_size (tree (value_item value))) }
@@ -72,7 +73,7 @@ fn tree_pairs(value: Value) -> Result<MapEntries>
     }
 }
 
-/// The error of an array with too few elements, or too many.
+/// Returns the error for an array with too few or too many elements.
 #[cold]
 pub fn wrong_length(want: &'static str) -> CoseError
     ensures { IsWrongLength want.now result }
@@ -81,7 +82,7 @@ pub fn wrong_length(want: &'static str) -> CoseError
 }
 
 impl<'a> Decoder<'a> {
-    /// The item that is read.
+    /// Returns an input at the item of `source`.
     pub fn new(source: ItemSource<'a>) -> Decoder<'a>
         ensures item { (z : State) × ItemAt (source_item source.entry) (state result) z }
         ensures size { input_size (state result) ≡ source_size source.entry }
@@ -92,10 +93,10 @@ impl<'a> Decoder<'a> {
         }
     }
 
-    /// The item. It takes no memory.
+    /// Returns the item and moves just after it. Allocates nothing.
     ///
     /// # Errors
-    /// None where an item is there.
+    /// `DecodeFailed` if no item is at the input.
     pub fn take(&mut self) -> Result<ItemSource<'a>>
         ensures shrinks { length_left (state self.new) ≤ length_left (state self.old) }
         ensures strictly { OnOk result (GoesBehind (state self.old) (state self.new)) }
@@ -109,7 +110,7 @@ impl<'a> Decoder<'a> {
         }
     }
 
-    /// Skips the item. It takes no memory.
+    /// Skips the item. Allocates nothing.
     pub fn skip(&mut self)
         ensures shrinks { length_left (state self.new) ≤ length_left (state self.old) }
         ensures passes { (v : Item) (z : State) → ItemAt v (state self.old) z → state self.new ≡ z }
@@ -122,10 +123,11 @@ impl<'a> Decoder<'a> {
         }
     }
 
-    /// Goes to the first element of an array. It takes no memory.
+    /// Enters an array: moves to its first element and returns the elements to be read. Allocates
+    /// nothing.
     ///
     /// # Errors
-    /// `UnexpectedItem`: the item is no array; it is skipped.
+    /// `UnexpectedItem` with `want` if the item is no array. The item is then skipped.
     pub fn enter_array(&mut self, want: &'static str) -> Result<ArrayElements>
         ensures shrinks { length_left (state self.new) ≤ length_left (state self.old) }
         ensures strictly { OnOk result (GoesBehind (state self.old) (state self.new)) }
@@ -143,10 +145,10 @@ impl<'a> Decoder<'a> {
         }
     }
 
-    /// Goes to the first key of a map. It takes no memory.
+    /// Enters a map: moves to its first key and returns the pairs to be read. Allocates nothing.
     ///
     /// # Errors
-    /// `UnexpectedItem`: the item is no map; it is skipped.
+    /// `UnexpectedItem` if the item is no map. The item is then skipped.
     pub fn enter_map(&mut self) -> Result<MapEntries>
         ensures shrinks { length_left (state self.new) ≤ length_left (state self.old) }
         ensures strictly { OnOk result (GoesBehind (state self.old) (state self.new)) }
@@ -165,7 +167,7 @@ impl<'a> Decoder<'a> {
     }
 }
 
-/// Whether one more of these items is at the input.
+/// Returns true if another of these items is at the input.
 fn next_lent(elements: &mut Remaining, input: &Decoder<'_>) -> bool
     ensures there { IsTrue result → IsLent (state input.now) }
     ensures nexts { (vs : Items) (z : State)
@@ -179,7 +181,8 @@ fn next_lent(elements: &mut Remaining, input: &Decoder<'_>) -> bool
 }
 
 impl ArrayElements {
-    /// Whether one more element is at the input, which is to be read next. It takes no memory.
+    /// Returns true if another element is at the input. The caller must read or skip that element
+    /// next. Allocates nothing.
     pub fn next(&mut self, input: &mut Decoder<'_>) -> bool
         ensures shrinks { length_left (state input.new) ≤ length_left (state input.old) }
         ensures size { items_size self.new (state input.new) ≤ items_size self.old
@@ -203,10 +206,10 @@ impl ArrayElements {
         }
     }
 
-    /// Goes to the next element, which has to be there. It takes no memory.
+    /// Moves to the next element, which must be there. Allocates nothing.
     ///
     /// # Errors
-    /// `UnexpectedItem` with `want`: no element is left, and the array is skipped.
+    /// `UnexpectedItem` with `want` if no element is left. The array is then skipped.
     pub fn next_required(&mut self, input: &mut Decoder<'_>, want: &'static str) -> Result<()>
         ensures shrinks { length_left (state input.new) ≤ length_left (state input.old) }
         ensures size { OnOk result (input_size (state input.new)
@@ -223,10 +226,11 @@ impl ArrayElements {
         Err(wrong_length(want))
     }
 
-    /// Skips the array, whose elements have to be read. It takes no memory.
+    /// Leaves an array whose elements were all read. The input is then just after the array.
+    /// Allocates nothing.
     ///
     /// # Errors
-    /// `UnexpectedItem` with `want`: an element is left.
+    /// `UnexpectedItem` with `want` if an element is left. The array is skipped all the same.
     pub fn end(&mut self, input: &mut Decoder<'_>, want: &'static str) -> Result<()>
         ensures shrinks { length_left (state input.new) ≤ length_left (state input.old) }
         ensures end { (vs : Items) (z : State) → AreWithin self.old vs (state input.old) z
@@ -243,14 +247,14 @@ impl ArrayElements {
         Ok(())
     }
 
-    /// No elements.
+    /// Returns an `ArrayElements` without elements.
     pub fn none() -> ArrayElements
         ensures { (s : List ℕ) → AreWithin result no_items (lent s) (lent s) }
     {
         ArrayElements::Lent(Remaining::none())
     }
 
-    /// Skips the elements that are left. It takes no memory.
+    /// Skips the elements that are left. Allocates nothing.
     pub fn finish(&mut self, input: &mut Decoder<'_>)
         ensures shrinks { length_left (state input.new) ≤ length_left (state input.old) }
         ensures passes { (vs : Items) (z : State) → AreWithin self.old vs (state input.old) z
@@ -266,7 +270,7 @@ impl ArrayElements {
     }
 }
 
-/// The next key of a map in bytes, whose value is then at the place.
+/// Reads the next key of a map in bytes. The key's value is then at the input.
 fn lent_key<K: FromPull + Drop>(
     alloc: Global,
     elements: &mut Remaining,
@@ -285,7 +289,7 @@ fn lent_key<K: FromPull + Drop>(
         return Ok(None);
     }
     let key = K::from_input(alloc, input);
-    // A key has a value.
+    // Moves on to the key's value, which is always there.
     if !next_lent(elements, input) {
         return Ok(None);
     }
@@ -298,7 +302,7 @@ fn lent_key<K: FromPull + Drop>(
     }
 }
 
-/// The key of a pair of a value, whose value is then at the place.
+/// Reads the key of a pair of values. The key's value is then at the input.
 fn tree_key<K: FromPull>(
     alloc: Global,
     key: Value,
@@ -317,10 +321,14 @@ fn tree_key<K: FromPull>(
 }
 
 impl MapEntries {
-    /// The next key, whose value then is at the input, which is to be read next; or `None` where no pair is left.
+    /// Reads the next key, or returns `None` if no pair is left. The key's value is then at the
+    /// input, and the caller must read or skip it next.
     ///
     /// # Errors
-    /// `OutOfMemory`, or a fault of the key; its value is then skipped.
+    /// - `OutOfMemory` if an allocation fails.
+    /// - A fault in the key.
+    ///
+    /// The key's value is then skipped.
     pub fn next_key<K: FromPull + Drop>(
         &mut self,
         alloc: Global,
@@ -346,14 +354,14 @@ impl MapEntries {
         }
     }
 
-    /// No pairs.
+    /// Returns a `MapEntries` without pairs.
     pub fn none() -> MapEntries
         ensures { (s : List ℕ) → PairsWithin result no_pairs (lent s) (lent s) }
     {
         MapEntries::Lent(Remaining::none())
     }
 
-    /// Passes the pairs that are left. It takes no memory.
+    /// Skips the pairs that are left. Allocates nothing.
     pub fn finish(&mut self, input: &mut Decoder<'_>)
         ensures shrinks { length_left (state input.new) ≤ length_left (state input.old) }
         ensures passes { (ps : Pairs) (z : State) → PairsWithin self.old ps (state input.old) z

@@ -1,4 +1,5 @@
-//! Arrays of fixed elements: each element is read in order, and the array is determined by all of them.
+//! Arrays with a fixed number of elements. All elements are read in order, even after a fault in
+//! one of them.
 
 ghost use Rattle.std.specs.Prelude.{◌≡◌, ◌≤◌};
 ghost use Rattle.coset_value.specs.Item.{Items};
@@ -10,8 +11,8 @@ use crate::error::Result;
 use crate::read::{ArrayElements, Decode, Decoder};
 use std::alloc::Global;
 
-/// The elements of an array, read one by one: `()` where none is left, and `(A, P)` of an element and those behind it. So
-/// `(A, (B, ()))` are two elements.
+/// The elements of an array, read one by one. `()` is no element, and `(A, P)` is one element
+/// followed by the elements `P`. So `(A, (B, ()))` is two elements.
 pub trait DecodeElements: Sized {
     /// What contracts see of the values, and which elements of an array represent which values.
     ghost View: { Type 0 };
@@ -24,10 +25,11 @@ pub trait DecodeElements: Sized {
     ghost fits: { (vs : Items) (x : View)
         → elements.describes vs x → elements.wrong_length vs → ⊥ };
 
-    /// Reads the elements from the first to the last, and passes the array.
+    /// Reads the elements from first to last, and leaves the input just after the array.
     ///
     /// # Errors
-    /// `UnexpectedItem` with `want`: there are fewer elements, or more. Or else the fault of the last place that has one.
+    /// - `UnexpectedItem` with `want` if there are fewer elements or more.
+    /// - Otherwise the error of the last element that has one.
     fn decode_elements(
         alloc: Global,
         array: &mut ArrayElements,
@@ -39,7 +41,7 @@ pub trait DecodeElements: Sized {
             → (state input.new ≡ z) × ReadsElements elements view vs result };
 }
 
-/// No place is left.
+/// No elements.
 impl DecodeElements for () {
     ghost use Rattle.coset_codec.specs.ShapeLaws.{end_laws};
 
@@ -62,7 +64,7 @@ impl DecodeElements for () {
     }
 }
 
-/// A place, and those behind it.
+/// An element, and those after it.
 impl<A: Decode + Drop, P: DecodeElements + Drop> DecodeElements for (A, P) {
     ghost use Rattle.coset_codec.specs.ShapeLaws.{fits_behind};
 
@@ -88,12 +90,13 @@ impl<A: Decode + Drop, P: DecodeElements + Drop> DecodeElements for (A, P) {
     }
 }
 
-/// Reads an array of these elements, from the first to the last: `(A, (B, ()))` are two, determined by
-/// `"array with 2 items"`.
+/// Reads an array of the elements `P`, from first to last. For two elements, `P` is `(A, (B, ()))`
+/// and `want` is `"array with 2 items"`, for example.
 ///
 /// # Errors
-/// `OutOfMemory`; `UnexpectedItem` where the item is no array, or, with `want`, one of another number of elements; or the fault of
-/// the last place that has one.
+/// - `UnexpectedItem` if the item is no array.
+/// - `UnexpectedItem` with `want` if the array has another number of elements.
+/// - Otherwise the error of the last element that has one: a fault, or `OutOfMemory`.
 #[inline]
 pub fn decode_array<P: DecodeElements>(
     alloc: Global,

@@ -1,4 +1,4 @@
-//! Fields of a map: labels that may occur in it once, each with a value of one type.
+//! Fields of a map: labels that may occur once, each with a value of one type.
 
 ghost use Rattle.std.specs.Prelude.{◌≡◌, ◌≤◌, IfErr, OnErr, OnOk, option_map};
 ghost use Rattle.coset_codec.specs.Answers.{Reads};
@@ -12,8 +12,8 @@ use crate::read::{Decoder, read_list};
 use crate::traits::FromPull;
 use std::alloc::Global;
 
-/// A type that is read from the item at an input: every [`FromPull`] type, bytes, texts and numbers. It is to
-/// reading what [`Encode`](crate::Encode) is to writing.
+/// A type that is read from the item at an input: every [`FromPull`] type, bytes, texts and
+/// numbers. This trait is to reading as [`Encode`](crate::Encode) is to writing.
 pub trait Decode: Sized {
     /// What contracts see of a value, and which items represent which values.
     ghost View: { Type 0 };
@@ -22,10 +22,12 @@ pub trait Decode: Sized {
 
     ghost shape: { Shape View };
 
-    /// Reads a value from the item at the input, and leaves that just behind it, also where it is refused.
+    /// Reads a value from the item at the input. Leaves the input just after the item, even if the
+    /// item is refused.
     ///
     /// # Errors
-    /// `OutOfMemory`, or a fault that is in the item.
+    /// - `OutOfMemory` if an allocation fails.
+    /// - A fault in the item.
     fn decode(alloc: Global, input: &mut Decoder<'_>) -> Result<Self>
         ensures shrinks { length_left (state input.new) ≤ length_left (state input.old) }
         ensures reads { ReadsAt (state input.old) (state input.new)
@@ -44,7 +46,7 @@ impl<T: FromPull> Decode for T {
     }
 }
 
-/// Bytes are those of a byte string.
+/// A `Vec<u8>` is the content of a byte string.
 impl Decode for Vec<u8> {
     ghost use Rattle.std.specs.Prelude.{List, ℕ};
     ghost use Rattle.coset_codec.specs.Shape.{bstr};
@@ -60,7 +62,7 @@ impl Decode for Vec<u8> {
     }
 }
 
-/// Bytes that may be missing are a byte string or null.
+/// An `Option<Vec<u8>>` is the content of a byte string, or `None` for null.
 impl Decode for Option<Vec<u8>> {
     ghost use Rattle.std.specs.Prelude.{List, Option, option_map, ℕ};
     ghost use Rattle.coset_codec.specs.Shape.{bstr, or_nil};
@@ -76,7 +78,7 @@ impl Decode for Option<Vec<u8>> {
     }
 }
 
-/// A list is an array of its elements.
+/// A `Vec<T>` is the elements of an array.
 impl<T: FromPull + Drop> Decode for Vec<T> {
     ghost use Rattle.std.specs.Prelude.{List, map};
     ghost use Rattle.coset_codec.specs.Shape.{list_of};
@@ -108,7 +110,7 @@ impl Decode for String {
     }
 }
 
-/// A number is an integer of 64 bits with a sign.
+/// An `i64` is an integer of 64 bits with a sign.
 impl Decode for i64 {
     ghost use Rattle.std.specs.Prelude.{ℤ};
     ghost use Rattle.coset_codec.specs.Shape.{int64};
@@ -124,11 +126,14 @@ impl Decode for i64 {
     }
 }
 
-/// Sets a field to what its value is read as, and goes behind that.
+/// Reads the value at the input into a field, and leaves the input just after it.
 ///
 /// # Errors
-/// `OutOfMemory`; `DuplicateMapKey` where the field has a value already; or a fault of its value. The field is then as
-/// before.
+/// - `OutOfMemory` if an allocation fails.
+/// - `DuplicateMapKey` if the field has a value already.
+/// - A fault in the value.
+///
+/// The field is then unchanged.
 pub fn set_field<T: Decode + Drop>(
     alloc: Global,
     field: &mut Option<T>,
@@ -149,10 +154,11 @@ pub fn set_field<T: Decode + Drop>(
     Ok(())
 }
 
-/// Sets bytes, which are absent where they are empty, to those of a value that isn't, and goes behind that.
+/// Reads a byte string that is not empty into a field, and leaves the input just after it. The
+/// field has no value while it is empty.
 ///
 /// # Errors
-/// The same as [`set_field`]; an empty byte string is `UnexpectedItem`.
+/// The same as [`set_field`]. An empty byte string is `UnexpectedItem`.
 pub fn set_nonempty(alloc: Global, field: &mut Vec<u8>, input: &mut Decoder<'_>) -> Result<()>
     ensures shrinks { length_left (state input.new) ≤ length_left (state input.old) }
     ensures takes { ReadsAt (state input.old) (state input.new) (λ v. OnOk result

@@ -1,5 +1,6 @@
-//! What an item holds, read where it is. Who reads it leaves the input just behind it, also where it is refused; but
-//! what returns `None` or `false` leaves it where it was.
+//! Reading the content of an item in place. A reader leaves the input just after the item, even if
+//! the item is refused. But if `integer` or `float` returns `None`, or `null` returns `false`, the
+//! input is unchanged.
 
 ghost use Rattle.std.specs.Prelude.{◌≡◌, ◌≤◌, ◌⊎◌, false, None, IfErr, IfSome, IsTrue, option_map, pos, string_bytes};
 ghost use Rattle.coset_value.specs.Item.{Item};
@@ -23,7 +24,7 @@ use std::alloc::Global;
 use std::mem;
 
 impl<'a> Decoder<'a> {
-    /// The number of an integer, or `None` of any other item. It takes no memory.
+    /// Reads the number of an integer, or returns `None` for any other item. Allocates nothing.
     pub fn integer(&mut self) -> Option<Integer>
         ensures shrinks { length_left (state self.new) ≤ length_left (state self.old) }
         ensures strictly { IfSome result (λ _. GoesBehind (state self.old) (state self.new)) }
@@ -43,7 +44,8 @@ impl<'a> Decoder<'a> {
         }
     }
 
-    /// The width and bits of a float, or `None` of any other item. It takes no memory.
+    /// Reads the width and bits of a float, or returns `None` for any other item. Allocates
+    /// nothing.
     pub fn float(&mut self) -> Option<Float>
         ensures shrinks { length_left (state self.new) ≤ length_left (state self.old) }
         ensures strictly { IfSome result (λ _. GoesBehind (state self.old) (state self.new)) }
@@ -64,7 +66,7 @@ impl<'a> Decoder<'a> {
         }
     }
 
-    /// Whether the item is null. It takes no memory.
+    /// Skips the item and returns true if it is null. Allocates nothing.
     pub fn null(&mut self) -> bool
         ensures shrinks { length_left (state self.new) ≤ length_left (state self.old) }
         ensures strictly { IsTrue result → GoesBehind (state self.old) (state self.new) }
@@ -78,7 +80,8 @@ impl<'a> Decoder<'a> {
         }
     }
 
-    /// The error for an item of another kind than `want`, which is passed. It takes no memory.
+    /// Skips the item and returns the error for an item of another kind than `want`. Allocates
+    /// nothing.
     pub fn type_error(&mut self, want: &'static str) -> CoseError
         ensures shrinks { length_left (state self.new) ≤ length_left (state self.old) }
         ensures tells { ReadsAt (state self.old) (state self.new) (λ v. IsUnexpected result
@@ -91,8 +94,8 @@ impl<'a> Decoder<'a> {
         }
     }
 
-    /// The error of a label that occurs twice in a map; its second value, which is there, is skipped. It takes no
-    /// memory.
+    /// Returns the error for a label that occurs twice in a map. The second value of that label is
+    /// at the input and is skipped. Allocates nothing.
     #[cold]
     pub fn repeated(&mut self) -> CoseError
         ensures shrinks { length_left (state self.new) ≤ length_left (state self.old) }
@@ -103,10 +106,10 @@ impl<'a> Decoder<'a> {
         CoseError::DuplicateMapKey
     }
 
-    /// The item as a value.
+    /// Reads the item as a value.
     ///
     /// # Errors
-    /// `OutOfMemory` alone.
+    /// `OutOfMemory` if an allocation fails. A tree is moved, without memory.
     pub fn value(&mut self, alloc: Global) -> Result<Value>
         ensures forward { ReadsForward (state self.old) (state self.new) result
             (λ v. Copies value_item v result) }
@@ -118,10 +121,11 @@ impl<'a> Decoder<'a> {
         }
     }
 
-    /// The bytes of a byte string.
+    /// Reads the bytes of a byte string.
     ///
     /// # Errors
-    /// `OutOfMemory`, of lent bytes alone; `UnexpectedItem` with `want`.
+    /// - `OutOfMemory` if an allocation fails. This happens only for borrowed bytes.
+    /// - `UnexpectedItem` with `want` for any other item.
     pub fn bytes(&mut self, alloc: Global, want: &'static str) -> Result<Vec<u8>>
         ensures forward { ReadsForward (state self.old) (state self.new) result
             (λ v. Reads bstr (λ b. b.items) v result) }
@@ -138,10 +142,11 @@ impl<'a> Decoder<'a> {
         }
     }
 
-    /// The text of a text string.
+    /// Reads the text of a text string.
     ///
     /// # Errors
-    /// `OutOfMemory`, of lent bytes alone; `UnexpectedItem` with `want`.
+    /// - `OutOfMemory` if an allocation fails. This happens only for borrowed bytes.
+    /// - `UnexpectedItem` with `want` for any other item.
     pub fn text(&mut self, alloc: Global, want: &'static str) -> Result<String>
         ensures forward { ReadsForward (state self.old) (state self.new) result
             (λ v. Reads tstr string_bytes v result) }
@@ -158,10 +163,11 @@ impl<'a> Decoder<'a> {
         }
     }
 
-    /// An integer of 64 bits with a sign. It takes no memory.
+    /// Reads an integer of 64 bits with a sign. Allocates nothing.
     ///
     /// # Errors
-    /// `OutOfRangeIntegerValue` of another integer; `UnexpectedItem` with `want`.
+    /// - `OutOfRangeIntegerValue` for any other integer.
+    /// - `UnexpectedItem` with `want` for any other item.
     pub fn int64(&mut self, want: &'static str) -> Result<i64>
         ensures forward { ReadsForward (state self.old) (state self.new) result
             (λ v. Reads int64 (λ n. n) v result) }
@@ -174,10 +180,11 @@ impl<'a> Decoder<'a> {
         }
     }
 
-    /// An integer that isn't negative. It takes no memory.
+    /// Reads an integer that is not negative. Allocates nothing.
     ///
     /// # Errors
-    /// `OutOfRangeIntegerValue` of a negative one; `UnexpectedItem` with `want`.
+    /// - `OutOfRangeIntegerValue` for a negative integer.
+    /// - `UnexpectedItem` with `want` for any other item.
     pub fn uint(&mut self, want: &'static str) -> Result<u64>
         ensures forward { ReadsForward (state self.old) (state self.new) result
             (λ v. Reads uint (λ n. pos n) v result) }
@@ -190,10 +197,11 @@ impl<'a> Decoder<'a> {
         }
     }
 
-    /// The bytes of a byte string, or `None` of null.
+    /// Reads the bytes of a byte string, or returns `None` for null.
     ///
     /// # Errors
-    /// `OutOfMemory`; `UnexpectedItem` with `want`.
+    /// - `OutOfMemory` if an allocation fails.
+    /// - `UnexpectedItem` with `want` for any other item.
     pub fn bytes_or_nil(&mut self, alloc: Global, want: &'static str) -> Result<Option<Vec<u8>>>
         ensures forward { ReadsForward (state self.old) (state self.new) result
             (λ v. Reads (or_nil bstr) (λ o. option_map (λ b. b.items) o) v result) }
@@ -206,10 +214,11 @@ impl<'a> Decoder<'a> {
         Ok(Some(self.bytes(alloc, want)?))
     }
 
-    /// The bytes of a byte string that isn't empty.
+    /// Reads the bytes of a byte string that is not empty.
     ///
     /// # Errors
-    /// `OutOfMemory`; `UnexpectedItem`, also of an empty one.
+    /// - `OutOfMemory` if an allocation fails.
+    /// - `UnexpectedItem` for any other item, and for an empty byte string.
     pub fn nonempty_bytes(&mut self, alloc: Global) -> Result<Vec<u8>>
         ensures forward { ReadsForward (state self.old) (state self.new) result
             (λ v. Reads nonempty_bstr (λ b. b.items) v result) }

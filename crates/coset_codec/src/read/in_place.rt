@@ -1,6 +1,6 @@
-//! Lists of what holds lists of its own kind, as a recipient holds recipients. Input chooses how deep these lie, and what
-//! is returned by value takes its size in stack at each level: so an element is made empty at its place in the list, and
-//! is filled there.
+//! Lists whose elements contain lists of their own kind, as recipients contain recipients. The
+//! input chooses how deep these nest, and returning a value takes its size in stack at every level.
+//! So an element is made empty at its place in the list, and filled there.
 
 ghost use Rattle.std.specs.Prelude.{◌≡◌, ◌≤◌, ◌<◌, [], option_map, IfOk, IsTrue, OnOk};
 ghost use Rattle.coset_value.specs.Item.{Items};
@@ -13,20 +13,20 @@ use crate::read::{ArrayElements, Decoder};
 use crate::util::copy_bstr;
 use std::alloc::{AllocError, Global};
 
-/// A type whose values are made empty, and are filled where they are.
+/// A type whose values are made empty and then filled in place.
 pub trait InPlace: Sized + Drop {
-    /// What holds of an empty value.
+    /// The property of an empty value.
     ghost is_empty: { Self → Type 0 };
 
-    /// An empty value. It takes no memory.
+    /// Returns an empty value. Allocates nothing.
     fn empty(alloc: Global) -> Self
         ensures { is_empty result };
 }
 
-/// Adds an empty value at the end of a list. The first takes room for itself alone.
+/// Appends an empty value to a list. The first one reserves room for itself alone.
 ///
 /// # Errors
-/// That memory ran out.
+/// `AllocError` if an allocation fails.
 #[inline(never)]
 pub fn push_empty<T: InPlace>(all: &mut Vec<T>) -> Result<(), AllocError>
     ensures { OnOk result (GetsOne T.is_empty all.old.items all.new.items) }
@@ -41,10 +41,11 @@ pub fn push_empty<T: InPlace>(all: &mut Vec<T>) -> Result<(), AllocError>
     Ok(())
 }
 
-/// Whether one more element is at the input, for which an empty one is the last of the list then.
+/// If the array has another element, pushes an empty value for it and returns true. The element is
+/// then at the input.
 ///
 /// # Errors
-/// `OutOfMemory`; what is at the input is then skipped.
+/// `ErrorStored` if an allocation fails. `error` is then `OutOfMemory`, and the element is skipped.
 #[inline(never)]
 pub fn next_place<T: InPlace>(
     all: &mut Vec<T>,
@@ -74,16 +75,17 @@ pub fn next_place<T: InPlace>(
     Ok(true)
 }
 
-/// Drops a value that was read in part, where its item is refused. It is a function of its own, since a function that drops a
-/// value keeps room for it in its frame, and clears that room on every path, also on those that drop nothing.
+/// Drops a value that was read in part, if its item is refused. A function that drops a value keeps
+/// room for it in its stack frame. It clears that room on every path, even if nothing is dropped.
+/// So the drop has a function of its own.
 #[cold]
 #[inline(never)]
 pub fn drop_refused<T: Drop>(_value: T) {}
 
-/// Empties a list, and makes room for that many values.
+/// Empties a list and reserves room for `count` values.
 ///
 /// # Errors
-/// That memory ran out. The list is empty all the same.
+/// `AllocError` if an allocation fails. The list is empty all the same.
 #[inline(never)]
 pub fn make_room<T: Drop>(copies: &mut Vec<T>, count: usize) -> Result<(), AllocError>
     ensures { copies.new.items ≡ [] }
@@ -95,7 +97,7 @@ pub fn make_room<T: Drop>(copies: &mut Vec<T>, count: usize) -> Result<(), Alloc
 /// Copies bytes that may be missing into `copy`.
 ///
 /// # Errors
-/// That memory ran out.
+/// `AllocError` if an allocation fails.
 #[inline(never)]
 pub fn copy_bstr_to(bytes: &Option<Vec<u8>>, copy: &mut Option<Vec<u8>>) -> Result<(), AllocError>
     ensures { OnOk result (option_map (λ b. b.items) copy.new

@@ -15,7 +15,7 @@ use crate::read::{ArrayElements, Decoder};
 use crate::traits::FromPull;
 use std::alloc::Global;
 
-/// Reads the elements that are left, from the first on, as far as the first that has a fault.
+/// Reads the elements that are left, up to the first with a fault.
 fn read_each<T: FromPull + Drop>(
     alloc: Global,
     elements: &mut ArrayElements,
@@ -37,11 +37,12 @@ fn read_each<T: FromPull + Drop>(
     Ok(all)
 }
 
-/// Reads an array whose elements are of one type, from the first on.
+/// Reads an array whose elements are of one type, in order.
 ///
 /// # Errors
-/// `OutOfMemory`; `UnexpectedItem` with `want` where the item is no array; or the fault of the first element that has
-/// one.
+/// - `OutOfMemory` if an allocation fails.
+/// - `UnexpectedItem` with `want` if the item is no array.
+/// - The fault of the first element that has one.
 pub fn read_list<T: FromPull + Drop>(
     alloc: Global,
     input: &mut Decoder<'_>,
@@ -58,10 +59,10 @@ pub fn read_list<T: FromPull + Drop>(
     all
 }
 
-/// Reads such an array that isn't empty. An empty one is `UnexpectedItem` with these two texts.
+/// Reads an array that is not empty, with elements of one type.
 ///
 /// # Errors
-/// The same as [`read_list`].
+/// The same as [`read_list`]. An empty array is `UnexpectedItem` with the two texts of `empty`.
 pub fn read_nonempty_list<T: FromPull + Drop>(
     alloc: Global,
     input: &mut Decoder<'_>,

@@ -16,8 +16,8 @@ use crate::error::{CoseError, Result};
 use crate::read::{Decoder, MapEntries};
 use std::alloc::Global;
 
-/// What the pairs of a map make that were read so far: the fields that some labels have, and all other pairs in
-/// order.
+/// Collects the pairs of a map as they are read. Some labels have fields. All other pairs are the
+/// rest, which keeps their order.
 pub trait MapVisitor: Sized {
     /// A label.
     type Label: Drop;
@@ -34,10 +34,11 @@ pub trait MapVisitor: Sized {
 
     ghost named: { Self.Label → Name };
 
-    /// The fields, and the rest by label.
+    /// The fields, and the pairs of the rest by label.
     ghost view: { Self → Got × List (Name × Item) };
 
-    /// The next label, whose value then is at the input; or `None` where no pair is left.
+    /// Reads the next label, or returns `None` if no pair is left. The label's value is then at the
+    /// input.
     ///
     /// # Errors
     /// The same as [`MapEntries::next_key`].
@@ -52,11 +53,15 @@ pub trait MapVisitor: Sized {
         ensures nexts { (ps : Pairs) (z : State) → PairsWithin pairs.old ps (state input.old) z
             → NextsKey names.shape named ps (state input.new) z pairs.new result };
 
-    /// Takes one more value, by its label, and goes behind it. Whether a label of the rest repeats isn't checked.
+    /// Reads the value at the input under `label`, and leaves the input just after it. Repeated
+    /// labels in the rest are not checked here.
     ///
     /// # Errors
-    /// `OutOfMemory`; `DuplicateMapKey` where a field has a value already; or a fault of its value. What was gathered
-    /// is then as before.
+    /// - `OutOfMemory` if an allocation fails.
+    /// - `DuplicateMapKey` if the label has a field with a value already.
+    /// - A fault in the value.
+    ///
+    /// The pairs collected before are then unchanged.
     fn add(&mut self, alloc: Global, label: Self::Label, input: &mut Decoder<'_>) -> Result<()>
         ensures shrinks { length_left (state input.new) ≤ length_left (state input.old) }
         ensures takes { ReadsAt (state input.old) (state input.new) (λ v. OnOk result
@@ -65,10 +70,10 @@ pub trait MapVisitor: Sized {
             (λ e. UnlessMemory e (Refuses names fields (named label) v (view self.old)))) }
         ensures kept { OnErr result (view self.new ≡ view self.old) };
 
-    /// Whether a label of the rest occurs twice.
+    /// Returns true if a label of the rest occurs twice.
     ///
     /// # Errors
-    /// `OutOfMemory` alone.
+    /// `OutOfMemory` if an allocation fails.
     fn repeats(&self, alloc: Global) -> Result<bool>
         ensures repeats { IfOk result (λ b. b
             ≡ not (are_distinct names.same (keys_of (view self.now).1))) }
@@ -79,10 +84,13 @@ pub trait MapVisitor: Sized {
     ghost lawful_fields: { LawfulFields Name Got names fields };
 }
 
-/// What to answer once pairs were read: a label of the rest that repeats comes before the fault behind it.
+/// Returns the final result after the pairs were read. A repeated label in the rest precedes the
+/// fault in `all`, so it is checked first.
 ///
 /// # Errors
-/// `OutOfMemory`; `DuplicateMapKey`; or the fault that was found.
+/// - `OutOfMemory` if an allocation fails.
+/// - `DuplicateMapKey` if a label of the rest repeats.
+/// - Otherwise the error of `all`.
 fn first_fault<G: MapVisitor>(alloc: Global, so_far: &G, all: Result<()>) -> Result<()>
     ensures read { OnOk result ((are_distinct G.names.same (keys_of (G.view so_far.now).1) ≡ true)
         × (all ≡ Ok tt)) }
@@ -96,10 +104,12 @@ fn first_fault<G: MapVisitor>(alloc: Global, so_far: &G, all: Result<()>) -> Res
     all
 }
 
-/// Reads the pairs that are left. Where one is at fault, it is skipped, and those before it stay gathered.
+/// Reads the pairs that are left into `so_far`. A pair with a fault is skipped, and `so_far` keeps
+/// the pairs before it.
 ///
 /// # Errors
-/// `OutOfMemory`; or the fault of the first pair that has one: of its key, then of its value.
+/// - `OutOfMemory` if an allocation fails.
+/// - The fault of the first pair that has one: in its key, then in its value.
 fn read_pairs<G: MapVisitor>(
     alloc: Global,
     pairs: &mut MapEntries,
@@ -118,13 +128,14 @@ fn read_pairs<G: MapVisitor>(
     Ok(())
 }
 
-/// Reads a map into what gathers it, from the first pair on, and leaves the input behind it. Where a pair is at fault, those
-/// before it stay gathered.
+/// Reads a map into `so_far`, from the first pair on, and leaves the input just after the map.
+/// After an error, `so_far` keeps the pairs before the fault.
 ///
 /// # Errors
-/// `OutOfMemory`; `UnexpectedItem` where the item is no map; or the fault of the first pair that has one: of its
-/// key, then
-/// a label that was there before, then of its value.
+/// - `OutOfMemory` if an allocation fails.
+/// - `UnexpectedItem` if the item is no map.
+/// - The fault of the first pair that has one: in its key, then a repeated label, then in its
+///   value.
 pub fn read_map<G: MapVisitor>(alloc: Global, input: &mut Decoder<'_>, so_far: &mut G) -> Result<()>
     requires fields { G.fields.describes [] (G.view so_far.old).0 }
     requires rest { (G.view so_far.old).1 ≡ [] }

@@ -1,4 +1,4 @@
-//! One item, given in one of two ways: as a value, or as bytes that are lent.
+//! An item as a source of reading: a value, or borrowed bytes.
 
 ghost use Rattle.std.specs.Prelude.{string_bytes};
 ghost use Rattle.coset_value.specs.Parts.{as_bytes, as_text};
@@ -12,8 +12,8 @@ use crate::util::{cbor_type_error, pull_type_error, type_error};
 use coset_cbor::de::Pull;
 use coset_cbor::value::Value;
 
-/// One item, read once: a tree that is used up, whose strings are moved, or bytes that are lent, whose strings are
-/// copied as they are read.
+/// One item, which is read once. A tree is consumed, and its strings are moved. From borrowed
+/// bytes, strings are copied as they are read.
 #[derive(Drop)]
 pub enum ItemSource<'a> {
     /// A value.
@@ -22,7 +22,7 @@ pub enum ItemSource<'a> {
     Lent(Pull<'a>),
 }
 
-/// The bytes of a value that is a byte string.
+/// Returns the bytes of a value that is a byte string.
 pub(crate) fn tree_bytes(value: Value, want: &'static str) -> Result<Vec<u8>>
     ensures { TriesAs as_bytes (λ b. b.items) want.now (value_item value) result }
 {
@@ -32,7 +32,7 @@ pub(crate) fn tree_bytes(value: Value, want: &'static str) -> Result<Vec<u8>>
     }
 }
 
-/// The text of a value that is a text string.
+/// Returns the text of a value that is a text string.
 pub(crate) fn tree_text(value: Value, want: &'static str) -> Result<String>
     ensures { TriesAs as_text string_bytes want.now (value_item value) result }
 {
@@ -43,7 +43,7 @@ pub(crate) fn tree_text(value: Value, want: &'static str) -> Result<String>
 }
 
 impl ItemSource<'_> {
-    /// The error for an item of another kind than `want`.
+    /// Returns the error for an item of another kind than `want`.
     pub fn type_error(&self, want: &'static str) -> CoseError
         ensures { IsUnexpected result × Says (kind (source_item self.now)) want.now result }
     {

@@ -1,4 +1,4 @@
-//! Values written straight into bytes: each type's one writer.
+//! Writing values directly as bytes: the one writer of each type.
 
 ghost use Rattle.std.specs.Prelude.{length, Option, Some, option_map, OnOk, IfErr};
 ghost use Rattle.coset_value.specs.Item.{Item, array, item, bytes, tag};
@@ -17,17 +17,18 @@ use coset_cbor::ser::{
 use coset_cbor::value::{Integer, Value};
 use std::alloc::Global;
 
-/// No head is longer (RFC 8949, section 3).
+/// The length of the longest head (RFC 8949, section 3).
 const LONGEST_HEAD: usize = 9;
 
-/// A type that is written straight into bytes, without a value in between. From its one writer follow all that
-/// [`AsCborValue`](crate::AsCborValue) and [`CborSerializable`](crate::CborSerializable) write.
+/// A type that is written directly to bytes, without a `Value` in between. For a
+/// [`Codec`](crate::Codec), [`AsCborValue`](crate::AsCborValue) and
+/// [`CborSerializable`](crate::CborSerializable) write through this one writer.
 pub trait Encode {
-    /// The item that a value is written as, where there is one.
+    /// The item that a value is written as, or `None` if there is none.
     ghost image: { Self → Option Item };
 
-    /// About as many bytes as the encoding takes: so many are reserved before it is written. It is a hint, of which
-    /// nothing is asked: 0 is right too, and what is written is the same.
+    /// Returns the approximate length of the encoding, which is reserved before writing. This is
+    /// only a hint. Even 0 is correct, and the bytes written are the same.
     fn encoded_size_hint(&self) -> usize {
         0
     }
@@ -35,8 +36,10 @@ pub trait Encode {
     /// Appends the shortest encoding of the value's item (RFC 8949, section 4.2.1).
     ///
     /// # Errors
-    /// `OutOfMemory`, or `DuplicateMapKey`, only where the value has no item. `out` then begins with all that it had;
-    /// what was appended before the error may follow.
+    /// - `OutOfMemory` if an allocation fails.
+    /// - `DuplicateMapKey` if the value has no item.
+    ///
+    /// The old content of `out` is then unchanged. Bytes appended before the error may follow it.
     fn encode(&self, alloc: Global, out: &mut Vec<u8>) -> Result<()>
         ensures written { Encodes (image self.now) out.old.items out.new.items result }
         ensures kept { Extends out.old.items out.new.items };
@@ -53,7 +56,7 @@ impl Encode for Value {
     }
 }
 
-/// A number is an integer.
+/// An `i64` is an integer.
 impl Encode for i64 {
     ghost use Rattle.coset_value.specs.Item.{integer};
 
@@ -69,7 +72,7 @@ impl Encode for i64 {
     }
 }
 
-/// A number without a sign is an integer.
+/// A `u64` is an integer.
 impl Encode for u64 {
     ghost use Rattle.coset_value.specs.Item.{integer};
     ghost use Rattle.std.specs.Prelude.{pos};
@@ -103,7 +106,7 @@ impl Encode for String {
     }
 }
 
-/// Bytes are a byte string.
+/// A `Vec<u8>` is a byte string.
 impl Encode for Vec<u8> {
     ghost image = { λ b. Some (bytes b.items) };
 
@@ -117,7 +120,7 @@ impl Encode for Vec<u8> {
     }
 }
 
-/// Bytes that may be missing are a byte string or null.
+/// An `Option<Vec<u8>>` is a byte string, or null for `None`.
 impl Encode for Option<Vec<u8>> {
     ghost use Rattle.coset_codec.specs.Shape.{bstr, or_nil};
 
@@ -139,7 +142,7 @@ impl Encode for Option<Vec<u8>> {
     }
 }
 
-/// The array of these, in order.
+/// A slice that is written as an array of its elements, in order.
 #[derive(Clone, Copy)]
 pub struct Array<'a, T>(pub &'a [T]);
 
@@ -160,7 +163,7 @@ impl<T: Encode> Encode for Array<'_, T> {
     }
 }
 
-/// Appends these, one after the other.
+/// Appends the elements, one after the other.
 fn encode_elements<T: Encode>(alloc: Global, elements: &[T], out: &mut Vec<u8>) -> Result<()>
     ensures ok { OnOk result (AppendsElements (images T.image elements.now) (length elements.now)
         out.old.items out.new.items) }
@@ -173,10 +176,13 @@ fn encode_elements<T: Encode>(alloc: Global, elements: &[T], out: &mut Vec<u8>) 
     Ok(())
 }
 
-/// Appends the array of two elements.
+/// Appends an array of two elements.
 ///
 /// # Errors
-/// Those of the first place that has one. `out` is then as [`Encode::encode`] leaves it.
+/// - `OutOfMemory` if an allocation fails.
+/// - Otherwise the error of the first element that has one.
+///
+/// `out` is then as [`Encode::encode`] leaves it.
 pub fn encode_two<A: Encode, B: Encode>(
     alloc: Global,
     a: &A,
@@ -193,10 +199,13 @@ pub fn encode_two<A: Encode, B: Encode>(
     Ok(())
 }
 
-/// Appends the array of three elements.
+/// Appends an array of three elements.
 ///
 /// # Errors
-/// Those of the first place that has one. `out` is then as [`Encode::encode`] leaves it.
+/// - `OutOfMemory` if an allocation fails.
+/// - Otherwise the error of the first element that has one.
+///
+/// `out` is then as [`Encode::encode`] leaves it.
 pub fn encode_three<A: Encode, B: Encode, C: Encode>(
     alloc: Global,
     a: &A,
@@ -215,10 +224,13 @@ pub fn encode_three<A: Encode, B: Encode, C: Encode>(
     Ok(())
 }
 
-/// Appends the array of four elements.
+/// Appends an array of four elements.
 ///
 /// # Errors
-/// Those of the first place that has one. `out` is then as [`Encode::encode`] leaves it.
+/// - `OutOfMemory` if an allocation fails.
+/// - Otherwise the error of the first element that has one.
+///
+/// `out` is then as [`Encode::encode`] leaves it.
 pub fn encode_four<A: Encode, B: Encode, C: Encode, D: Encode>(
     alloc: Global,
     a: &A,
@@ -240,10 +252,13 @@ pub fn encode_four<A: Encode, B: Encode, C: Encode, D: Encode>(
     Ok(())
 }
 
-/// Appends the array of five elements.
+/// Appends an array of five elements.
 ///
 /// # Errors
-/// Those of the first place that has one. `out` is then as [`Encode::encode`] leaves it.
+/// - `OutOfMemory` if an allocation fails.
+/// - Otherwise the error of the first element that has one.
+///
+/// `out` is then as [`Encode::encode`] leaves it.
 pub fn encode_five<A: Encode, B: Encode, C: Encode, D: Encode, E: Encode>(
     alloc: Global,
     a: &A,
@@ -268,7 +283,8 @@ pub fn encode_five<A: Encode, B: Encode, C: Encode, D: Encode, E: Encode>(
     Ok(())
 }
 
-/// What `to_vec` is made of. The answers are those of [`CborSerializable::to_vec`](crate::CborSerializable::to_vec).
+/// Writes a value as bytes. This is the body of `to_vec`, and its results are those of
+/// [`CborSerializable::to_vec`](crate::CborSerializable::to_vec).
 ///
 /// # Errors
 /// The same as [`Encode::encode`].
@@ -282,7 +298,7 @@ pub fn encode_to_vec<T: Encode>(alloc: Global, value: &T) -> Result<Vec<u8>>
     Ok(out)
 }
 
-/// What `to_tagged_vec` is made of, under the tag of that number.
+/// Writes a value as bytes, under the tag of this number. This is the body of `to_tagged_vec`.
 ///
 /// # Errors
 /// The same as [`Encode::encode`].
@@ -300,7 +316,8 @@ pub fn encode_to_tagged_vec<T: Encode>(alloc: Global, number: u64, value: &T) ->
     Ok(out)
 }
 
-/// What `to_cbor_value` is made of: the value is written, and what was written is read.
+/// Returns the item that a value is written as. This is the body of `to_cbor_value`: the value is
+/// written, and the bytes are read back.
 ///
 /// # Errors
 /// The same as [`Encode::encode`].

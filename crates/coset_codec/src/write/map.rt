@@ -1,4 +1,4 @@
-//! Maps written straight into bytes: a head, which says how many pairs there are, and then pair by pair.
+//! Maps written directly to bytes: a head with the number of pairs, and then each pair.
 
 ghost use Rattle.coset_codec.specs.declared.error.CoseError.TheVariants.{OutOfMemory as out_of_memory};
 ghost use Rattle.std.specs.Prelude.{◌≡◌, ◌+◌, ◌++◌, ◌<◌, ◌^◌, OnOk, IfErr, Some, option_map, is_some, filter, length, map};
@@ -15,7 +15,7 @@ use coset_cbor::ser::write_map_head;
 use coset_cbor::value::Value;
 use std::alloc::Global;
 
-/// How many of these are true. A plain loop over them is one that the compiler unrolls.
+/// Counts the true elements. The compiler unrolls such a plain loop.
 #[inline(always)]
 fn count_true(there: &[bool]) -> usize
     ensures { result ≡ length (filter (λ b. b) there.now) }
@@ -29,10 +29,12 @@ fn count_true(there: &[bool]) -> usize
     count
 }
 
-/// Appends the head of the map of those fields that are there, as `there` says of each, and of the rest.
+/// Appends the head of a map with the present fields, as `there` says of each, and with the pairs
+/// of `rest`.
 ///
 /// # Errors
-/// `OutOfMemory` alone. `out` is then as [`Encode::encode`] leaves it.
+/// `OutOfMemory` if an allocation fails, or if the number of pairs overflows `usize`. `out` is then
+/// as [`Encode::encode`] leaves it.
 #[inline(always)]
 pub fn write_pairs_head<L>(
     there: &[bool],
@@ -51,10 +53,10 @@ pub fn write_pairs_head<L>(
     }
 }
 
-/// Appends the pair of this number and value.
+/// Appends a pair of this label and value.
 ///
 /// # Errors
-/// Those of the value. `out` is then as [`Encode::encode`] leaves it.
+/// The errors of writing the value. `out` is then as [`Encode::encode`] leaves it.
 #[inline(always)]
 pub fn write_field<T: Encode>(alloc: Global, label: i64, value: &T, out: &mut Vec<u8>) -> Result<()>
     ensures ok { OnOk result
@@ -66,10 +68,10 @@ pub fn write_field<T: Encode>(alloc: Global, label: i64, value: &T, out: &mut Ve
     value.encode(alloc, out)
 }
 
-/// Appends the pair of this number, where there is a value.
+/// Appends a pair of this label and the value, if there is a value.
 ///
 /// # Errors
-/// Those of the value. `out` is then as [`Encode::encode`] leaves it.
+/// The errors of writing the value. `out` is then as [`Encode::encode`] leaves it.
 #[inline(always)]
 pub fn write_optional<T: Encode>(
     alloc: Global,
@@ -89,10 +91,10 @@ pub fn write_optional<T: Encode>(
     }
 }
 
-/// Appends the pair of this number and these bytes, where there are any.
+/// Appends a pair of this label and these bytes, unless the bytes are empty.
 ///
 /// # Errors
-/// `OutOfMemory` alone.
+/// `OutOfMemory` if an allocation fails.
 #[inline(always)]
 pub fn write_nonempty(alloc: Global, label: i64, bytes: &Vec<u8>, out: &mut Vec<u8>) -> Result<()>
     ensures ok { OnOk result (AppendsField label
@@ -106,10 +108,13 @@ pub fn write_nonempty(alloc: Global, label: i64, bytes: &Vec<u8>, out: &mut Vec<
     write_field(alloc, label, bytes, out)
 }
 
-/// Appends the pairs of the rest.
+/// Appends the pairs of `rest`, in order.
 ///
 /// # Errors
-/// Those of the first label that has one. `out` is then as [`Encode::encode`] leaves it.
+/// - `OutOfMemory` if an allocation fails.
+/// - Otherwise the error of the first label that has one.
+///
+/// `out` is then as [`Encode::encode`] leaves it.
 pub fn write_rest<L: Encode>(alloc: Global, rest: &[(L, Value)], out: &mut Vec<u8>) -> Result<()>
     ensures ok { OnOk result
         (AppendsAll (named_image L.image (map (λ e. (e.0, value_item e.1)) rest.now)) out.old.items

@@ -9,7 +9,7 @@ use Rattle.coset_codec.proofs.InPlace.{Filled}
 use Rattle.coset_core.specs.Headers.{SignatureView, layered_signature}
 use Rattle.coset_core.proofs.+read.Given as goal
 
--- a layer counts more than the bytes of any content
+-- The weight of one layer in the decreasing measures. It is more than the weight of the bytes of any content.
 abbrev layer : ℕ
 layer = 1180591620717411303424
 
@@ -40,7 +40,7 @@ decreases-protected::fill_protected l = layer * l.layers + 1
 abbrev pub decreases-protected::fill_content : goal.decreases-protected::fill_content
 decreases-protected::fill_content l = layer * l.layers + 8 * length l.content.now + 10
 
--- some pairs were read, and the others are there
+-- The pairs so far were read into the header, and the input is at the others.
 abbrev pub invariant-header::reading::fill_pairs-loop-version : goal.invariant-header::reading::fill_pairs-loop-version
 invariant-header::reading::fill_pairs-loop-version l = record {
   one_iv : HasOneIv (fields_view l.header);
@@ -52,7 +52,7 @@ invariant-header::reading::fill_pairs-loop-version l = record {
 abbrev pub decreases-header::reading::fill_pairs-loop-version : goal.decreases-header::reading::fill_pairs-loop-version
 decreases-header::reading::fill_pairs-loop-version l = pairs_turns l.pairs (state l.input)
 
--- the signatures so far are those of the items so far, and the others are there
+-- The signatures so far are those of the items so far, and the input is at the others.
 abbrev pub invariant-signature::fill_listed-loop-all : goal.invariant-signature::fill_listed-loop-all
 invariant-signature::fill_listed-loop-all l = record {
   shrinks : length_left (state l.input) ≤ length_left (state l.fn.input);

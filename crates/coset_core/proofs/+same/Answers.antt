@@ -8,7 +8,7 @@ use Rattle.coset_core.proofs.Signatures.{and_assoc, goes_by, header_eq-opened, s
 use Rattle.coset_core.proofs.+same.Goals as goal
 use Rattle.coset_core.proofs.+same.Goals.{header::same_header-then-same_fields, header::same_header-else-same_fields}
 
--- the test of the fields, and those of the signatures of each version
+-- The test of the fields, and the tests of the signatures of each version.
 abbrev fields_test : Header → Header → Bool
 fields_test a b = fields_eq (fields_view a) (fields_view b)
 

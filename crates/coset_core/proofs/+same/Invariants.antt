@@ -11,7 +11,7 @@ use Rattle.coset_core.proofs.+same.Given as goal
 abbrev same : List CoseSignature → List CoseSignature → Bool
 same ss ts = signatures_eq (signatures_of (map signature_view ss)) (signatures_of (map signature_view ts))
 
--- what is left of the lists is as long, and is the same where the lists are
+-- The remaining parts of both lists have the same length, and are equal exactly when the whole lists are.
 abbrev pub invariant-signature::same_signatures-loop-a : goal.invariant-signature::same_signatures-loop-a
 invariant-signature::same_signatures-loop-a l =
     let ss = iter_rest (zip_first l.a-iterator) in

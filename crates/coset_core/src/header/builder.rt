@@ -23,7 +23,8 @@ use coset_label::{Algorithm, Label, RegisteredLabel, RegisteredLabelWithPrivate,
 use std::alloc::Global;
 use std::marker::Model;
 
-/// Makes a [`Header`], field by field. Contracts see it as the header that [`build`](HeaderBuilder::build) gives.
+/// Builds a [`Header`] field by field. Contracts see the builder as the header that
+/// [`build`](HeaderBuilder::build) returns.
 #[derive(Debug, Drop)]
 pub struct HeaderBuilder(Header);
 
@@ -42,14 +43,14 @@ impl Model for HeaderBuilder {
 }
 
 impl HeaderBuilder {
-    /// An empty header. It takes no memory.
+    /// Returns a builder of an empty header. Allocates nothing.
     pub fn new(alloc: Global) -> HeaderBuilder
         ensures { header_view result ≡ empty_header }
     {
         HeaderBuilder(Header::new(alloc))
     }
 
-    /// The header that was made.
+    /// Returns the finished header.
     pub fn build(self) -> Header
         ensures { result ≡ self }
     {
@@ -64,7 +65,8 @@ impl HeaderBuilder {
         self.algorithm_label(RegisteredLabelWithPrivate::Assigned(algorithm))
     }
 
-    /// Sets the algorithm (label 1) to a label, which may be for private use, or a text.
+    /// Sets the algorithm (label 1) to any label: an assigned value, a private-use number or a
+    /// text.
     pub fn algorithm_label(mut self, label: Algorithm) -> HeaderBuilder
         ensures { header_view result ≡ with_algorithm (algorithm_view label) (header_view self) }
     {
@@ -72,10 +74,10 @@ impl HeaderBuilder {
         self
     }
 
-    /// Adds a label that must be understood (label 2).
+    /// Adds a label that a reader must understand (`crit`, label 2).
     ///
     /// # Errors
-    /// `OutOfMemory` alone.
+    /// `OutOfMemory` if an allocation fails.
     pub fn add_critical(self, parameter: HeaderParameter) -> Result<HeaderBuilder>
         ensures ok { IfOk result (λ b. header_view b
             ≡ and_critical (assigned (parameters.number parameter)) (header_view self)) }
@@ -84,10 +86,11 @@ impl HeaderBuilder {
         self.add_critical_label(RegisteredLabelWithPrivate::Assigned(parameter))
     }
 
-    /// Adds a label that must be understood (label 2), which may be for private use, or a text.
+    /// Adds a label that a reader must understand (`crit`, label 2): an assigned value, a
+    /// private-use number or a text.
     ///
     /// # Errors
-    /// `OutOfMemory` alone.
+    /// `OutOfMemory` if an allocation fails.
     pub fn add_critical_label(
         mut self,
         label: RegisteredLabelWithPrivate<HeaderParameter>,
@@ -100,7 +103,7 @@ impl HeaderBuilder {
         Ok(self)
     }
 
-    /// Sets the content type (label 3) to a format of CoAP.
+    /// Sets the content type (label 3) to a CoAP content format.
     pub fn content_format(mut self, format: CoapContentFormat) -> HeaderBuilder
         ensures { header_view result
             ≡ with_content_type (number (content_formats.number format)) (header_view self) }
@@ -109,7 +112,8 @@ impl HeaderBuilder {
         self
     }
 
-    /// Sets the content type (label 3) to a text. That it names a media type is asked where a header is read.
+    /// Sets the content type (label 3) to a text. Only decoding checks that the text is a media
+    /// type.
     pub fn content_type(mut self, content_type: String) -> HeaderBuilder
         ensures { header_view result ≡ with_content_type (text_label (string_bytes content_type))
             (header_view self) }
@@ -118,10 +122,10 @@ impl HeaderBuilder {
         self
     }
 
-    /// As [`content_type`](HeaderBuilder::content_type), of a copy of this text.
+    /// Calls [`content_type`](HeaderBuilder::content_type) with a copy of this text.
     ///
     /// # Errors
-    /// `OutOfMemory` alone.
+    /// `OutOfMemory` if an allocation fails.
     pub fn content_type_from(self, alloc: Global, content_type: &str) -> Result<HeaderBuilder>
         ensures ok { IfOk result (λ b. header_view b
             ≡ with_content_type (text_label content_type.now) (header_view self)) }
@@ -130,7 +134,7 @@ impl HeaderBuilder {
         Ok(self.content_type(String::from_str(alloc, content_type)?))
     }
 
-    /// Sets the key's identifier (label 4).
+    /// Sets the key identifier (label 4).
     pub fn key_id(mut self, key_id: Vec<u8>) -> HeaderBuilder
         ensures { header_view result ≡ with_key_id key_id.items (header_view self) }
     {
@@ -138,10 +142,10 @@ impl HeaderBuilder {
         self
     }
 
-    /// As [`key_id`](HeaderBuilder::key_id), of a copy of these bytes.
+    /// Calls [`key_id`](HeaderBuilder::key_id) with a copy of these bytes.
     ///
     /// # Errors
-    /// `OutOfMemory` alone.
+    /// `OutOfMemory` if an allocation fails.
     pub fn key_id_from(self, alloc: Global, key_id: &[u8]) -> Result<HeaderBuilder>
         ensures ok { IfOk result (λ b. header_view b ≡ with_key_id key_id.now (header_view self)) }
         ensures memory { IfErr result (λ e. e ≡ errors.OutOfMemory) }
@@ -149,7 +153,7 @@ impl HeaderBuilder {
         Ok(self.key_id(Vec::from_slice(alloc, key_id)?))
     }
 
-    /// Sets the IV (label 5), and empties the Partial IV.
+    /// Sets the IV (label 5), and clears the Partial IV.
     pub fn iv(mut self, iv: Vec<u8>) -> HeaderBuilder
         ensures { header_view result ≡ with_iv iv.items (header_view self) }
     {
@@ -158,10 +162,10 @@ impl HeaderBuilder {
         self
     }
 
-    /// As [`iv`](HeaderBuilder::iv), of a copy of these bytes.
+    /// Calls [`iv`](HeaderBuilder::iv) with a copy of these bytes.
     ///
     /// # Errors
-    /// `OutOfMemory` alone.
+    /// `OutOfMemory` if an allocation fails.
     pub fn iv_from(self, alloc: Global, iv: &[u8]) -> Result<HeaderBuilder>
         ensures ok { IfOk result (λ b. header_view b ≡ with_iv iv.now (header_view self)) }
         ensures memory { IfErr result (λ e. e ≡ errors.OutOfMemory) }
@@ -169,7 +173,7 @@ impl HeaderBuilder {
         Ok(self.iv(Vec::from_slice(alloc, iv)?))
     }
 
-    /// Sets the Partial IV (label 6), and empties the IV.
+    /// Sets the Partial IV (label 6), and clears the IV.
     pub fn partial_iv(mut self, partial_iv: Vec<u8>) -> HeaderBuilder
         ensures { header_view result ≡ with_partial_iv partial_iv.items (header_view self) }
     {
@@ -178,10 +182,10 @@ impl HeaderBuilder {
         self
     }
 
-    /// As [`partial_iv`](HeaderBuilder::partial_iv), of a copy of these bytes.
+    /// Calls [`partial_iv`](HeaderBuilder::partial_iv) with a copy of these bytes.
     ///
     /// # Errors
-    /// `OutOfMemory` alone.
+    /// `OutOfMemory` if an allocation fails.
     pub fn partial_iv_from(self, alloc: Global, partial_iv: &[u8]) -> Result<HeaderBuilder>
         ensures ok { IfOk result (λ b. header_view b
             ≡ with_partial_iv partial_iv.now (header_view self)) }
@@ -193,7 +197,7 @@ impl HeaderBuilder {
     /// Adds a counter signature (label 7).
     ///
     /// # Errors
-    /// `OutOfMemory` alone.
+    /// `OutOfMemory` if an allocation fails.
     pub fn add_counter_signature(mut self, signature: CoseSignature) -> Result<HeaderBuilder>
         ensures ok { IfOk result (λ b. header_view b
             ≡ and_counter_signature (signature_view signature) (header_view self)) }
@@ -206,7 +210,7 @@ impl HeaderBuilder {
     /// Adds a countersignature of version 2 (label 11).
     ///
     /// # Errors
-    /// `OutOfMemory` alone.
+    /// `OutOfMemory` if an allocation fails.
     pub fn add_countersignature_v2(
         mut self,
         signature: CoseCountersignature,
@@ -228,10 +232,11 @@ impl HeaderBuilder {
         self
     }
 
-    /// As [`countersignature0_v2`](HeaderBuilder::countersignature0_v2), of a copy of these bytes.
+    /// Calls [`countersignature0_v2`](HeaderBuilder::countersignature0_v2) with a copy of these
+    /// bytes.
     ///
     /// # Errors
-    /// `OutOfMemory` alone.
+    /// `OutOfMemory` if an allocation fails.
     pub fn countersignature0_v2_from(self, alloc: Global, signature: &[u8]) -> Result<HeaderBuilder>
         ensures ok { IfOk result (λ b. header_view b
             ≡ with_countersignature0_v2 signature.now (header_view self)) }
@@ -240,11 +245,13 @@ impl HeaderBuilder {
         Ok(self.countersignature0_v2(Vec::from_slice(alloc, signature)?))
     }
 
-    /// Adds a pair with a number as its label, which is none of 1 to 7, and neither 11 nor 12: those have calls of their
-    /// own. A header with a label twice isn't written (`DuplicateMapKey`).
+    /// Adds a pair with a number as its label. The label must not be 1 to 7, 11 or 12, which have
+    /// methods of their own.
+    ///
+    /// Encoding the header fails with `DuplicateMapKey` if a label occurs twice.
     ///
     /// # Errors
-    /// `OutOfMemory` alone.
+    /// `OutOfMemory` if an allocation fails.
     pub fn value(mut self, label: i64, value: Value) -> Result<HeaderBuilder>
         requires { IsOtherLabel label }
         ensures ok { IfOk result (λ b. header_view b
@@ -256,10 +263,12 @@ impl HeaderBuilder {
         Ok(self)
     }
 
-    /// Adds a pair with a text as its label. A header with a label twice isn't written (`DuplicateMapKey`).
+    /// Adds a pair with a text as its label.
+    ///
+    /// Encoding the header fails with `DuplicateMapKey` if a label occurs twice.
     ///
     /// # Errors
-    /// `OutOfMemory` alone.
+    /// `OutOfMemory` if an allocation fails.
     pub fn text_value(mut self, label: String, value: Value) -> Result<HeaderBuilder>
         ensures ok { IfOk result (λ b. header_view b
             ≡ and_pair (text_label (string_bytes label)) (value_item value) (header_view self)) }
@@ -269,10 +278,10 @@ impl HeaderBuilder {
         Ok(self)
     }
 
-    /// As [`text_value`](HeaderBuilder::text_value), of a copy of this label.
+    /// Calls [`text_value`](HeaderBuilder::text_value) with a copy of the label.
     ///
     /// # Errors
-    /// `OutOfMemory` alone.
+    /// `OutOfMemory` if an allocation fails.
     pub fn text_value_from(self, alloc: Global, label: &str, value: Value) -> Result<HeaderBuilder>
         ensures ok { IfOk result (λ b. header_view b
             ≡ and_pair (text_label label.now) (value_item value) (header_view self)) }

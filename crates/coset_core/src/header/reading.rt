@@ -1,9 +1,9 @@
 //! Reading headers.
 //!
-//! A header is filled where it is, and an error is kept in one place for all that reads it, since what is returned by
-//! value takes its size in stack at each function that it passes, and input chooses how deep headers lie within one another.
-//! Each reader leaves the input just behind its item, whatever it returns, so that each byte is passed once at any depth. Of
-//! `layers` each byte string of a protected header takes one.
+//! Headers are filled in place, and readers share one slot for their error. Returning either by
+//! value would cost its size in stack at every level, and the input chooses how deep headers nest.
+//! Each reader leaves the input just after its item, also on an error, so each byte is read once at
+//! any depth. Each protected header's byte string uses up one of `layers`.
 
 ghost use Rattle.std.specs.Prelude.{MatchOption, ◌≡◌, ◌≢◌, [], map, OnOk, IfOk, IfErr, ◌⊎◌, ◌≤◌, ◌<◌, Option, true, false, IsSome, IsErrAnd, OnErr, Err, Some};
 ghost use Rattle.coset_value.specs.Item.{Item, Pairs, dict};
@@ -39,7 +39,7 @@ use coset_codec::{CoseError, Result};
 use coset_label::Label;
 use std::alloc::Global;
 
-/// Sets IV or Partial IV, where neither it nor the other is there yet.
+/// Sets IV or Partial IV, if neither is set yet.
 fn set_iv(
     alloc: Global,
     field: &mut Vec<u8>,
@@ -66,16 +66,16 @@ fn set_iv(
     ))
 }
 
-/// A version of counter signatures: the values of its label hold them.
+/// A version of counter signatures, by the label of its header parameter.
 #[derive(Clone, Copy)]
 pub(crate) enum Version {
-    /// Those of label 7 (RFC 8152, section 4.5).
+    /// Label 7 (RFC 8152, section 4.5).
     V1,
-    /// Those of label 11.
+    /// Label 11.
     V2,
 }
 
-/// A field of a header, by the labels of its pairs (RFC 8152, section 3.1; RFC 9338, section 3).
+/// A field of a header, by its label (RFC 8152, section 3.1; RFC 9338, section 3).
 #[derive(Clone, Copy)]
 pub(crate) enum Field {
     /// Label 1.
@@ -98,7 +98,7 @@ pub(crate) enum Field {
     Rest,
 }
 
-/// The field that a pair with this label goes to.
+/// Returns the field for a pair with this label.
 fn field_of(label: &Label) -> Field
     ensures { GoesTo (label_view label.now) result }
 {
@@ -119,7 +119,7 @@ fn field_of(label: &Label) -> Field
     }
 }
 
-/// The version whose counter signatures have this label, or `None` where it is another label.
+/// Returns the version of the counter signatures with this label, or `None` for any other label.
 fn version_of(label: &Label) -> Option<Version>
     ensures { MatchOption result (NamesNoVersion (label_view label.now))
         (λ version. same_name (label_of version) (label_view label.now) ≡ true) }
@@ -130,12 +130,16 @@ fn version_of(label: &Label) -> Option<Version>
     }
 }
 
-/// Takes one more value of a header, by its label, which is neither 7 nor 11, and goes behind it. Whether labels of the
-/// rest repeat isn't checked.
+/// Reads the value under `label` into the header. The label must not be 7 or 11. Repeated labels in
+/// `rest` are not checked here.
 ///
 /// # Errors
-/// `OutOfMemory`; `DuplicateMapKey` where a field has a value already; a fault of its value; or `UnexpectedItem` where
-/// it is the second of IV and Partial IV. The header is then as before.
+/// - `OutOfMemory` if an allocation fails.
+/// - `DuplicateMapKey` if the field has a value already.
+/// - `UnexpectedItem` if the value is the second of IV and Partial IV.
+/// - A fault in the value.
+///
+/// The header is then unchanged.
 fn set_parameter(
     header: &mut Header,
     alloc: Global,
@@ -175,11 +179,14 @@ fn set_parameter(
     }
 }
 
-/// Reads pairs into a header up to one that holds counter signatures, whose value then is at the input; or all that
-/// are left. It says of which version they are.
+/// Reads pairs into the header up to the next label 7 or 11. Returns the version of that label,
+/// with the input at its value, or `None` if no such label is left.
 ///
 /// # Errors
-/// `OutOfMemory`, or the fault of a pair, which is passed.
+/// - `OutOfMemory` if an allocation fails.
+/// - The fault of the first pair that has one.
+///
+/// The pair that failed is then skipped.
 fn fill_until_signatures(
     header: &mut Header,
     alloc: Global,
@@ -208,8 +215,8 @@ fn fill_until_signatures(
     Ok(None)
 }
 
-/// The error of labels of the rest that repeat, or that there was no memory to ask for them. A value of counter signatures
-/// that is at the input is skipped.
+/// Returns `error`, which comes from the check for repeated labels. If the input is at a value of
+/// counter signatures, skips it.
 #[cold]
 fn refuse(
     filled: Result<Option<Version>>,
@@ -231,11 +238,12 @@ fn refuse(
     Err(error)
 }
 
-/// Reads pairs as [`fill_until_signatures`] does. Whether labels of the rest repeat is checked before a fault is returned,
-/// before counter signatures are read, and at the end.
+/// Reads pairs like [`fill_until_signatures`], then checks that no label of the rest repeats. The
+/// check comes before a fault is returned, before counter signatures are read, and at the end.
 ///
 /// # Errors
-/// `OutOfMemory`, or the first fault of the pairs.
+/// - `OutOfMemory` if an allocation fails.
+/// - The first fault of the pairs.
 #[inline(never)]
 fn fill_fields(
     header: &mut Header,
@@ -266,10 +274,10 @@ fn fill_fields(
     store_error(distinct, error)
 }
 
-/// Goes to the first pair of a map.
+/// Enters a map.
 ///
 /// # Errors
-/// `UnexpectedItem`: the item is no map; it is skipped.
+/// `UnexpectedItem` if the item is not a map. The item is then skipped.
 #[inline(always)]
 fn begin_pairs(
     pairs: &mut MapEntries,
@@ -287,10 +295,11 @@ fn begin_pairs(
     Ok(())
 }
 
-/// Reads a header into an empty one.
+/// Reads a header into `header`, which must be empty.
 ///
 /// # Errors
-/// `OutOfMemory`, or the first fault found, from the first pair on.
+/// - `OutOfMemory` if an allocation fails.
+/// - The first fault found, from the first pair on.
 #[cycle(read)]
 pub(crate) fn fill_header(
     header: &mut Header,
@@ -313,10 +322,11 @@ pub(crate) fn fill_header(
     filled
 }
 
-/// Reads the pairs of a map into an empty header.
+/// Reads the pairs of a map into `header`, which must be empty.
 ///
 /// # Errors
-/// `OutOfMemory`, or the fault of the first pair that has one.
+/// - `OutOfMemory` if an allocation fails.
+/// - The fault of the first pair that has one.
 #[cycle(read)]
 fn fill_pairs(
     header: &mut Header,
@@ -339,7 +349,8 @@ fn fill_pairs(
         }
         let mut read = Vec::new(alloc);
         if let Err(refused) = fill_counter_signatures(&mut read, alloc, input, layers, error) {
-            // In a call of its own: what drops a signature takes more stack than a level of reading.
+            // In a separate call, because dropping a signature takes more stack than a level of
+            // reading.
             drop_nested(read, Vec::new(alloc));
             return Err(refused);
         }
@@ -348,7 +359,7 @@ fn fill_pairs(
     Ok(())
 }
 
-/// Whether the header holds counter signatures of this version.
+/// Returns true if the header has counter signatures of this version.
 fn holds(header: &Header, version: Version) -> bool
     ensures { result ≡ is_nonempty (held_of version header.now) }
 {
@@ -358,10 +369,10 @@ fn holds(header: &Header, version: Version) -> bool
     }
 }
 
-/// Keeps the counter signatures that were read as those of this version.
+/// Stores the decoded counter signatures in the header, as this version.
 ///
 /// # Errors
-/// `OutOfMemory` alone.
+/// `OutOfMemory` if an allocation fails.
 #[inline(never)]
 fn keep_signatures(
     header: &mut Header,
@@ -385,7 +396,7 @@ fn keep_signatures(
     Ok(())
 }
 
-/// The error of a map with one of the labels 7 and 11 twice; the second value is skipped.
+/// Stores the error for a second value of label 7 or 11, and skips that value.
 #[cold]
 #[inline(never)]
 fn refuse_second(input: &mut Decoder<'_>, error: &mut CoseError) -> Result<(), ErrorStored>
@@ -398,10 +409,10 @@ fn refuse_second(input: &mut Decoder<'_>, error: &mut CoseError) -> Result<(), E
     Err(ErrorStored)
 }
 
-/// The elements of an array of one signature or of several, and whether it is the former.
+/// Enters the array of one signature or of several. Returns true if it is one signature.
 ///
 /// # Errors
-/// `UnexpectedItem`: the item is neither; it is skipped.
+/// `UnexpectedItem` if the item is neither. The item is then skipped.
 #[inline(never)]
 fn begin_one_or_more(
     elements: &mut ArrayElements,
@@ -420,10 +431,12 @@ fn begin_one_or_more(
     Ok(one)
 }
 
-/// Reads the value of label 7 or 11 into an empty list: one counter signature, or several.
+/// Reads the value of label 7 or 11 into an empty list: one counter signature or several.
 ///
 /// # Errors
-/// `OutOfMemory`; `UnexpectedItem` where the item holds none; or the fault of the first that has one.
+/// - `OutOfMemory` if an allocation fails.
+/// - `UnexpectedItem` if the item is neither one nor several.
+/// - The fault of the first counter signature that has one.
 #[cycle(read)]
 fn fill_counter_signatures(
     all: &mut Vec<CoseSignature>,

@@ -1,4 +1,4 @@
-//! Writing headers, straight from where their fields lie.
+//! Writing headers directly from their fields.
 
 ghost use Rattle.std.specs.Prelude.{◌≡◌, map, OnOk, IfErr, ◌<◌, ◌^◌, true, false, ◌≢◌, ◌++◌};
 ghost use Rattle.coset_value.specs.Item.{integer};
@@ -64,7 +64,7 @@ fn write_head(header: &Header, out: &mut Vec<u8>) -> Result<(), OutOfMemory>
     write_pairs_head(&there, &header.rest, out)
 }
 
-/// Appends the pair of the labels that must be understood, where there are any.
+/// Appends the pair of `crit`, unless `crit` is empty.
 fn write_critical(
     alloc: Global,
     crit: &[RegisteredLabelWithPrivate<HeaderParameter>],
@@ -82,7 +82,7 @@ fn write_critical(
     write_field(alloc, HeaderParameter::Crit.to_i64(), &Array(crit), out)
 }
 
-/// Appends the pairs of the first six labels.
+/// Appends the pairs of labels 1 to 6 whose fields are set.
 fn write_fields(alloc: Global, header: &Header, out: &mut Vec<u8>) -> Result<()>
     ensures ok { OnOk result
         (AppendsFirst out.old.items out.new.items (fields_view header.now)) }
@@ -120,7 +120,8 @@ pub(crate) fn ask_distinct(alloc: Global, rest: &[(Label, Value)]) -> Result<()>
     Ok(())
 }
 
-/// Appends the head of the array of counter signatures. One alone has none.
+/// Appends the head of the array of counter signatures. A single one is written without an array
+/// around it, and so without a head.
 fn write_counter_signatures_head(count: usize, out: &mut Vec<u8>) -> Result<(), OutOfMemory>
     ensures one { OnOk result (count ≡ 1 → out.new.items ≡ out.old.items) }
     ensures array { OnOk result (count ≢ 1 → out.new.items ≡ out.old.items ++ least_head 4 count) }
@@ -135,9 +136,12 @@ fn write_counter_signatures_head(count: usize, out: &mut Vec<u8>) -> Result<(), 
 /// Appends the shortest encoding of the header's map.
 ///
 /// # Errors
-/// `OutOfMemory`, or `DuplicateMapKey` where a label occurs twice in the rest of the header, or in that of one inside
-/// it. A protected header inside that was read doesn't count, nor what it holds: its bytes are written as they are.
-/// `out` then begins with all that it had; what was appended before the error may follow.
+/// - `OutOfMemory` if an allocation fails.
+/// - `DuplicateMapKey` if a label occurs twice in the `rest` of the header, or of a header inside
+///   it. Kept bytes of protected headers are written as they are, so nothing inside them is
+///   checked.
+///
+/// After an error, `out` still begins with its old bytes. A part of the encoding may follow them.
 #[cycle(write)]
 pub(crate) fn write_header(alloc: Global, header: &Header, out: &mut Vec<u8>) -> Result<()>
     ensures written { Encodes (header_image (header_view header.now)) out.old.items out.new.items
@@ -154,7 +158,8 @@ pub(crate) fn write_header(alloc: Global, header: &Header, out: &mut Vec<u8>) ->
     write_rest(alloc, &header.rest, out)
 }
 
-/// Appends the pair of the signatures, where there are any: one as itself, and several as an array.
+/// Appends the pair of label 7, unless there are no signatures. One is written as itself, several
+/// as an array.
 #[cycle(write)]
 fn write_counter_signatures(
     alloc: Global,
@@ -176,7 +181,7 @@ fn write_counter_signatures(
     Ok(())
 }
 
-/// Appends the pair of the countersignatures of version 2, where there are any.
+/// Appends the pair of label 11, unless there are no countersignatures of version 2.
 #[cycle(write)]
 #[inline(always)]
 fn write_countersignatures(

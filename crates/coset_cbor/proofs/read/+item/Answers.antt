@@ -11,7 +11,7 @@ use Rattle.coset_cbor.specs.Reading.{◌>>=◌, number_of, head_at, head_from, a
 use Rattle.coset_cbor.proofs.Loops.{times_on, times_fails, times_done, until_on, until_fails, until_stops, until_ends, ok_rest}
 use Rattle.coset_cbor.proofs.read.+item.Goals as goal
 
--- the elements of an array are at fault
+-- If reading the elements of an array fails, reading the array fails.
 array_fails :
     (d j : ℕ) (h : HeadView × List ℕ) (s : List ℕ) (e : ReadError) → d ≡ suc j → head_at s ≡ Ok h → h.0.major_type ≡ major_types.Array
     → FailsAs e (array_by (item_at j) (number_of h.0.argument) h.1)

@@ -21,7 +21,7 @@ decreases-fill_recipients l = 8 * input_size (state l.input.now) + 5
 abbrev pub decreases-fill_listed : goal.decreases-fill_listed
 decreases-fill_listed l = 8 * items_size l.elements.now (state l.input.now) + 7
 
--- the recipients so far are those of the items so far, and the others are there
+-- The recipients so far are those of the elements so far, and the other elements are still to come.
 abbrev pub invariant-fill_listed-loop-all : goal.invariant-fill_listed-loop-all
 invariant-fill_listed-loop-all l = record {
   shrinks : length_left (state l.input) ≤ length_left (state l.fn.input);

@@ -10,7 +10,7 @@ use Rattle.coset_recipient.proofs.recipient.+same.Given as goal
 abbrev same : List CoseRecipient → List CoseRecipient → Bool
 same rs ss = recipients_eq (recipients_of (map recipient_view rs)) (recipients_of (map recipient_view ss))
 
--- what is left of the lists is as long, and is the same where the lists are
+-- The rests of the two lists have the same length, and are equal exactly if the lists are.
 abbrev pub invariant-same_recipients-loop-a : goal.invariant-same_recipients-loop-a
 invariant-same_recipients-loop-a l =
     let rs = iter_rest (zip_first l.a-iterator) in

@@ -4,7 +4,7 @@ use Rattle.coset_show.specs.declared.stream.Stream.{Stream}
 use Rattle.std.specs.Io.KnownBytes.{Consumes}
 use Rattle.coset_show.proofs.run.read_to_end.Given as goal
 
--- what was gathered is what the reader gave, and no read has failed
+-- The reader returned the gathered bytes, and no read has failed.
 pub record Gathered {R : Type 0} (remaining : R → Option (List ℕ)) (old new : Stream R) (input : List ℕ) : Type 0 where
   pub took : Consumes (remaining old.inner) (remaining new.inner) input
   pub same : new.failed ≡ old.failed

@@ -12,7 +12,7 @@ use Rattle.coset_sign.specs.Countersigned.{countersign_text}
 use Rattle.coset_sign.specs.SignatureStructure.{signed_parts}
 use Rattle.coset_sign.proofs.countersign.countersign_bytes.Goals as goal
 
--- other fields, and the list that they are written as
+-- The other fields as lists of bytes, and the array that they are written as.
 abbrev fields_of : List (Vec ℕ Global) → List (List ℕ)
 fields_of others = map (λ (field : Vec ℕ Global). field.items) others
 

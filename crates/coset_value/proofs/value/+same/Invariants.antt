@@ -5,7 +5,7 @@ use Rattle.coset_value.specs.Same.{items_eq, pairs_eq}
 use Rattle.coset_value.specs.View.{value_items, value_pairs}
 use Rattle.coset_value.proofs.value.+same.Given as goal
 
--- what is left of the lists is as long, and is the same where the lists are
+-- The remaining parts of both lists have the same length, and are equal exactly when the whole lists are.
 abbrev pub invariant-same_items-loop-v : goal.invariant-same_items-loop-v
 invariant-same_items-loop-v l =
     let vs = iter_rest (zip_first l.v-iterator) in

@@ -6,7 +6,7 @@ use Rattle.cwt_gate.specs.Policy.{parameters}
 use Rattle.cwt_gate.proofs.Opened.{some-map, none-of}
 use Rattle.cwt_gate.proofs.policy.parameters.Goals as goal
 
--- as the code asks for each
+-- The parameters as the code tests them.
 abbrev Asked : HeaderLevel → List (ℤ × Bool)
 Asked x =
     (pos 1, is_some x.alg)

@@ -7,7 +7,7 @@ use Rattle.cwt_gate.specs.Policy.{PolicyView}
 use Rattle.example_uses.specs.Attestation.{attestation_policy}
 use Rattle.example_uses.proofs.attestation.judge_attestation.Goals as goal
 
--- what this policy changes of another
+-- The policy q with the fields of p that this policy sets.
 abbrev changed : PolicyView → PolicyView → PolicyView
 changed p q = record q { signatures = p.signatures; macs = p.macs; unassigned = p.unassigned; expires = p.expires; leeway = p.leeway }
 

@@ -5,7 +5,7 @@ use Rattle.coset_key.specs.Keys.{key_view}
 use Rattle.example_uses.specs.KeySets.{IsHeldOf}
 use Rattle.example_uses.proofs.key_sets.stored_keys.Given as goal
 
--- of each key so far is held what it is written as
+-- The stored bytes of each key so far are its encoding.
 abbrev pub invariant-loop-key : goal.invariant-loop-key
 invariant-loop-key l =
     (l.yielded ++ into_iter_items l.key-iterator ≡ into_iter_items l.initial.key-iterator)

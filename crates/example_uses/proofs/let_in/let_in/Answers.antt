@@ -8,7 +8,7 @@ use Rattle.example_uses.specs.LetIn.{policy_of}
 use Rattle.example_uses.proofs.LetIn.{known}
 use Rattle.example_uses.proofs.let_in.let_in.Goals as goal
 
--- what this policy changes of another
+-- The policy q with the fields of p that this policy sets.
 abbrev changed : PolicyView → PolicyView → PolicyView
 changed p q = record q { signatures = p.signatures; macs = p.macs; ciphers = p.ciphers; leeway = p.leeway; audience = p.audience }
 

@@ -10,7 +10,7 @@ use Rattle.example_uses.proofs.Calls.{when_some}
 use Rattle.example_uses.proofs.Unwrapping.{key_given}
 use Rattle.example_uses.proofs.recipients.content_key.Goals as goal
 
--- what is known of the message's recipients
+-- The search result, as a statement about the message's recipients.
 sought :
     (key_id : List ℕ) (o : Option (Bor CoseRecipient)) (all given : List CoseRecipient) → given ≡ all
     → option_map (λ r. recipient_view r.now) o ≡ recipient_by key_id (map recipient_view given)

@@ -11,7 +11,7 @@ use Rattle.example_uses.proofs.Refusing.{passed_as}
 use Rattle.example_uses.proofs.SharedKeys.{not_verified_for}
 use Rattle.example_uses.proofs.shared_key.verify_for.Goals as goal
 
--- what is known of the message's recipients
+-- The test's result, as a statement about the message's recipients.
 told :
     (key_id : List ℕ) (b : Bool) (all given : List CoseRecipient) → given ≡ all → b ≡ list_any (is_direct_to key_id) (map recipient_view given)
     → list_any (is_direct_to key_id) (map recipient_view all) ≡ b

@@ -8,7 +8,7 @@ use Rattle.example_uses.proofs.Refusing.{passed_as}
 use Rattle.example_uses.proofs.Signing.{at_number, no_number, not_verified_by, within}
 use Rattle.example_uses.proofs.signers.verify_by.Goals as goal
 
--- what is known of the number, as of the message's signatures
+-- The index, as a statement about the message's signatures.
 numbered :
     (key_id : List ℕ) (o : Option ℕ) (all given : List CoseSignature) → given ≡ all → o ≡ position_from (is_by key_id) 0 (map signature_view given)
     → position_from (is_by key_id) 0 (map signature_view all) ≡ o

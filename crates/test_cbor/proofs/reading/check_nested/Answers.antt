@@ -13,7 +13,7 @@ OneItem = (v w : Item) (b c x y : List ℕ) → IsEncoding v b → IsEncoding w 
 abbrev Costs : Type 0
 Costs = (n k : ℕ) (v : Item) → IsCost v (replicate n 0x81 ++ 0x80 ∷ []) k → k ≡ n + 1
 
--- bytes that are an item are read whole, in the steps that they cost
+-- If the bytes are an item, all of them are checked, in the number of steps that the item costs.
 counted : {E : Type 0} (one_item : OneItem) (costs : Costs) (r : Result ℕ E) (s : List ℕ) (old new n : ℕ)
     → ((v : Item) × IsItem (replicate n 0x81 ++ 0x80 ∷ []) v) → s ≡ replicate n 0x81 ++ 0x80 ∷ []
     → IfOk r (λ m. m ≤ length s)

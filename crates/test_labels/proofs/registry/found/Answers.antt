@@ -2,7 +2,7 @@ use Rattle.std.proofs.Common.{◌≡◌, ◌∙◌, of_z, sym, to_z, w64}
 use Rattle.std.proofs.lemmas.Int.{to_z-of_z}
 use Rattle.test_labels.proofs.registry.found.Goals as goal
 
--- the value of a number has that number
+-- The value of a number has that number.
 pub returns : goal.returns
 returns g c =
     let asked : to_z w64 (of_z w64 c.args.i) ≡ c.args.i = to_z-of_z w64 c.args.i c.ranges.i in

@@ -3,6 +3,6 @@ use Rattle.std.specs.List.{All}
 use Rattle.tool_explain.specs.Refusal.{JudgesAs}
 use Rattle.tool_explain.proofs.guess.fitting.Given as goal
 
--- each kind so far is one of the bytes
+-- The bytes can be read as each kind so far.
 abbrev pub invariant-loop-kind : goal.invariant-loop-kind
 invariant-loop-kind l = All (λ k. JudgesAs k l.bytes None) l.kinds.items

@@ -12,7 +12,7 @@ use Rattle.coset_claims.specs.Timestamp.{timestamp, timestamp_view}
 use Rattle.coset_claims.proofs.ClaimWriting.{timestamp-has}
 use Rattle.coset_claims.proofs.claims_set.ClaimsSetCodec.write.Goals as goal
 
--- one call after another
+-- One call after another extends the output.
 behind : (old mid new : List ℕ) → Extends old mid → Extends mid new → Extends old new
 behind old mid new p q = (p.0 ++ q.0, q.1 ∙ (ap (λ s. s ++ q.0) p.1 ∙ append_assoc old p.0 q.0))
 

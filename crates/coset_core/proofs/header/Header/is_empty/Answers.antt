@@ -14,7 +14,7 @@ none_mapped : {A B : Type 0} (f : A → B) (o : Option A) → is_none (option_ma
 none_mapped f None = refl
 none_mapped f (Some x) = refl
 
--- each test on what the fields hold
+-- All tests on the fields in memory.
 abbrev Tests : HeaderLevel → Bool
 Tests x =
     is_none x.alg

@@ -5,7 +5,7 @@ use Rattle.coset_iana.specs.Registry.{first_numbered, is_ascending}
 use Rattle.coset_iana.proofs.Search.{searched}
 use Rattle.coset_iana.proofs.registry.AnyEnumI64.from_i64.Goals as goal
 
--- the value at the place that the search found
+-- The search found a place: the value there has the number.
 pub returns-in-Ok : goal.returns-in-Ok
 returns-in-Ok g c =
     let number = g.T.Registry.number in
@@ -19,7 +19,7 @@ returns-in-Ok g c =
     let found = searched number asked values (Ok c.in-Ok.place) ascending c.in-Ok.ensures.bound by_number read in
     rw (← same) (ap Some c.index-values-place.is ∙ (sym found ∙ ap (λ xs. first_numbered number xs asked) all))
 
--- no value has the number
+-- The search found no place: no value has the number.
 pub returns-in-Err : goal.returns-in-Err
 returns-in-Err g c =
     let number = g.T.Registry.number in

@@ -11,7 +11,7 @@ use Rattle.cwt_gate.specs.Policy.{PolicyView, is_understood, policy_view}
 use Rattle.cwt_gate.proofs.Opened.{all-map, opened}
 use Rattle.cwt_gate.proofs.policy.Policy.understands.Goals as goal
 
--- each label that must be understood by these fields is, in the header h; and in the header of these fields
+-- Each critical label in these fields is understood in the header `h`.
 abbrev JudgedIn : PolicyView → HeaderView → FieldsView → Bool
 JudgedIn p h f = list_all (is_understood p h) f.crit
 

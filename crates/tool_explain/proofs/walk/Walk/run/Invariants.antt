@@ -4,7 +4,7 @@ use Rattle.tool_explain.specs.declared.column.Column.{Column}
 use Rattle.std.proofs.Common.{ℕ}
 use Rattle.tool_explain.proofs.walk.Walk.run.Given as goal
 
--- as many steps show no more than as many lines, and no byte is left out
+-- The steps so far added at most one line each, and no byte is left out.
 pub record Goes (old new : Column) (steps : ℕ) : Type 0 where
   pub same : whole new ≡ whole old
   pub lines : shown new ≤ shown old + steps
