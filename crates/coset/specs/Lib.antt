@@ -5,7 +5,7 @@ pub use Rattle.coset_value.specs.Parts
 pub use Rattle.coset_value.specs.Range
 pub use Rattle.coset_cbor.specs.Grammar
 pub use Rattle.coset_cbor.specs.Shortest
-pub use Rattle.coset_cbor.specs.Fronts
+pub use Rattle.coset_cbor.specs.Prefixes
 pub use Rattle.coset_cbor.specs.ReadErrors
 pub use Rattle.coset_cbor.specs.Heads
 pub use Rattle.coset_cbor.specs.ReadHeads
@@ -15,7 +15,7 @@ pub use Rattle.coset_codec.specs.Shape
 pub use Rattle.coset_codec.specs.ShapeLaws
 pub use Rattle.coset_codec.specs.PerhapsTagged
 pub use Rattle.coset_codec.specs.Maps
-pub use Rattle.coset_codec.specs.Answers
+pub use Rattle.coset_codec.specs.Results
 pub use Rattle.coset_codec.specs.Alone
 pub use Rattle.coset_codec.specs.Refusals
 pub use Rattle.coset_codec.specs.Kinds
@@ -23,7 +23,7 @@ pub use Rattle.coset_codec.specs.Sources
 pub use Rattle.coset_codec.specs.Encoding
 pub use Rattle.coset_codec.specs.ReadAgain
 pub use Rattle.coset_codec.specs.AsWritten
-pub use Rattle.coset_label.specs.Names
+pub use Rattle.coset_label.specs.LabelData
 pub use Rattle.coset_label.specs.Labels
 pub use Rattle.coset_label.specs.LabelLaws
 pub use Rattle.coset_label.specs.Views as LabelViews
@@ -50,7 +50,7 @@ pub use Rattle.coset_msg.specs.EncStructure
 pub use Rattle.coset_msg.specs.Presence
 pub use Rattle.coset_msg.specs.Mac0
 pub use Rattle.coset_msg.specs.Encrypt0
-pub use Rattle.coset_recipient.specs.Structured
+pub use Rattle.coset_recipient.specs.AnyStructure
 pub use Rattle.coset_recipient.specs.Recipient
 pub use Rattle.coset_recipient.specs.RecipientSame
 pub use Rattle.coset_recipient.specs.RecipientViews

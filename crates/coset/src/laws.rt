@@ -2,13 +2,14 @@
 //! calling its function.
 
 pub use coset_cbor::laws::{
-    least_encoding_is_shortest, least_heads_are_shortest, lent_chunks, lent_elements, lent_item,
-    nested_arrays_cost, no_item_at_a_fault, one_cost, one_item, one_shortest,
-    only_the_end_in_a_front, shortest_is_encoding, shortest_is_in_range,
+    borrowed_chunks, borrowed_elements, borrowed_item, least_encoding_is_shortest,
+    least_heads_are_shortest, nested_arrays_cost, no_item_at_a_fault, one_cost, one_item,
+    one_shortest, only_end_in_prefix, shortest_is_encoding, shortest_is_in_range,
 };
 pub use coset_codec::laws::{
-    equal_as_viewed, image_is_described, one_value, plain_or_tagged, read_as_item, reads_again,
-    refused_as_bytes, refused_describes_nothing, spellings_agree, stays_as_written, written_apart,
+    encoding_is_injective, encodings_agree, equal_as_viewed, image_is_described, one_value,
+    plain_or_tagged, read_as_item, reads_again, refused_as_bytes, refused_describes_nothing,
+    stays_as_written,
 };
 pub use coset_core::laws::{
     headers_hold_signatures, kept_as_received, kept_as_written, one_empty_header,
@@ -16,11 +17,11 @@ pub use coset_core::laws::{
 };
 pub use coset_iana::laws::{numbers_are_inverse, orders_are_by_number};
 pub use coset_key::laws::{
-    canonical_keys_apart, canonical_keys_read_again, keys_of_a_set, labels_ascend,
-    ml_dsa_variants_come_back, points_come_back,
+    canonical_keys_injective, canonical_keys_read_again, keys_of_a_set, labels_ascend,
+    ml_dsa_round_trip, points_round_trip,
 };
 pub use coset_label::laws::{
-    one_order, orders_are_of_encodings, orders_are_total, orders_tell_apart,
+    one_order, orders_are_of_encodings, orders_are_total, orders_match_equality,
 };
 pub use coset_msg::laws::{kept_in_messages, structure_as_written, structure_when_read};
 pub use coset_recipient::laws::{
@@ -28,7 +29,7 @@ pub use coset_recipient::laws::{
     recipients_hold_recipients, structures_as_written, structures_when_read,
 };
 pub use coset_sign::laws::{
-    carried_as_written, countersigned_as_written, countersigned_by_bytes, countersigned_when_read,
+    attached_as_written, countersigned_as_written, countersigned_by_bytes, countersigned_when_read,
     each_signed_as_written, each_signed_when_read, kept_in_signed, one_signature_structure,
     one_structure, signed_as_written, signed_when_read,
 };

@@ -14,7 +14,7 @@ use Rattle.coset_value.specs.Item.{half, single, double, Item, integer, bytes, f
 use Rattle.coset_value.specs.Item.{no_pairs, pair, items_count, pairs_count, depth, items_depth, pairs_depth}
 use Rattle.coset_value.specs.View.{items_of, pairs_of}
 use Rattle.coset_cbor.specs.Grammar.{HeadWidth, within, one, two, four, eight, Holds, head_in, IsHead, IsHeaded, IsIndefinite, EachInOrder, IsStringContent}
-use Rattle.coset_cbor.specs.Grammar.{string_type, IsDefinite, IsStringEncoding, IsHeld, IsEncoding, AreEncodings, ArePairEncodings}
+use Rattle.coset_cbor.specs.Grammar.{string_type, IsDefinite, IsStringEncoding, EnclosesContent, IsEncoding, AreEncodings, ArePairEncodings}
 use Rattle.coset_cbor.specs.Reading.{◌>>=◌, Parse, major_type_of, number_of, argument_at, argument_by, head_at, is_string_content, string_at, begins_chunk}
 use Rattle.coset_cbor.specs.Reading.{chunk_at, begins_break, times_at, until_at, chunks_at, any_string_by, pair_at, array_by, map_by, Inside, nothing, things}
 use Rattle.coset_cbor.specs.Reading.{item_from, item_at}
@@ -134,9 +134,9 @@ IsHeaded-begins m n s b lt is = begins_append is.head s b is.parts (IsHead-begin
 IsIndefinite-begins : (m : ℕ) (s b : List ℕ) → m < 7 → IsIndefinite m s b → Begins b
 IsIndefinite-begins m s b lt is = record { first = 32 * m + 31; more = s ++ 255 ∷ []; parts = is; low = omega arith }
 
-IsHeld-begins : (m n : ℕ) (s b : List ℕ) → m < 7 → IsHeld m n s b → Begins b
-IsHeld-begins m n s b lt (inl h) = IsHeaded-begins m n s b lt h
-IsHeld-begins m n s b lt (inr h) = IsIndefinite-begins m s b lt h
+EnclosesContent-begins : (m n : ℕ) (s b : List ℕ) → m < 7 → EnclosesContent m n s b → Begins b
+EnclosesContent-begins m n s b lt (inl h) = IsHeaded-begins m n s b lt h
+EnclosesContent-begins m n s b lt (inr h) = IsIndefinite-begins m s b lt h
 
 pub type_low : (is_text : Bool) → string_type is_text < 7
 type_low false = omega arith
@@ -158,8 +158,8 @@ IsEncoding-begins (boolean false) b h = record { first = 0xF4; more = []; parts 
 IsEncoding-begins (boolean true) b h = record { first = 0xF5; more = []; parts = h; low = omega arith }
 IsEncoding-begins null b h = record { first = 0xF6; more = []; parts = h; low = omega arith }
 IsEncoding-begins (tag t v) b h = IsHeaded-begins 6 t h.0 b (omega arith) h.2
-IsEncoding-begins (array vs) b h = IsHeld-begins 4 (items_count vs) h.0 b (omega arith) h.2
-IsEncoding-begins (dict ps) b h = IsHeld-begins 5 (pairs_count ps) h.0 b (omega arith) h.2
+IsEncoding-begins (array vs) b h = EnclosesContent-begins 4 (items_count vs) h.0 b (omega arith) h.2
+IsEncoding-begins (dict ps) b h = EnclosesContent-begins 5 (pairs_count ps) h.0 b (omega arith) h.2
 
 other_break : (n : ℕ) → n < 255 → eqb n 255 ≡ false
 other_break n lt = ne_eqb n 255 (λ e. absurd (omega arith))

@@ -12,7 +12,7 @@ use Rattle.coset_value.specs.Item.{half, single, double, Item, integer, bytes, f
 use Rattle.coset_value.specs.Item.{no_pairs, pair, items_count, pairs_count, items_depth, pairs_depth}
 use Rattle.coset_value.specs.View.{items_of, pairs_of}
 use Rattle.coset_value.specs.Parts.{as_array, as_map}
-use Rattle.coset_cbor.specs.Grammar.{IsHeld, IsEncoding, AreEncodings, ArePairEncodings, IsItem}
+use Rattle.coset_cbor.specs.Grammar.{EnclosesContent, IsEncoding, AreEncodings, ArePairEncodings, IsItem}
 use Rattle.coset_cbor.specs.Reading.{◌>>=◌, number_of, head_at, any_string_by, simple_at, Inside, nothing, things, item_by, item_from, item_at}
 use Rattle.coset_cbor.specs.Whole.{is_one_item, item_of}
 use Rattle.coset_cbor.specs.Between.{IsContent, array_around, map_around, items_in, pairs_in}
@@ -118,7 +118,7 @@ is_map (dict ps) = inl (ps, refl)
 -- ---- bytes after a head
 
 -- The bytes after a head are all the elements, or the elements and the break.
-held_parts : (m n : ℕ) (c b : List ℕ) (h : HeadView × List ℕ) → IsHeld m n c b → head_at b ≡ Ok h → ((number_of h.0.argument ≡ Some n) × (h.1 ≡ c))
+held_parts : (m n : ℕ) (c b : List ℕ) (h : HeadView × List ℕ) → EnclosesContent m n c b → head_at b ≡ Ok h → ((number_of h.0.argument ≡ Some n) × (h.1 ≡ c))
     ⊎ ((number_of h.0.argument ≡ None) × (h.1 ≡ c ++ 255 ∷ []))
 held_parts m n c b h (inl is) e =
     let r = IsHeaded-again m n c b [] is in
@@ -150,7 +150,7 @@ fits_inside : (x : ℕ) (s : List ℕ) → IsBytes (x ∷ (s ++ 255 ∷ [])) →
 fits_inside x s fits = fits_front s (255 ∷ []) (IsBytes-rest x (s ++ 255 ∷ []) fits)
 
 -- The content after the head is the content c.
-content_held : (m n : ℕ) (k : MajorType) (c b s : List ℕ) → IsBytes b → IsHeld m n c b → IsContent k b s → (s ≡ c) × IsBytes c
+content_held : (m n : ℕ) (k : MajorType) (c b s : List ℕ) → IsBytes b → EnclosesContent m n c b → IsContent k b s → (s ≡ c) × IsBytes c
 content_held m n k c b s fits is content =
     let h = content.head in
     let rest = (head_takes b h fits content.reads).rest_fits in
@@ -205,7 +205,7 @@ are_items b one = elim (is_array (item_of (array_around b))) [
 pub record HoldsItems (b s : List ℕ) : Type 0 where
   pub one : is_one_item (array_around s) ≡ true
   pub view : Some (items_in s) ≡ as_array (item_of b)
-  pub held : IsHeld 4 (items_count (items_in s)) s b
+  pub held : EnclosesContent 4 (items_count (items_in s)) s b
 
 pub array_content : (b s : List ℕ) → is_one_item b ≡ true → IsContent major_types.Array b s → HoldsItems b s
 array_content b s one content = elim (is_array (item_of b)) [
@@ -218,7 +218,8 @@ array_content b s one content = elim (is_array (item_of b)) [
       record {
         one = made.0;
         view = ap (λ (vs : Items). Some vs) made.1 ∙ ap as_array (sym a.1);
-        held = subst (λ (vs : Items). IsHeld 4 (items_count vs) s b) (sym made.1) (subst (λ (x : List ℕ). IsHeld 4 (items_count a.0) x b) (sym held.0) is.0.2);
+        held = subst (λ (vs : Items). EnclosesContent 4 (items_count vs) s b) (sym made.1)
+            (subst (λ (x : List ℕ). EnclosesContent 4 (items_count a.0) x b) (sym held.0) is.0.2);
       }
   | inr a ↦ absurd (a.1 (one_item_major_type b content.head one content.reads ∙ content.major_type))
 ]
@@ -313,7 +314,7 @@ are_pairs b one = elim (is_map (item_of (map_around b))) [
 pub record HoldsPairs (b s : List ℕ) : Type 0 where
   pub one : is_one_item (map_around s) ≡ true
   pub view : Some (pairs_in s) ≡ as_map (item_of b)
-  pub held : IsHeld 5 (pairs_count (pairs_in s)) s b
+  pub held : EnclosesContent 5 (pairs_count (pairs_in s)) s b
 
 pub map_content : (b s : List ℕ) → is_one_item b ≡ true → IsContent major_types.Map b s → HoldsPairs b s
 map_content b s one content = elim (is_map (item_of b)) [
@@ -326,7 +327,8 @@ map_content b s one content = elim (is_map (item_of b)) [
       record {
         one = made.0;
         view = ap (λ (ps : Pairs). Some ps) made.1 ∙ ap as_map (sym a.1);
-        held = subst (λ (ps : Pairs). IsHeld 5 (pairs_count ps) s b) (sym made.1) (subst (λ (x : List ℕ). IsHeld 5 (pairs_count a.0) x b) (sym held.0) is.0.2);
+        held = subst (λ (ps : Pairs). EnclosesContent 5 (pairs_count ps) s b) (sym made.1)
+            (subst (λ (x : List ℕ). EnclosesContent 5 (pairs_count a.0) x b) (sym held.0) is.0.2);
       }
   | inr a ↦ absurd (a.1 (one_item_major_type b content.head one content.reads ∙ content.major_type))
 ]

@@ -9,10 +9,10 @@ use Rattle.coset_value.specs.Item.{no_pairs, pair, items_count, pairs_count, dep
 use Rattle.coset_cbor.specs.declared.fault.Fault.TheVariants.{End}
 use Rattle.coset_cbor.specs.Heads.{Argument}
 use Rattle.coset_cbor.specs.Heads as places
-use Rattle.coset_cbor.specs.Grammar.{within, two, four, eight, IsHeaded, EachInOrder, string_type, IsDefinite, IsStringEncoding, IsHeld, IsEncoding}
+use Rattle.coset_cbor.specs.Grammar.{within, two, four, eight, IsHeaded, EachInOrder, string_type, IsDefinite, IsStringEncoding, EnclosesContent, IsEncoding}
 use Rattle.coset_cbor.specs.Grammar.{AreEncodings, ArePairEncodings, IsItem}
 use Rattle.coset_cbor.specs.Reading.{Parse, number_of, head_at, string_at, chunk_at, times_at, pair_at, things, item_at}
-use Rattle.coset_cbor.specs.Cost.{content_cost, chunks_cost, IsStringCost, IsHeldCost, IsCost, AreCosts, ArePairCosts}
+use Rattle.coset_cbor.specs.Cost.{content_cost, chunks_cost, IsStringCost, IsContentCost, IsCost, AreCosts, ArePairCosts}
 use Rattle.coset_cbor.specs.Counting.{after, content_steps, chunk_steps, times_steps, until_steps, string_steps, pair_steps, StepsInside, no_steps, steps_of}
 use Rattle.coset_cbor.specs.Counting.{steps_from, item_steps}
 use Rattle.coset_cbor.proofs.Again.{head_of, IsHead-again, IsHeaded-again, head_again, opening_again, begins_chunk-type, string_again, chunk_again, chunk_reads}
@@ -26,7 +26,7 @@ string_has_cost : (is_text : Bool) (s b : List ℕ) → IsStringEncoding is_text
 string_has_cost is_text s b (inl h) = (suc (content_cost is_text s), inl (h, refl))
 string_has_cost is_text s b (inr h) = (2 + chunks_cost is_text h.0, inr (h.0, h.1, h.2, h.3, h.4, refl))
 
-held_has_cost : (m n : ℕ) (s b : List ℕ) (j : ℕ) → IsHeld m n s b → (k : ℕ) × IsHeldCost m n s b j k
+held_has_cost : (m n : ℕ) (s b : List ℕ) (j : ℕ) → EnclosesContent m n s b → (k : ℕ) × IsContentCost m n s b j k
 held_has_cost m n s b j (inl h) = (suc j, inl (h, refl))
 held_has_cost m n s b j (inr h) = (2 + j, inr (h, refl))
 
@@ -58,7 +58,7 @@ string_cost_encoding : (is_text : Bool) (s b : List ℕ) (k : ℕ) → IsStringC
 string_cost_encoding is_text s b k (inl h) = inl h.0
 string_cost_encoding is_text s b k (inr h) = inr (h.0, h.1, h.2, h.3, h.4)
 
-held_cost_held : (m n : ℕ) (s b : List ℕ) (j k : ℕ) → IsHeldCost m n s b j k → IsHeld m n s b
+held_cost_held : (m n : ℕ) (s b : List ℕ) (j k : ℕ) → IsContentCost m n s b j k → EnclosesContent m n s b
 held_cost_held m n s b j k (inl h) = inl h.0
 held_cost_held m n s b j k (inr h) = inr h.0
 

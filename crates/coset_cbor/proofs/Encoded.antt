@@ -4,7 +4,7 @@ use Rattle.std.proofs.lemmas.List.{length-append, append-nil}
 use Rattle.coset_value.specs.Item.{Item, integer, bytes, float, text, boolean, null, tag, array, dict, Items, no_items, item, Pairs, no_pairs, pair}
 use Rattle.coset_value.specs.Item.{items_count, pairs_count, depth, items_depth, pairs_depth}
 use Rattle.coset_cbor.specs.declared.fault.Fault.{Fault}
-use Rattle.coset_cbor.specs.Grammar.{IsHeaded, IsHeld, IsEncoding, AreEncodings, ArePairEncodings}
+use Rattle.coset_cbor.specs.Grammar.{IsHeaded, EnclosesContent, IsEncoding, AreEncodings, ArePairEncodings}
 use Rattle.coset_cbor.specs.Reading.{item_at}
 use Rattle.coset_cbor.proofs.Again.{IsHead-begins, item_again}
 use Rattle.coset_cbor.proofs.Takes.{IsBytes, ok_is, item_takes}
@@ -17,7 +17,7 @@ headed_longer m n s b low h =
     let all : length b ≡ length h.head + length s = ap length h.parts ∙ length-append h.head s in
     omega arith
 
-held_longer : (m n : ℕ) (s b : List ℕ) → m < 7 → IsHeld m n s b → length s < length b
+held_longer : (m n : ℕ) (s b : List ℕ) → m < 7 → EnclosesContent m n s b → length s < length b
 held_longer m n s b low (inl h) = headed_longer m n s b low h
 held_longer m n s b low (inr h) =
     let all : length b ≡ suc (length s + 1) = ap length h ∙ ap suc (length-append s (255 ∷ [])) in

@@ -18,7 +18,7 @@ use Rattle.coset_cbor.specs.Reading.{◌>>=◌, Parse, major_type_of, number_of,
 use Rattle.coset_cbor.specs.Reading.{begins_chunk, chunk_at, begins_break, times_at, until_at, chunks_at, any_string_by, pair_at, array_by, map_by, simple_at}
 use Rattle.coset_cbor.specs.Reading.{Inside, nothing, things, item_by, item_from, item_at}
 use Rattle.coset_cbor.specs.Cost.{content_cost}
-use Rattle.coset_cbor.specs.Counting.{after, where_some, content_steps, chunk_steps, times_steps, until_steps, string_steps, pair_steps, array_steps, map_steps}
+use Rattle.coset_cbor.specs.Counting.{after, if_some, content_steps, chunk_steps, times_steps, until_steps, string_steps, pair_steps, array_steps, map_steps}
 use Rattle.coset_cbor.specs.Counting.{StepsInside, no_steps, steps_of, body_steps, steps_from, item_steps}
 use Rattle.coset_cbor.proofs.Takes.{break_is}
 
@@ -118,7 +118,7 @@ string_frugal is_text left n s = by_length (ltb (length s) n) refl
     by_length false e = sound (is_string_content is_text (take n s)) (ltb-false _ _ e)
 
 where_within : {A : Type 0} (left : ℕ) (o : Option ℕ) (f : ℕ → Result (A × List ℕ) Fault) (g : ℕ → ℕ) (s : List ℕ) → ((n : ℕ) → IsWithin (g n) s (f n))
-    → IsWithin (where_some o g) s (unless_none left o f)
+    → IsWithin (if_some o g) s (unless_none left o f)
 where_within left None f g s h = omega arith
 where_within left (Some n) f g s h = h n
 
@@ -127,7 +127,7 @@ unfolding chunk_at chunk_steps
 chunk_frugal is_text s =
     head_then s (head_at s) (λ h. cond (begins_chunk is_text h.0.major_type)
     (unless_none (length s) (number_of h.0.argument) (λ n. string_at is_text (length s) n h.1)) (Err (Syntax (length s))))
-    (λ h. cond (begins_chunk is_text h.0.major_type) (where_some (number_of h.0.argument) (λ n. content_steps is_text (length s) n h.1)) 0) (head_shorter s)
+    (λ h. cond (begins_chunk is_text h.0.major_type) (if_some (number_of h.0.argument) (λ n. content_steps is_text (length s) n h.1)) 0) (head_shorter s)
     (λ h. within_choice (begins_chunk is_text h.0.major_type) _ _ h.1 _ _
     (λ e. where_within (length s) (number_of h.0.argument) _ _ h.1 (λ n. string_frugal is_text (length s) n h.1)) (λ e. omega arith))
 

@@ -13,7 +13,7 @@ use Rattle.coset_cbor.specs.Reading.{◌>>=◌, Parse, number_of, head_at, begin
 use Rattle.coset_cbor.specs.Reading.{things, item_by, item_at}
 use Rattle.std.specs.Borrow.{Bor}
 use Rattle.coset_cbor.specs.Cost.{content_cost}
-use Rattle.coset_cbor.specs.Counting.{left_of, Passes, after, content_steps, pair_steps, times_steps, until_steps}
+use Rattle.coset_cbor.specs.Counting.{left_of, SkipsAsRead, after, content_steps, pair_steps, times_steps, until_steps}
 
 -- Mapping the value of a reading leaves the same bytes.
 pub left_of-made : {A B : Type 0} (r : Result (A × List ℕ) Fault) (f : A → B) → left_of (r >>= λ x. Ok (f x.0, x.1)) ≡ left_of r
@@ -214,7 +214,7 @@ unfolding chunks_at
 chunks_left is_text s = left_of-made (until_at (chunk_at is_text) (length s) s) joined_chunks
 
 pub passes_same : {A B : Type 0} (r : Result (Bor (List ℕ)) Fault) (x : Result (A × List ℕ) Fault) (y : Result (B × List ℕ) Fault) → left_of y ≡ left_of x
-    → Passes r x → Passes r y
+    → SkipsAsRead r x → SkipsAsRead r y
 passes_same (Ok b) x y e h = e ∙ h
 passes_same (Err f) x y e h = e ∙ h
 
@@ -233,7 +233,7 @@ pair_steps_left one st old half new s a e more rest = let then = after_left (one
 -- Skipping the elements of an array skips the array.
 pub array_passes : (r : Result (Bor (List ℕ)) Fault) (depth : ℕ) (s : List ℕ) (h : HeadView × List ℕ) (count : Option ℕ) → 0 < depth → head_at s ≡ Ok h
     → h.0.major_type ≡ major_types.Array → count ≡ number_of h.0.argument
-    → Passes r (array_by (item_at (depth - 1)) count h.1) → Passes r (item_at depth s)
+    → SkipsAsRead r (array_by (item_at (depth - 1)) count h.1) → SkipsAsRead r (item_at depth s)
 unfolding item_at things
 array_passes r zero s h count lt e major_type number is = absurd (omega arith)
 array_passes r (suc d) s h count lt e major_type number is =
@@ -243,12 +243,12 @@ array_passes r (suc d) s h count lt e major_type number is =
     ∙ ap (λ (k : MajorType). left_of (item_by (things (item_at d)) (length s) h.0.argument k h.1)) major_type
     ∙ ap (λ (o : Option ℕ). left_of (array_by (item_at d) o h.1 >>= λ x. Ok (array (items_of x.0), x.1))) (sym number)
     ∙ left_of-made (array_by (item_at d) count h.1) (λ (vs : List Item). array (items_of vs)))
-    (subst (λ (n : ℕ). Passes r (array_by (item_at n) count h.1)) back is)
+    (subst (λ (n : ℕ). SkipsAsRead r (array_by (item_at n) count h.1)) back is)
 
 -- Skipping the pairs of a map skips the map.
 pub map_passes : (r : Result (Bor (List ℕ)) Fault) (depth : ℕ) (s : List ℕ) (h : HeadView × List ℕ) (count : Option ℕ) → 0 < depth → head_at s ≡ Ok h
     → h.0.major_type ≡ major_types.Map → count ≡ number_of h.0.argument
-    → Passes r (map_by (item_at (depth - 1)) count h.1) → Passes r (item_at depth s)
+    → SkipsAsRead r (map_by (item_at (depth - 1)) count h.1) → SkipsAsRead r (item_at depth s)
 unfolding item_at things
 map_passes r zero s h count lt e major_type number is = absurd (omega arith)
 map_passes r (suc d) s h count lt e major_type number is =
@@ -258,4 +258,4 @@ map_passes r (suc d) s h count lt e major_type number is =
     ∙ ap (λ (k : MajorType). left_of (item_by (things (item_at d)) (length s) h.0.argument k h.1)) major_type
     ∙ ap (λ (o : Option ℕ). left_of (map_by (item_at d) o h.1 >>= λ x. Ok (dict (pairs_of x.0), x.1))) (sym number)
     ∙ left_of-made (map_by (item_at d) count h.1) (λ (ps : List (Item × Item)). dict (pairs_of ps)))
-    (subst (λ (n : ℕ). Passes r (map_by (item_at n) count h.1)) back is)
+    (subst (λ (n : ℕ). SkipsAsRead r (map_by (item_at n) count h.1)) back is)

@@ -4,7 +4,7 @@ use Rattle.std.proofs.lemmas.Bool.{ltb-true, ltb-false, eqb-true, eqb-false, ne_
 use Rattle.coset_cbor.specs.declared.fault.Fault.{Fault}
 use Rattle.coset_cbor.specs.declared.fault.Fault.TheVariants.{End}
 use Rattle.coset_cbor.specs.declared.head.Head.{Head}
-use Rattle.coset_cbor.specs.Faults.{HasBadInfo}
+use Rattle.coset_cbor.specs.Faults.{HasReservedInfo}
 use Rattle.coset_cbor.specs.Grammar.{within, one, two, four, eight}
 use Rattle.coset_cbor.specs.Heads.{Argument, Fits, major_type_number}
 use Rattle.coset_cbor.specs.Heads as places
@@ -90,7 +90,7 @@ head_ends b e = go (head_fault b End e)
     go (inl h) = h.1
     go (inr h) = absurd cc
 
-pub head_bad : (b : List ℕ) (f : Fault) → (f ≡ End → ⊥) → head_at b ≡ Err f → HasBadInfo b
+pub head_bad : (b : List ℕ) (f : Fault) → (f ≡ End → ⊥) → head_at b ≡ Err f → HasReservedInfo b
 head_bad b f other e =
     elim (head_fault b f e) [
       | inl h ↦ absurd (other h.0)

@@ -22,7 +22,7 @@ use Rattle.coset_cbor.specs.ReadHeads.{EndsInHead}
 use Rattle.coset_cbor.specs.Reading.{item_from, item_at}
 use Rattle.std.proofs.lemmas.Bool.{ltb-true, false≢true}
 use Rattle.coset_cbor.specs.Faults.{is_even, Opens, in_array, in_map, in_tag, in_open_array, in_open_map, Due, at_start, innermost, outer, DueChunk, IsDue}
-use Rattle.coset_cbor.specs.Faults.{LacksContent, Ends, HasBadInfo, HasNoLength, IsLowSimple, BeginsBreak, NoItem, NoChunk, IsBadTextString, IsNotSupported}
+use Rattle.coset_cbor.specs.Faults.{LacksContent, Ends, HasReservedInfo, HasNoLength, IsLowSimple, BeginsBreak, NoItem, NoChunk, IsBadTextString, IsNotSupported}
 use Rattle.coset_cbor.specs.Faults.{Nests, FaultAt}
 use Rattle.coset_cbor.proofs.Again.{IsEncodingBelow, IsPairEncodingBelow, Begins, IsEncoding-begins, begins_append, IsHeaded-begins, type_low}
 use Rattle.coset_cbor.proofs.Takes.{IsBytes, bind_ok, chosen, ok_is, chunk_type, option_cases, number_head, none_head, head_takes}
@@ -51,7 +51,7 @@ guard_err false f g x e = absurd cc
 -- ---- heads
 
 abbrev pub HeadFault : List ℕ → Fault → Type 0
-HeadFault s f = ((f ≡ End) × EndsInHead s) ⊎ ((f ≡ Syntax (length s)) × HasBadInfo s)
+HeadFault s f = ((f ≡ End) × EndsInHead s) ⊎ ((f ≡ Syntax (length s)) × HasReservedInfo s)
 
 ends_in_head : (s : List ℕ) → EndsInHead s → Ends s
 ends_in_head s (inl none) = inl none
@@ -221,7 +221,7 @@ begins_chunk-type : (is_text : Bool) → begins_chunk is_text (major_type_of (st
 begins_chunk-type false = refl
 begins_chunk-type true = refl
 
-bad_info_no_chunk : (is_text : Bool) (t : List ℕ) → HasBadInfo t → NoChunk is_text t
+bad_info_no_chunk : (is_text : Bool) (t : List ℕ) → HasReservedInfo t → NoChunk is_text t
 bad_info_no_chunk is_text [] h = h
 bad_info_no_chunk is_text (x ∷ t) h =
     let low = h.0 in

@@ -14,7 +14,7 @@ use Rattle.coset_cbor.specs.Reading.{◌>>=◌, number_of, unless_none, head_at,
 use Rattle.coset_cbor.specs.Reading.{item_by, item_at}
 use Rattle.coset_cbor.specs.Grammar.{IsItem}
 use Rattle.coset_cbor.specs.Whole.{is_one_item, item_of}
-use Rattle.coset_cbor.specs.Skips.{IsPast, items_behind, bytes_behind, BeginsItem}
+use Rattle.coset_cbor.specs.Skips.{IsPast, announced_items, announced_bytes, BeginsItem}
 use Rattle.coset_cbor.proofs.Takes.{IsBytes, IsBytes-take, bind_ok, ok_is, some_ok, guard_ok, guard_else, chosen, head_takes, item_takes}
 use Rattle.coset_cbor.proofs.Again.{item_again}
 use Rattle.coset_cbor.proofs.Whole.{one_item_from, one_item_is}
@@ -122,7 +122,7 @@ made_rest r f x e =
     (y.0, y.1, ap rest_of (ok_is (f y.0.0, y.0.1) x y.2))
 
 behind_by : (k : MajorType) (left n : ℕ) (a : Argument) (s : List ℕ) (x : Item × List ℕ) → IsBytes s → number_of a ≡ Some n
-    → item_by (things (item_at 255)) left a k s ≡ Ok x → IsPast (items_behind k n) (drop (bytes_behind k n) s) x.1
+    → item_by (things (item_at 255)) left a k s ≡ Ok x → IsPast (announced_items k n) (drop (announced_bytes k n) s) x.1
 unfolding IsPast things
 behind_by major_types.Unsigned left n a s x fits number e = number_rest left (number_of a) (λ n. integer (pos n)) s x e
 behind_by major_types.Negative left n a s x fits number e = number_rest left (number_of a) (λ n. integer (negsuc n)) s x e
@@ -151,12 +151,12 @@ behind_by major_types.Tag left n a s x fits number e =
 behind_by major_types.Simple left n a s x fits number e = simple_rest left a s x e
 
 pub behind_head : (s : List ℕ) (h : HeadView × List ℕ) (n : ℕ) (t : List ℕ) (x : Item × List ℕ) → IsBytes s → head_at s ≡ Ok h → number_of h.0.argument ≡ Some n
-    → t ≡ drop (bytes_behind h.0.major_type n) h.1 → item_at 256 s ≡ Ok x → IsPast (items_behind h.0.major_type n) t x.1
+    → t ≡ drop (announced_bytes h.0.major_type n) h.1 → item_at 256 s ≡ Ok x → IsPast (announced_items h.0.major_type n) t x.1
 unfolding item_at
 behind_head s h n t x fits e number rest whole =
     let by : item_by (things (item_at 255)) (length s) h.0.argument h.0.major_type h.1 ≡ Ok x =
     sym (ap (λ (r : Result (HeadView × List ℕ) Fault). r >>= λ y. item_by (things (item_at 255)) (length s) y.0.argument y.0.major_type y.1) e) ∙ whole in
-    subst (λ (r : List ℕ). IsPast (items_behind h.0.major_type n) r x.1) (sym rest)
+    subst (λ (r : List ℕ). IsPast (announced_items h.0.major_type n) r x.1) (sym rest)
     (behind_by h.0.major_type (length s) n h.0.argument h.1 x (head_takes s h fits e).rest_fits number by)
 
 -- ---- the item known to be at the start

@@ -18,7 +18,7 @@ use Rattle.coset_cbor.specs.Heads as places
 use Rattle.coset_cbor.specs.Grammar.{IsHeaded, EachInOrder, IsDefinite, joined_chunks, string_type, IsItem}
 use Rattle.coset_cbor.specs.Faults.{Due, DueChunk, LacksArgument, LacksContent, Ends, NoItem, NoChunk, IsBadTextString, IsNotSupported, Nests}
 use Rattle.coset_cbor.specs.ReadErrors.{IsMemory, FaultIn}
-use Rattle.coset_cbor.specs.Fronts.{HasNoItem, IsEndOfInput}
+use Rattle.coset_cbor.specs.Prefixes.{HasNoItem, IsEndOfInput}
 use Rattle.coset_cbor.specs.Reading.{◌>>=◌, major_type_of, number_of, head_at, unless_none, is_string_content, string_at, begins_chunk, chunk_at, begins_break}
 use Rattle.coset_cbor.specs.Reading.{until_at, chunks_at, any_string_by, times_at, pair_at, Inside, nothing, things, item_by, item_at}
 use Rattle.coset_cbor.proofs.Again.{IsHeaded-begins, IsHead-again, opening_again, head_of, no_break, regroup, chunk_again, chunk_reads, item_again}

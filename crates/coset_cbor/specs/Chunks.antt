@@ -14,7 +14,8 @@ chunks_bytes c = c.bytes.now
 abbrev pub text_chunks_bytes : TextChunks → List ℕ
 text_chunks_bytes c = c.bytes.now
 
--- The contents of the chunks left of a byte string. The bytes left encode these and no others (the law `lent_chunks`).
+-- The contents of the chunks left of a byte string. The bytes left encode these and no others (the law
+-- `borrowed_chunks`).
 abbrev pub chunks_left : ByteChunks → List (List ℕ)
 chunks_left c = chunk_contents false c.bytes.now
 

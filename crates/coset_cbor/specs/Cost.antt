@@ -25,8 +25,8 @@ IsStringCost is_text s b k = (IsDefinite is_text s b × (k ≡ suc (content_cost
 
 -- b is the content s after a head, or between an initial byte and a break. Reading s takes j steps, and reading b takes
 -- k.
-abbrev pub IsHeldCost : ℕ → ℕ → List ℕ → List ℕ → ℕ → ℕ → Type 0
-IsHeldCost m n s b j k = (IsHeaded m n s b × (k ≡ suc j)) ⊎ (IsIndefinite m s b × (k ≡ 2 + j))
+abbrev pub IsContentCost : ℕ → ℕ → List ℕ → List ℕ → ℕ → ℕ → Type 0
+IsContentCost m n s b j k = (IsHeaded m n s b × (k ≡ suc j)) ⊎ (IsIndefinite m s b × (k ≡ 2 + j))
 
 abbrev mutual
   -- b is an encoding of the item, and reading b takes k steps.
@@ -38,8 +38,8 @@ abbrev mutual
   IsCost (boolean x) b k = IsBoolEncoding x b × (k ≡ 1)
   IsCost null b k = (b ≡ 0xF6 ∷ []) × (k ≡ 1)
   IsCost (tag t v) b k = (c : List ℕ) × (j : ℕ) × IsCost v c j × IsHeaded 6 t c b × (k ≡ suc j)
-  IsCost (array vs) b k = (c : List ℕ) × (j : ℕ) × AreCosts vs c j × IsHeldCost 4 (items_count vs) c b j k
-  IsCost (dict ps) b k = (c : List ℕ) × (j : ℕ) × ArePairCosts ps c j × IsHeldCost 5 (pairs_count ps) c b j k
+  IsCost (array vs) b k = (c : List ℕ) × (j : ℕ) × AreCosts vs c j × IsContentCost 4 (items_count vs) c b j k
+  IsCost (dict ps) b k = (c : List ℕ) × (j : ℕ) × ArePairCosts ps c j × IsContentCost 5 (pairs_count ps) c b j k
 
   -- b encodes the items one after the other, and reading b takes k steps.
   pub AreCosts : Items → List ℕ → ℕ → Type 0

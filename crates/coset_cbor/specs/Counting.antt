@@ -21,9 +21,9 @@ after (Ok x) steps = steps x
 after (Err f) steps = 0
 
 -- The steps for an argument's number, or none if it has no number.
-abbrev pub where_some : Option ℕ → (ℕ → ℕ) → ℕ
-where_some None steps = 0
-where_some (Some n) steps = steps n
+abbrev pub if_some : Option ℕ → (ℕ → ℕ) → ℕ
+if_some None steps = 0
+if_some (Some n) steps = steps n
 
 -- The steps of a definite-length string's content.
 unfoldable pub content_steps : Bool → ℕ → ℕ → List ℕ → ℕ
@@ -31,7 +31,7 @@ content_steps is_text left n s = after (string_at is_text left n s) (λ x. conte
 
 unfoldable pub chunk_steps : Bool → List ℕ → ℕ
 chunk_steps is_text s = after (head_at s) (λ h.
-    suc (if begins_chunk is_text h.0.major_type then where_some (number_of h.0.argument) (λ n. content_steps is_text (length s) n h.1) else 0))
+    suc (if begins_chunk is_text h.0.major_type then if_some (number_of h.0.argument) (λ n. content_steps is_text (length s) n h.1) else 0))
 
 -- The steps of reading n times.
 unfoldable pub times_steps : {A : Type 0} → Parse A → (List ℕ → ℕ) → ℕ → List ℕ → ℕ
@@ -78,7 +78,7 @@ body_steps inside left a major_types.Bytes s = string_steps false left (number_o
 body_steps inside left a major_types.Text s = string_steps true left (number_of a) s
 body_steps inside left a major_types.Array s = inside.items (number_of a) s
 body_steps inside left a major_types.Map s = inside.pairs (number_of a) s
-body_steps inside left a major_types.Tag s = where_some (number_of a) (λ n. inside.one s)
+body_steps inside left a major_types.Tag s = if_some (number_of a) (λ n. inside.one s)
 body_steps inside left a major_types.Simple s = 0
 
 abbrev pub steps_from : StepsInside → List ℕ → ℕ
@@ -90,11 +90,11 @@ item_steps zero s = steps_from no_steps s
 item_steps (suc d) s = steps_from (steps_of (item_at d) (item_steps d)) s
 
 -- The result of a function that skips bytes: the bytes left by `read`, or its fault.
-abbrev pub Passes : {A : Type 0} → Result (Bor (List ℕ)) Fault → Result (A × List ℕ) Fault → Type 0
-Passes (Ok rest) read = left_of read ≡ Ok rest.now
-Passes (Err f) read = left_of read ≡ Err f
+abbrev pub SkipsAsRead : {A : Type 0} → Result (Bor (List ℕ)) Fault → Result (A × List ℕ) Fault → Type 0
+SkipsAsRead (Ok rest) read = left_of read ≡ Ok rest.now
+SkipsAsRead (Err f) read = left_of read ≡ Err f
 
 -- The same for a function with a place for the fault. `rest` is what `read` leaves, if no fault was put there.
-abbrev pub PassesTo : {A : Type 0} → Option Fault → List ℕ → Result (A × List ℕ) Fault → Type 0
-PassesTo None rest read = left_of read ≡ Ok rest
-PassesTo (Some f) rest read = left_of read ≡ Err f
+abbrev pub SkipsAsReadTo : {A : Type 0} → Option Fault → List ℕ → Result (A × List ℕ) Fault → Type 0
+SkipsAsReadTo None rest read = left_of read ≡ Ok rest
+SkipsAsReadTo (Some f) rest read = left_of read ≡ Err f

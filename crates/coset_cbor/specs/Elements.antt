@@ -15,12 +15,12 @@ items_bytes it = it.rest.now
 abbrev pub pairs_bytes : lent_pairs.Pairs → List ℕ
 pairs_bytes it = it.rest.now
 
--- The elements that are left. The bytes left encode these and no others (the law `lent_elements`).
+-- The elements that are left. The bytes left encode these and no others (the law `borrowed_elements`).
 abbrev pub items_left : lent_items.Items → Items
 items_left it = items_in it.rest.now
 
 -- The pairs that are left. The bytes left encode these, each key before its value, and no others (the law
--- `lent_elements`).
+-- `borrowed_elements`).
 abbrev pub pairs_left : lent_pairs.Pairs → Pairs
 pairs_left it = pairs_in it.rest.now
 

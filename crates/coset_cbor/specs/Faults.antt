@@ -64,9 +64,9 @@ abbrev pub Ends : List ℕ → Type 0
 Ends t = (t ≡ []) ⊎ (LacksArgument t ⊎ LacksContent t)
 
 -- The additional information is 28 to 30, which are reserved.
-abbrev pub HasBadInfo : List ℕ → Type 0
-HasBadInfo [] = ⊥
-HasBadInfo (x ∷ t) = (28 ≤ x % 32) × (x % 32 ≤ 30)
+abbrev pub HasReservedInfo : List ℕ → Type 0
+HasReservedInfo [] = ⊥
+HasReservedInfo (x ∷ t) = (28 ≤ x % 32) × (x % 32 ≤ 30)
 
 -- The additional information is 31 in an integer or a tag, which have no indefinite form.
 abbrev pub HasNoLength : List ℕ → Type 0
@@ -86,7 +86,7 @@ BeginsBreak (x ∷ t) = x ≡ 255
 
 -- No item begins so. This includes the break, unless the break may be here (e).
 abbrev pub NoItem : Bool → List ℕ → Type 0
-NoItem e t = HasBadInfo t ⊎ (HasNoLength t ⊎ (IsLowSimple t ⊎ (BeginsBreak t × (e ≡ false))))
+NoItem e t = HasReservedInfo t ⊎ (HasNoLength t ⊎ (IsLowSimple t ⊎ (BeginsBreak t × (e ≡ false))))
 
 -- Neither a chunk of the string's type nor the break begins so.
 abbrev pub NoChunk : Bool → List ℕ → Type 0

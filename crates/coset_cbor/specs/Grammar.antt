@@ -95,8 +95,8 @@ IsBoolEncoding false b = b ≡ 0xF4 ∷ []
 IsBoolEncoding true b = b ≡ 0xF5 ∷ []
 
 -- b is s after a head of major type m with argument n, or s between an initial byte of m and the break.
-abbrev pub IsHeld : ℕ → ℕ → List ℕ → List ℕ → Type 0
-IsHeld m n s b = IsHeaded m n s b ⊎ IsIndefinite m s b
+abbrev pub EnclosesContent : ℕ → ℕ → List ℕ → List ℕ → Type 0
+EnclosesContent m n s b = IsHeaded m n s b ⊎ IsIndefinite m s b
 
 abbrev mutual
   -- b is an encoding of the item.
@@ -108,8 +108,8 @@ abbrev mutual
   IsEncoding (boolean x) b = IsBoolEncoding x b
   IsEncoding null b = b ≡ 0xF6 ∷ []
   IsEncoding (tag t v) b = (c : List ℕ) × IsEncoding v c × IsHeaded 6 t c b
-  IsEncoding (array vs) b = (c : List ℕ) × AreEncodings vs c × IsHeld 4 (items_count vs) c b
-  IsEncoding (dict ps) b = (c : List ℕ) × ArePairEncodings ps c × IsHeld 5 (pairs_count ps) c b
+  IsEncoding (array vs) b = (c : List ℕ) × AreEncodings vs c × EnclosesContent 4 (items_count vs) c b
+  IsEncoding (dict ps) b = (c : List ℕ) × ArePairEncodings ps c × EnclosesContent 5 (pairs_count ps) c b
 
   -- b encodes the items one after the other.
   pub AreEncodings : Items → List ℕ → Type 0

@@ -16,6 +16,6 @@ pub mod Elements
 pub mod StringChunks
 pub mod Chunks
 pub mod Scalars
-pub mod Fronts
+pub mod Prefixes
 pub mod Skips
 pub mod Cursors

@@ -9,7 +9,7 @@ use Rattle.coset_cbor.specs.Whole.{item_of}
 abbrev pub pull_bytes : Pull → List ℕ
 pull_bytes p = p.bytes.now
 
--- The item that these bytes encode, and the only one (the law `lent_item`).
+-- The item that these bytes encode, and the only one (the law `borrowed_item`).
 abbrev pub pull_item : Pull → Item
 pull_item p = item_of p.bytes.now
 

@@ -1,7 +1,7 @@
 -- Heads at the start of bytes (RFC 8949, section 3). The high three bits of the initial byte are the major type. The
 -- low five are the additional information, which announces the argument.
 use Rattle.std.specs.Prelude.{◌≡◌, ◌+◌, ◌*◌, ◌⊎◌, ℕ, List, [], ◌∷◌, ◌++◌, length, Option, Some, None, ◌==◌, if◌then◌else◌}
-use Rattle.coset_cbor.specs.Faults.{HasBadInfo, LacksArgument}
+use Rattle.coset_cbor.specs.Faults.{HasReservedInfo, LacksArgument}
 use Rattle.coset_cbor.specs.Grammar.{IsHead}
 use Rattle.coset_cbor.specs.Heads.{major_type_number}
 use Rattle.coset_cbor.specs.Reading.{argument_from, number_of}
@@ -42,7 +42,7 @@ EndsInHead b = (b ≡ []) ⊎ LacksArgument b
 -- The error says why b begins with no head: the bytes end too early, or the additional information is reserved.
 abbrev pub HasNoHead : List ℕ → Error EndOfFile → Type 0
 HasNoHead b (errors.Io x) = EndsInHead b
-HasNoHead b (errors.Syntax i) = (i ≡ 0) × HasBadInfo b
+HasNoHead b (errors.Syntax i) = (i ≡ 0) × HasReservedInfo b
 HasNoHead b (errors.Semantic o s) = ⊥
 HasNoHead b errors.RecursionLimitExceeded = ⊥
 HasNoHead b errors.OutOfMemory = ⊥

@@ -28,14 +28,14 @@ FailsAs errors.Memory read = Unit {0}
 FailsAs (errors.Fault f) read = read ≡ Err f
 
 -- A function returns, seen through `view`, the result of `read`, unless an allocation failed.
-abbrev pub Gives : {X Y : Type 0} → (X → Y) → Result X ReadError → Result Y Fault → Type 0
-Gives view (Ok x) read = read ≡ Ok (view x)
-Gives view (Err e) read = FailsAs e read
+abbrev pub ReturnsUnlessMemory : {X Y : Type 0} → (X → Y) → Result X ReadError → Result Y Fault → Type 0
+ReturnsUnlessMemory view (Ok x) read = read ≡ Ok (view x)
+ReturnsUnlessMemory view (Err e) read = FailsAs e read
 
 -- A function that allocates nothing returns, seen through `view`, the result of `read`.
-abbrev pub Answers : {X Y : Type 0} → (X → Y) → Result X Fault → Result Y Fault → Type 0
-Answers view (Ok x) read = read ≡ Ok (view x)
-Answers view (Err f) read = read ≡ Err f
+abbrev pub Returns : {X Y : Type 0} → (X → Y) → Result X Fault → Result Y Fault → Type 0
+Returns view (Ok x) read = read ≡ Ok (view x)
+Returns view (Err f) read = read ≡ Err f
 
 abbrev pub Parse : Type 0 → Type 0
 Parse A = List ℕ → Result (A × List ℕ) Fault

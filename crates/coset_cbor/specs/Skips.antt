@@ -12,26 +12,26 @@ IsPast zero s a = s ≡ a
 IsPast (suc n) s a = (x : Item × List ℕ) × (item_at 256 s ≡ Ok x) × IsPast n x.1 a
 
 -- How many items a head of that major type and number announces.
-abbrev pub items_behind : MajorType → ℕ → ℕ
-items_behind major_types.Unsigned n = 0
-items_behind major_types.Negative n = 0
-items_behind major_types.Bytes n = 0
-items_behind major_types.Text n = 0
-items_behind major_types.Array n = n
-items_behind major_types.Map n = n + n
-items_behind major_types.Tag n = 1
-items_behind major_types.Simple n = 0
+abbrev pub announced_items : MajorType → ℕ → ℕ
+announced_items major_types.Unsigned n = 0
+announced_items major_types.Negative n = 0
+announced_items major_types.Bytes n = 0
+announced_items major_types.Text n = 0
+announced_items major_types.Array n = n
+announced_items major_types.Map n = n + n
+announced_items major_types.Tag n = 1
+announced_items major_types.Simple n = 0
 
 -- How many bytes of content a head of that major type and number announces.
-abbrev pub bytes_behind : MajorType → ℕ → ℕ
-bytes_behind major_types.Unsigned n = 0
-bytes_behind major_types.Negative n = 0
-bytes_behind major_types.Bytes n = n
-bytes_behind major_types.Text n = n
-bytes_behind major_types.Array n = 0
-bytes_behind major_types.Map n = 0
-bytes_behind major_types.Tag n = 0
-bytes_behind major_types.Simple n = 0
+abbrev pub announced_bytes : MajorType → ℕ → ℕ
+announced_bytes major_types.Unsigned n = 0
+announced_bytes major_types.Negative n = 0
+announced_bytes major_types.Bytes n = n
+announced_bytes major_types.Text n = n
+announced_bytes major_types.Array n = 0
+announced_bytes major_types.Map n = 0
+announced_bytes major_types.Tag n = 0
+announced_bytes major_types.Simple n = 0
 
 -- An item is at the start of b.
 pub record BeginsItem (b : List ℕ) : Type 0 where

@@ -1,8 +1,8 @@
 //! The check: skips an item without making a value of it.
 
 ghost use Rattle.std.specs.Prelude.{◌≡◌, ◌+◌, length, drop, true, false, MatchOption};
-ghost use Rattle.coset_cbor.specs.Reading.{Answers, head_at, begins_break, string_at, chunk_at, begins_chunk, any_string_by, simple_at, argument_from, head_from, times_at, until_at, pair_at, array_by, map_by, item_at};
-ghost use Rattle.coset_cbor.specs.Counting.{Passes, PassesTo, after, content_steps, chunk_steps, string_steps, times_steps, until_steps, pair_steps, array_steps, map_steps, item_steps};
+ghost use Rattle.coset_cbor.specs.Reading.{Returns, head_at, begins_break, string_at, chunk_at, begins_chunk, any_string_by, simple_at, argument_from, head_from, times_at, until_at, pair_at, array_by, map_by, item_at};
+ghost use Rattle.coset_cbor.specs.Counting.{SkipsAsRead, SkipsAsReadTo, after, content_steps, chunk_steps, string_steps, times_steps, until_steps, pair_steps, array_steps, map_steps, item_steps};
 
 use crate::fault::{Fault, end, syntax};
 use crate::head::{Head, MajorType, head_of};
@@ -13,7 +13,7 @@ use std::sync::ledger::Ledger;
 /// Reads the head at the start and counts one step. Returns the head and the bytes after it.
 #[inline(always)]
 fn start<'a, L: Ledger>(bytes: &'a [u8], steps: &mut Steps<L>) -> Result<(Head, &'a [u8]), Fault>
-    ensures head { Answers (λ x. (head_from x.0, x.1.now)) result (head_at bytes.now) }
+    ensures head { Returns (λ x. (head_from x.0, x.1.now)) result (head_at bytes.now) }
     ensures steps { steps.new ≡ steps.old + after (head_at bytes.now) (λ _. 1) }
 {
     let found = head_of(bytes)?;
@@ -24,7 +24,7 @@ fn start<'a, L: Ledger>(bytes: &'a [u8], steps: &mut Steps<L>) -> Result<(Head, 
 /// Returns the bytes after the break and counts one step, or returns `None` if the break is not at
 /// the start.
 #[inline(always)]
-fn past_break<'a, L: Ledger>(bytes: &'a [u8], steps: &mut Steps<L>) -> Option<&'a [u8]>
+fn skip_break<'a, L: Ledger>(bytes: &'a [u8], steps: &mut Steps<L>) -> Option<&'a [u8]>
     ensures { MatchOption result ((begins_break bytes.now ≡ false) × (steps.new ≡ steps.old))
         (λ rest. (begins_break bytes.now ≡ true) × (rest.now ≡ drop 1 bytes.now)
         × (steps.new ≡ steps.old + 1)) }
@@ -38,7 +38,7 @@ fn past_break<'a, L: Ledger>(bytes: &'a [u8], steps: &mut Steps<L>) -> Option<&'
 #[tactic(auto, unfolding(crate::specs::Reading::string_at))]
 #[inline(always)]
 fn byte_content(left: usize, count: u64, bytes: &[u8]) -> Result<&[u8], Fault>
-    ensures { Passes result (string_at false left count bytes.now) }
+    ensures { SkipsAsRead result (string_at false left count bytes.now) }
 {
     let (_, rest) = bytes_at(left, count, bytes)?;
     Ok(rest)
@@ -53,7 +53,7 @@ fn text_content<'a, L: Ledger>(
     bytes: &'a [u8],
     steps: &mut Steps<L>,
 ) -> Result<&'a [u8], Fault>
-    ensures left { Passes result (string_at true left count bytes.now) }
+    ensures left { SkipsAsRead result (string_at true left count bytes.now) }
     ensures steps { steps.new ≡ steps.old + content_steps true left count bytes.now }
 {
     if (bytes.len() as u64) < count {
@@ -78,7 +78,7 @@ fn content<'a, L: Ledger>(
     bytes: &'a [u8],
     steps: &mut Steps<L>,
 ) -> Result<&'a [u8], Fault>
-    ensures left { Passes result (string_at is_text left count bytes.now) }
+    ensures left { SkipsAsRead result (string_at is_text left count bytes.now) }
     ensures steps { steps.new ≡ steps.old + content_steps is_text left count bytes.now }
 {
     if is_text {
@@ -107,7 +107,7 @@ fn chunk<'a, L: Ledger>(
     bytes: &'a [u8],
     steps: &mut Steps<L>,
 ) -> Result<&'a [u8], Fault>
-    ensures left { Passes result (chunk_at is_text bytes.now) }
+    ensures left { SkipsAsRead result (chunk_at is_text bytes.now) }
     ensures steps { steps.new ≡ steps.old + chunk_steps is_text bytes.now }
 {
     let (head, rest) = start(bytes, steps)?;
@@ -127,13 +127,13 @@ fn chunks_here<'a, L: Ledger>(
     bytes: &'a [u8],
     steps: &mut Steps<L>,
 ) -> Result<&'a [u8], Fault>
-    ensures left { Passes result (until_at (chunk_at is_text) (length bytes.now) bytes.now) }
+    ensures left { SkipsAsRead result (until_at (chunk_at is_text) (length bytes.now) bytes.now) }
     ensures steps { steps.new ≡ steps.old
         + until_steps (chunk_at is_text) (chunk_steps is_text) (length bytes.now) bytes.now }
 {
     let mut rest = bytes;
     for _ in 0..bytes.len() {
-        if let Some(end) = past_break(rest, steps) {
+        if let Some(end) = skip_break(rest, steps) {
             return Ok(end);
         }
         rest = chunk(is_text, rest, steps)?;
@@ -150,7 +150,7 @@ fn chunks_apart<'a, L: Ledger>(
     steps: &mut Steps<L>,
     fault: &mut Option<Fault>,
 ) -> &'a [u8]
-    ensures left { PassesTo fault.new result.now
+    ensures left { SkipsAsReadTo fault.new result.now
         (until_at (chunk_at is_text) (length bytes.now) bytes.now) }
     ensures steps { steps.new ≡ steps.old
         + until_steps (chunk_at is_text) (chunk_steps is_text) (length bytes.now) bytes.now }
@@ -174,7 +174,7 @@ fn chunks<'a, L: Ledger>(
     bytes: &'a [u8],
     steps: &mut Steps<L>,
 ) -> Result<&'a [u8], Fault>
-    ensures left { Passes result (until_at (chunk_at is_text) (length bytes.now) bytes.now) }
+    ensures left { SkipsAsRead result (until_at (chunk_at is_text) (length bytes.now) bytes.now) }
     ensures steps { steps.new ≡ steps.old
         + until_steps (chunk_at is_text) (chunk_steps is_text) (length bytes.now) bytes.now }
 {
@@ -195,7 +195,7 @@ fn string<'a, L: Ledger>(
     bytes: &'a [u8],
     steps: &mut Steps<L>,
 ) -> Result<&'a [u8], Fault>
-    ensures left { Passes result (any_string_by is_text left count bytes.now) }
+    ensures left { SkipsAsRead result (any_string_by is_text left count bytes.now) }
     ensures steps { steps.new ≡ steps.old + string_steps is_text left count bytes.now }
 {
     match count {
@@ -208,7 +208,7 @@ fn string<'a, L: Ledger>(
 /// and so is the break.
 #[inline(always)]
 fn simple_value(left: usize, info: u8, number: u64, bytes: &[u8]) -> Result<&[u8], Fault>
-    ensures { Passes result (simple_at left (argument_from info number) bytes.now) }
+    ensures { SkipsAsRead result (simple_at left (argument_from info number) bytes.now) }
 {
     match info {
         0..=23 => match number {
@@ -236,7 +236,7 @@ pub(crate) fn item<'a, L: Ledger>(
     depth: u32,
     steps: &mut Steps<L>,
 ) -> Result<&'a [u8], Fault>
-    ensures left { Passes result (item_at depth bytes.now) }
+    ensures left { SkipsAsRead result (item_at depth bytes.now) }
     ensures steps { steps.new ≡ steps.old + item_steps depth bytes.now }
 {
     let left = bytes.len();
@@ -283,7 +283,7 @@ fn enclosed_item_apart<'a, L: Ledger>(
     steps: &mut Steps<L>,
     fault: &mut Option<Fault>,
 ) -> &'a [u8]
-    ensures left { PassesTo fault.new result.now (item_at depth bytes.now) }
+    ensures left { SkipsAsReadTo fault.new result.now (item_at depth bytes.now) }
     ensures steps { steps.new ≡ steps.old + item_steps depth bytes.now }
 {
     match item(bytes, depth, steps) {
@@ -306,7 +306,7 @@ fn enclosed_item<'a, L: Ledger>(
     depth: u32,
     steps: &mut Steps<L>,
 ) -> Result<&'a [u8], Fault>
-    ensures left { Passes result (item_at depth bytes.now) }
+    ensures left { SkipsAsRead result (item_at depth bytes.now) }
     ensures steps { steps.new ≡ steps.old + item_steps depth bytes.now }
 {
     let mut fault = None;
@@ -329,7 +329,7 @@ fn array_apart<'a, L: Ledger>(
     steps: &mut Steps<L>,
     fault: &mut Option<Fault>,
 ) -> &'a [u8]
-    ensures left { PassesTo fault.new result.now (array_by (item_at depth) count bytes.now) }
+    ensures left { SkipsAsReadTo fault.new result.now (array_by (item_at depth) count bytes.now) }
     ensures steps { steps.new ≡ steps.old
         + array_steps (item_at depth) (item_steps depth) count bytes.now }
 {
@@ -354,7 +354,7 @@ fn array<'a, L: Ledger>(
     depth: u32,
     steps: &mut Steps<L>,
 ) -> Result<&'a [u8], Fault>
-    ensures left { Passes result (array_by (item_at depth) count bytes.now) }
+    ensures left { SkipsAsRead result (array_by (item_at depth) count bytes.now) }
     ensures steps { steps.new ≡ steps.old
         + array_steps (item_at depth) (item_steps depth) count bytes.now }
 {
@@ -378,7 +378,7 @@ fn map_apart<'a, L: Ledger>(
     steps: &mut Steps<L>,
     fault: &mut Option<Fault>,
 ) -> &'a [u8]
-    ensures left { PassesTo fault.new result.now (map_by (item_at depth) count bytes.now) }
+    ensures left { SkipsAsReadTo fault.new result.now (map_by (item_at depth) count bytes.now) }
     ensures steps { steps.new ≡ steps.old
         + map_steps (item_at depth) (item_steps depth) count bytes.now }
 {
@@ -403,7 +403,7 @@ fn map<'a, L: Ledger>(
     depth: u32,
     steps: &mut Steps<L>,
 ) -> Result<&'a [u8], Fault>
-    ensures left { Passes result (map_by (item_at depth) count bytes.now) }
+    ensures left { SkipsAsRead result (map_by (item_at depth) count bytes.now) }
     ensures steps { steps.new ≡ steps.old
         + map_steps (item_at depth) (item_steps depth) count bytes.now }
 {
@@ -424,7 +424,7 @@ fn array_here<'a, L: Ledger>(
     depth: u32,
     steps: &mut Steps<L>,
 ) -> Result<&'a [u8], Fault>
-    ensures left { Passes result (array_by (item_at depth) count bytes.now) }
+    ensures left { SkipsAsRead result (array_by (item_at depth) count bytes.now) }
     ensures steps { steps.new ≡ steps.old
         + array_steps (item_at depth) (item_steps depth) count bytes.now }
 {
@@ -444,7 +444,7 @@ fn map_here<'a, L: Ledger>(
     depth: u32,
     steps: &mut Steps<L>,
 ) -> Result<&'a [u8], Fault>
-    ensures left { Passes result (map_by (item_at depth) count bytes.now) }
+    ensures left { SkipsAsRead result (map_by (item_at depth) count bytes.now) }
     ensures steps { steps.new ≡ steps.old
         + map_steps (item_at depth) (item_steps depth) count bytes.now }
 {
@@ -464,7 +464,7 @@ fn items<'a, L: Ledger>(
     depth: u32,
     steps: &mut Steps<L>,
 ) -> Result<&'a [u8], Fault>
-    ensures left { Passes result (times_at (item_at depth) count bytes.now) }
+    ensures left { SkipsAsRead result (times_at (item_at depth) count bytes.now) }
     ensures steps { steps.new ≡ steps.old
         + times_steps (item_at depth) (item_steps depth) count bytes.now }
 {
@@ -483,13 +483,13 @@ fn items_until<'a, L: Ledger>(
     depth: u32,
     steps: &mut Steps<L>,
 ) -> Result<&'a [u8], Fault>
-    ensures left { Passes result (until_at (item_at depth) (length bytes.now) bytes.now) }
+    ensures left { SkipsAsRead result (until_at (item_at depth) (length bytes.now) bytes.now) }
     ensures steps { steps.new ≡ steps.old
         + until_steps (item_at depth) (item_steps depth) (length bytes.now) bytes.now }
 {
     let mut rest = bytes;
     for _ in 0..bytes.len() {
-        if let Some(end) = past_break(rest, steps) {
+        if let Some(end) = skip_break(rest, steps) {
             return Ok(end);
         }
         rest = item(rest, depth, steps)?;
@@ -501,7 +501,7 @@ fn items_until<'a, L: Ledger>(
 #[cycle(check)]
 #[inline(always)]
 fn pair<'a, L: Ledger>(bytes: &'a [u8], depth: u32, steps: &mut Steps<L>) -> Result<&'a [u8], Fault>
-    ensures left { Passes result (pair_at (item_at depth) bytes.now) }
+    ensures left { SkipsAsRead result (pair_at (item_at depth) bytes.now) }
     ensures steps { steps.new ≡ steps.old
         + pair_steps (item_at depth) (item_steps depth) bytes.now }
 {
@@ -518,7 +518,7 @@ fn pairs<'a, L: Ledger>(
     depth: u32,
     steps: &mut Steps<L>,
 ) -> Result<&'a [u8], Fault>
-    ensures left { Passes result (times_at (pair_at (item_at depth)) count bytes.now) }
+    ensures left { SkipsAsRead result (times_at (pair_at (item_at depth)) count bytes.now) }
     ensures steps { steps.new ≡ steps.old
         + times_steps (pair_at (item_at depth)) (pair_steps (item_at depth) (item_steps depth))
         count bytes.now }
@@ -538,14 +538,15 @@ fn pairs_until<'a, L: Ledger>(
     depth: u32,
     steps: &mut Steps<L>,
 ) -> Result<&'a [u8], Fault>
-    ensures left { Passes result (until_at (pair_at (item_at depth)) (length bytes.now) bytes.now) }
+    ensures left { SkipsAsRead result
+        (until_at (pair_at (item_at depth)) (length bytes.now) bytes.now) }
     ensures steps { steps.new ≡ steps.old
         + until_steps (pair_at (item_at depth)) (pair_steps (item_at depth) (item_steps depth))
         (length bytes.now) bytes.now }
 {
     let mut rest = bytes;
     for _ in 0..bytes.len() {
-        if let Some(end) = past_break(rest, steps) {
+        if let Some(end) = skip_break(rest, steps) {
             return Ok(end);
         }
         rest = pair(rest, depth, steps)?;

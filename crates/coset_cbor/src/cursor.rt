@@ -6,7 +6,7 @@ ghost use Rattle.std.specs.Prelude.{◌≡◌, ◌≤◌, ◌<◌, [], List, ℕ
 ghost use Rattle.coset_value.specs.Item.{Item, Items, no_items};
 ghost use Rattle.coset_value.specs.Parts.{as_array, as_bytes};
 ghost use Rattle.coset_cbor.specs.Cursors.{bytes_left, map_items, ItemAt, AreWithin, Doubles, Enters, Nexts};
-ghost use Rattle.coset_cbor.specs.Fronts.{HasNoItem};
+ghost use Rattle.coset_cbor.specs.Prefixes.{HasNoItem};
 ghost use Rattle.coset_cbor.specs.Grammar.{IsItem};
 ghost use Rattle.coset_cbor.specs.Skips.{item_major_type};
 ghost use Rattle.coset_cbor.specs.Pulls.{pull_item, BeginsWith};
@@ -35,7 +35,7 @@ pub struct Remaining {
 }
 
 /// Returns the bytes after the item known to be at the start.
-fn past(bytes: &[u8]) -> &[u8]
+fn after_item(bytes: &[u8]) -> &[u8]
     ensures { (v : Item) (a : List ℕ) → ItemAt v bytes.now a
         → (result.now ≡ a) × (length a < length bytes.now) }
 {
@@ -148,7 +148,7 @@ impl<'a> Cursor<'a> {
     }
 
     /// Moves to `rest` if that is shorter than the remaining input.
-    fn go(&mut self, rest: &'a [u8])
+    fn advance_to(&mut self, rest: &'a [u8])
         ensures shrinks { length (bytes_left self.new) ≤ length (bytes_left self.old) }
         ensures there { length rest.now < length (bytes_left self.old)
             → bytes_left self.new ≡ rest.now }
@@ -164,7 +164,7 @@ impl<'a> Cursor<'a> {
         ensures passes { (v : Item) (a : List ℕ) → ItemAt v (bytes_left self.old) a
             → (bytes_left self.new ≡ a) × (length a < length (bytes_left self.old)) }
     {
-        self.go(past(self.rest));
+        self.advance_to(after_item(self.rest));
     }
 
     /// Returns the item, borrowed, and moves just after it. Allocates nothing.

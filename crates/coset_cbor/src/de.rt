@@ -3,7 +3,7 @@
 ghost use Rattle.std.specs.Prelude.{◌≡◌, ◌≤◌, ◌+◌, ◌++◌, List, Some, ℕ, codes, take, length, IfOk, IfErr, MatchOption};
 ghost use Rattle.coset_value.specs.Item.{Item};
 ghost use Rattle.coset_value.specs.View.{value_item};
-ghost use Rattle.coset_cbor.specs.Fronts.{HasNoItem};
+ghost use Rattle.coset_cbor.specs.Prefixes.{HasNoItem};
 ghost use Rattle.coset_cbor.specs.Grammar.{IsItem, IsEncoding};
 ghost use Rattle.coset_cbor.specs.Cost.{IsCost};
 ghost use Rattle.coset_cbor.specs.Faults.{FaultAt};
@@ -77,7 +77,7 @@ impl<T> From<OutOfMemory> for Error<T> {
 /// Returns the error for a fault in an input of `len` bytes.
 pub(crate) fn error_of(fault: Fault, len: usize) -> Error<EndOfFile>
     ensures other { IsMemory result → ⊥ }
-    ensures stands { (s : List ℕ) → length s ≡ len → FaultAt 256 s fault → FaultIn s result }
+    ensures fault { (s : List ℕ) → length s ≡ len → FaultAt 256 s fault → FaultIn s result }
 {
     match fault {
         Fault::End => Error::Io(EndOfFile),
@@ -109,7 +109,7 @@ pub fn check<L: Ledger>(bytes: &[u8], steps: &mut Steps<L>) -> Result<usize, Err
     ensures refused { IfErr result (λ e. HasNoItem bytes.now) }
     ensures memory { IfErr result (λ e. IsMemory e → ⊥) }
     // The fault is in the bytes, at the error's offset if it has one.
-    ensures stands { IfErr result (λ e. FaultIn bytes.now e) }
+    ensures fault { IfErr result (λ e. FaultIn bytes.now e) }
     ensures bound { steps.new ≤ steps.old + length bytes.now }
 {
     match check_item(bytes, MAX_DEPTH, steps) {
@@ -123,7 +123,7 @@ pub fn check<L: Ledger>(bytes: &[u8], steps: &mut Steps<L>) -> Result<usize, Err
 ///
 /// # Errors
 /// The same as [`check`].
-pub fn front_length(bytes: &[u8]) -> Result<usize, Error<EndOfFile>>
+pub fn item_length(bytes: &[u8]) -> Result<usize, Error<EndOfFile>>
     ensures length { IfOk result (λ n. n ≤ length bytes.now) }
     // That many bytes are an item.
     ensures found { IfOk result (λ n. (v : Item) × IsItem (take n bytes.now) v) }
@@ -131,7 +131,7 @@ pub fn front_length(bytes: &[u8]) -> Result<usize, Error<EndOfFile>>
     ensures refused { IfErr result (λ e. HasNoItem bytes.now) }
     ensures memory { IfErr result (λ e. IsMemory e → ⊥) }
     // The fault is in the bytes, at the error's offset if it has one.
-    ensures stands { IfErr result (λ e. FaultIn bytes.now e) }
+    ensures fault { IfErr result (λ e. FaultIn bytes.now e) }
 {
     counted_length::<Brand>(bytes, Blank::new(1))
 }
@@ -145,7 +145,7 @@ fn counted_length<L: Ledger>(bytes: &[u8], blank: Blank) -> Result<usize, Error<
     ensures found { IfOk result (λ n. (v : Item) × IsItem (take n bytes.now) v) }
     ensures refused { IfErr result (λ e. HasNoItem bytes.now) }
     ensures memory { IfErr result (λ e. IsMemory e → ⊥) }
-    ensures stands { IfErr result (λ e. FaultIn bytes.now e) }
+    ensures fault { IfErr result (λ e. FaultIn bytes.now e) }
 {
     let mut steps: Steps<L> = Steps::new(blank);
     check(bytes, &mut steps)
@@ -176,7 +176,7 @@ pub fn read_value(alloc: Global, bytes: &[u8]) -> Result<(Value, usize), Error<E
     ensures memory { IfErr result (λ e. IsMemory e
         → (v : Item) × (b : List ℕ) × (rest : List ℕ) × (bytes.now ≡ b ++ rest) × IsItem b v) }
     // The fault is in the bytes, at the error's offset if it has one.
-    ensures stands { IfErr result (λ e. FaultIn bytes.now e) }
+    ensures fault { IfErr result (λ e. FaultIn bytes.now e) }
 {
     let (pull, _) = Pull::new(bytes)?;
     let value = pull.to_value(alloc)?;

@@ -2,8 +2,8 @@
 
 ghost use Rattle.std.specs.Prelude.{◌≡◌, ◌≢◌, ◌<◌, ◌++◌, ◌∷◌, [], List, ℕ, true, length, MatchOption};
 ghost use Rattle.coset_cbor.specs.Heads.{HeadView};
-ghost use Rattle.coset_cbor.specs.Fronts.{HasNoItem};
-ghost use Rattle.coset_cbor.specs.Grammar.{IsHeld};
+ghost use Rattle.coset_cbor.specs.Prefixes.{HasNoItem};
+ghost use Rattle.coset_cbor.specs.Grammar.{EnclosesContent};
 ghost use Rattle.coset_cbor.specs.Reading.{head_at};
 ghost use Rattle.coset_cbor.specs.Whole.{is_one_item};
 ghost use Rattle.coset_cbor.specs.Pulls.{pull_bytes, pull_item, BeginsWith};
@@ -84,7 +84,8 @@ impl<'a> Pull<'a> {
         // The elements' bytes follow the array's head, or are between its initial byte and the
         // break.
         ensures bytes { IfSome result
-            (λ it. IsHeld 4 (items_count (items_left it)) (items_bytes it) (pull_bytes self.now)) }
+            (λ it. EnclosesContent 4 (items_count (items_left it)) (items_bytes it)
+            (pull_bytes self.now)) }
     {
         let rest = content(MajorType::Array, self.bytes)?;
         Some(Items { rest })
@@ -96,7 +97,8 @@ impl<'a> Pull<'a> {
         ensures pairs { option_map pairs_left result ≡ as_map (pull_item self.now) }
         // The pairs' bytes follow the map's head, or are between its initial byte and the break.
         ensures bytes { IfSome result
-            (λ it. IsHeld 5 (pairs_count (pairs_left it)) (pairs_bytes it) (pull_bytes self.now)) }
+            (λ it. EnclosesContent 5 (pairs_count (pairs_left it)) (pairs_bytes it)
+            (pull_bytes self.now)) }
     {
         let rest = content(MajorType::Map, self.bytes)?;
         Some(Pairs { rest })

@@ -7,7 +7,7 @@ ghost use Rattle.coset_value.specs.Item.{Item};
 ghost use Rattle.coset_value.specs.Parts.{as_integer, as_bytes, as_text};
 ghost use Rattle.coset_value.specs.View.{bits_of, value_item};
 ghost use Rattle.coset_cbor.specs.Cursors.{bytes_left, ItemAt, CopiesPart, TakesNull, TakesPart};
-ghost use Rattle.coset_cbor.specs.Fronts.{HasNoItem};
+ghost use Rattle.coset_cbor.specs.Prefixes.{HasNoItem};
 ghost use Rattle.coset_cbor.specs.ReadErrors.{IsMemory, FaultIn};
 ghost use Rattle.coset_cbor.specs.Scalars.{as_float, as_scalar};
 

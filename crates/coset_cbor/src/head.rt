@@ -4,7 +4,7 @@ ghost use Rattle.std.specs.Prelude.{◌≡◌, ◌≤◌, ◌<◌, ◌/◌, ◌+
 ghost use Rattle.std.specs.Int.{w8, w16, w32, w64};
 ghost use Rattle.coset_cbor.specs.Heads.{Fits, One, Two, Four, Eight};
 ghost use Rattle.coset_cbor.specs.ReadHeads.{BeginsWithHead, HasNoHead, head_number, width_of};
-ghost use Rattle.coset_cbor.specs.Reading.{Answers, major_type_of, head_at, argument_at, argument_by, argument_from, head_from};
+ghost use Rattle.coset_cbor.specs.Reading.{Returns, major_type_of, head_at, argument_at, argument_by, argument_from, head_from};
 ghost use Rattle.coset_cbor.specs.declared.head.MajorType.TheVariants as major_types;
 
 use crate::de::{EndOfFile, Error};
@@ -130,7 +130,7 @@ impl MajorType {
 
 #[inline(always)]
 fn one_at(bytes: &[u8]) -> Result<(u8, &[u8]), Fault>
-    ensures { Answers (λ x. (One x.0, x.1.now)) result
+    ensures { Returns (λ x. (One x.0, x.1.now)) result
         (argument_at One w8 1 bytes.now) }
 {
     let Some((first, rest)) = bytes.split_first() else {
@@ -141,7 +141,7 @@ fn one_at(bytes: &[u8]) -> Result<(u8, &[u8]), Fault>
 
 #[inline(always)]
 fn two_at(bytes: &[u8]) -> Result<(u16, &[u8]), Fault>
-    ensures { Answers (λ x. (Two x.0, x.1.now)) result
+    ensures { Returns (λ x. (Two x.0, x.1.now)) result
         (argument_at Two w16 2 bytes.now) }
 {
     if bytes.len() < 2 {
@@ -154,7 +154,7 @@ fn two_at(bytes: &[u8]) -> Result<(u16, &[u8]), Fault>
 
 #[inline(always)]
 fn four_at(bytes: &[u8]) -> Result<(u32, &[u8]), Fault>
-    ensures { Answers (λ x. (Four x.0, x.1.now)) result
+    ensures { Returns (λ x. (Four x.0, x.1.now)) result
         (argument_at Four w32 4 bytes.now) }
 {
     if bytes.len() < 4 {
@@ -167,7 +167,7 @@ fn four_at(bytes: &[u8]) -> Result<(u32, &[u8]), Fault>
 
 #[inline(always)]
 fn eight_at(bytes: &[u8]) -> Result<(u64, &[u8]), Fault>
-    ensures { Answers (λ x. (Eight x.0, x.1.now)) result
+    ensures { Returns (λ x. (Eight x.0, x.1.now)) result
         (argument_at Eight w64 8 bytes.now) }
 {
     if bytes.len() < 8 {
@@ -184,7 +184,7 @@ fn eight_at(bytes: &[u8]) -> Result<(u64, &[u8]), Fault>
 /// counts the bytes from the start of the head.
 #[inline(always)]
 fn number_at(info: u8, left: usize, bytes: &[u8]) -> Result<(u64, &[u8]), Fault>
-    ensures number { Answers (λ x. (argument_from info x.0, x.1.now)) result
+    ensures number { Returns (λ x. (argument_from info x.0, x.1.now)) result
         (argument_by info left bytes.now) }
     ensures fits { IfOk result (λ x. Fits info x.0) }
 {
@@ -214,7 +214,7 @@ fn number_at(info: u8, left: usize, bytes: &[u8]) -> Result<(u64, &[u8]), Fault>
 #[tactic(auto, unfolding(crate::specs::Reading::head_at))]
 #[inline(always)]
 pub(crate) fn head_of(bytes: &[u8]) -> Result<(Head, &[u8]), Fault>
-    ensures head { Answers (λ x. (head_from x.0, x.1.now)) result (head_at bytes.now) }
+    ensures head { Returns (λ x. (head_from x.0, x.1.now)) result (head_at bytes.now) }
     ensures fits { IfOk result (λ x. Fits x.0.info x.0.number) }
 {
     let Some((first, rest)) = bytes.split_first() else {

@@ -15,7 +15,7 @@ ghost use Rattle.coset_cbor.specs.declared.elements.Items.{Items};
 ghost use Rattle.coset_cbor.specs.declared.elements.Pairs.{Pairs};
 ghost use Rattle.coset_cbor.specs.declared.pull.Pull.{Pull};
 ghost use Rattle.coset_cbor.specs.Cost.{IsCost};
-ghost use Rattle.coset_cbor.specs.Fronts.{AreBytes, HasNoItem, IsEndOfInput};
+ghost use Rattle.coset_cbor.specs.Prefixes.{AreBytes, HasNoItem, IsEndOfInput};
 ghost use Rattle.coset_cbor.specs.ReadErrors.{IsMemory, FaultIn};
 ghost use Rattle.coset_cbor.specs.declared.de.EndOfFile.{EndOfFile};
 ghost use Rattle.coset_cbor.specs.declared.de.Error.{Error};
@@ -30,14 +30,14 @@ pub fn one_item()
 
 /// The bytes of a `Pull` encode the item that contracts see of it, within 256 levels, and no other
 /// item.
-pub fn lent_item()
+pub fn borrowed_item()
     ensures { (p : Pull) → IsItem (pull_bytes p) (pull_item p)
         × ((v : Item) → IsEncoding v (pull_bytes p) → v ≡ pull_item p) }
 {}
 
 /// The bytes left of an array encode the elements that are left, in order, and no other items. The
 /// bytes left of a map encode the keys and values that are left, and no others.
-pub fn lent_elements()
+pub fn borrowed_elements()
     ensures items { (it : Items) → AreEncodings (items_left it) (items_bytes it)
         × ((vs : model.Items) → AreEncodings vs (items_bytes it) → vs ≡ items_left it) }
     ensures pairs { (it : Pairs) → ArePairEncodings (pairs_left it) (pairs_bytes it)
@@ -46,7 +46,7 @@ pub fn lent_elements()
 
 /// The bytes left of a string are definite-length strings, one after the other. Their contents are
 /// those that are left, and no others (RFC 8949, section 3.2.3).
-pub fn lent_chunks()
+pub fn borrowed_chunks()
     ensures bytes { (c : ByteChunks)
         → EachInOrder (IsDefinite false) (chunks_left c) (chunks_bytes c)
         × ((ss : List (List ℕ)) → EachInOrder (IsDefinite false) ss (chunks_bytes c)
@@ -106,7 +106,7 @@ pub fn no_item_at_a_fault()
 {}
 
 /// In a prefix of an item, the end of the input is the only fault, apart from `OutOfMemory`.
-pub fn only_the_end_in_a_front()
+pub fn only_end_in_prefix()
     ensures { (v : Item) (b s more : List ℕ) (e : Error EndOfFile) → AreBytes b → IsItem b v
         → b ≡ s ++ more → (IsMemory e → ⊥) → FaultIn s e → IsEndOfInput e }
 {}

@@ -4,7 +4,7 @@ ghost use Rattle.std.specs.Prelude.{◌≡◌, ◌↔◌, true, IfOk, IfErr, IfS
 ghost use Rattle.coset_value.specs.Item.{Item, null};
 ghost use Rattle.coset_value.specs.Parts.{as_integer, as_bytes, as_text, as_bool, as_tag};
 ghost use Rattle.coset_value.specs.View.{value_item, bits_of};
-ghost use Rattle.coset_cbor.specs.Fronts.{HasNoItem};
+ghost use Rattle.coset_cbor.specs.Prefixes.{HasNoItem};
 ghost use Rattle.coset_cbor.specs.Grammar.{IsHeaded, IsItem};
 ghost use Rattle.coset_cbor.specs.Heads.{Fits};
 ghost use Rattle.coset_cbor.specs.Reading.{argument_from, number_of};
@@ -13,7 +13,7 @@ ghost use Rattle.coset_cbor.specs.Scalars.{as_scalar, as_float, scalar_by, integ
 ghost use Rattle.coset_cbor.specs.Whole.{is_one_item};
 
 use crate::check::begins_chunk;
-use crate::de::{EndOfFile, Error, MAX_DEPTH, front_length};
+use crate::de::{EndOfFile, Error, MAX_DEPTH, item_length};
 use crate::fault::ReadError;
 use crate::head::{Head, MajorType, head_of};
 use crate::memory::OutOfMemory;
@@ -93,9 +93,9 @@ impl<'a> Pull<'a> {
         ensures found { IfOk result (λ x. BeginsWith bytes.now x.0 x.1.now) }
         ensures refused { IfErr result (λ e. HasNoItem bytes.now) }
         ensures memory { IfErr result (λ e. IsMemory e → ⊥) }
-        ensures stands { IfErr result (λ e. FaultIn bytes.now e) }
+        ensures fault { IfErr result (λ e. FaultIn bytes.now e) }
     {
-        let length = front_length(bytes)?;
+        let length = item_length(bytes)?;
         let (front, rest) = bytes.split_at(length);
         Ok((Pull { bytes: front }, rest))
     }

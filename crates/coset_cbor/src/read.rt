@@ -3,7 +3,7 @@
 ghost use Rattle.std.specs.Prelude.{◌≡◌, map, length, negsuc};
 ghost use Rattle.coset_value.specs.View.{value_item, value_pair};
 ghost use Rattle.coset_cbor.specs.Heads.{Fits};
-ghost use Rattle.coset_cbor.specs.Reading.{Answers, Gives, argument_from, times_at, until_at, pair_at, array_by, map_by, simple_at, item_at};
+ghost use Rattle.coset_cbor.specs.Reading.{Returns, ReturnsUnlessMemory, argument_from, times_at, until_at, pair_at, array_by, map_by, simple_at, item_at};
 
 use crate::fault::{Fault, ReadError};
 use crate::head::{Head, MajorType, head_of};
@@ -12,7 +12,7 @@ use coset_value::{Float, Integer, Value};
 use std::alloc::Global;
 
 /// The most elements or pairs that are reserved at once, whatever the head announces.
-const PLACES: u64 = 16;
+const MAX_RESERVED: u64 = 16;
 
 /// Returns the integer -1 - `n`.
 pub(crate) fn negative_integer(n: u64) -> Integer
@@ -29,7 +29,7 @@ pub(crate) fn simple_value(
     bytes: &[u8],
 ) -> Result<(Value, &[u8]), Fault>
     requires { Fits info number }
-    ensures { Answers (λ x. (value_item x.0, x.1.now)) result
+    ensures { Returns (λ x. (value_item x.0, x.1.now)) result
         (simple_at left (argument_from info number) bytes.now) }
 {
     match info {
@@ -58,7 +58,7 @@ pub(crate) fn simple_value(
 #[cycle(item)]
 #[tactic(auto, unfolding(crate::specs::Reading::item_at, crate::specs::Reading::nothing, crate::specs::Reading::things))]
 pub(crate) fn item(alloc: Global, bytes: &[u8], depth: usize) -> Result<(Value, &[u8]), ReadError>
-    ensures { Gives (λ x. (value_item x.0, x.1.now)) result (item_at depth bytes.now) }
+    ensures { ReturnsUnlessMemory (λ x. (value_item x.0, x.1.now)) result (item_at depth bytes.now) }
 {
     let left = bytes.len();
     let (head, rest) = head_of(bytes)?;
@@ -115,7 +115,7 @@ fn array(
     bytes: &[u8],
     depth: usize,
 ) -> Result<(Vec<Value>, &[u8]), ReadError>
-    ensures { Gives (λ x. (map value_item x.0.items, x.1.now)) result
+    ensures { ReturnsUnlessMemory (λ x. (map value_item x.0.items, x.1.now)) result
         (array_by (item_at depth) count bytes.now) }
 {
     match count {
@@ -133,7 +133,7 @@ fn map(
     bytes: &[u8],
     depth: usize,
 ) -> Result<(Vec<(Value, Value)>, &[u8]), ReadError>
-    ensures { Gives (λ x. (map value_pair x.0.items, x.1.now)) result
+    ensures { ReturnsUnlessMemory (λ x. (map value_pair x.0.items, x.1.now)) result
         (map_by (item_at depth) count bytes.now) }
 {
     match count {
@@ -151,10 +151,10 @@ fn items(
     bytes: &[u8],
     depth: usize,
 ) -> Result<(Vec<Value>, &[u8]), ReadError>
-    ensures { Gives (λ x. (map value_item x.0.items, x.1.now)) result
+    ensures { ReturnsUnlessMemory (λ x. (map value_item x.0.items, x.1.now)) result
         (times_at (item_at depth) count bytes.now) }
 {
-    let mut found = Vec::with_capacity(alloc, count.min(PLACES) as usize)?;
+    let mut found = Vec::with_capacity(alloc, count.min(MAX_RESERVED) as usize)?;
     let mut rest = bytes;
     for _ in 0..count {
         let (value, after) = item(alloc, rest, depth)?;
@@ -168,7 +168,7 @@ fn items(
 /// enough.
 #[cycle(item)]
 fn items_until(alloc: Global, bytes: &[u8], depth: usize) -> Result<(Vec<Value>, &[u8]), ReadError>
-    ensures { Gives (λ x. (map value_item x.0.items, x.1.now)) result
+    ensures { ReturnsUnlessMemory (λ x. (map value_item x.0.items, x.1.now)) result
         (until_at (item_at depth) (length bytes.now) bytes.now) }
 {
     let mut found = Vec::new(alloc);
@@ -187,7 +187,8 @@ fn items_until(alloc: Global, bytes: &[u8], depth: usize) -> Result<(Vec<Value>,
 /// Decodes a key and its value.
 #[cycle(item)]
 fn pair(alloc: Global, bytes: &[u8], depth: usize) -> Result<((Value, Value), &[u8]), ReadError>
-    ensures { Gives (λ x. (value_pair x.0, x.1.now)) result (pair_at (item_at depth) bytes.now) }
+    ensures { ReturnsUnlessMemory (λ x. (value_pair x.0, x.1.now)) result
+        (pair_at (item_at depth) bytes.now) }
 {
     let (key, rest) = item(alloc, bytes, depth)?;
     let (value, rest) = item(alloc, rest, depth)?;
@@ -202,10 +203,10 @@ fn pairs(
     bytes: &[u8],
     depth: usize,
 ) -> Result<(Vec<(Value, Value)>, &[u8]), ReadError>
-    ensures { Gives (λ x. (map value_pair x.0.items, x.1.now)) result
+    ensures { ReturnsUnlessMemory (λ x. (map value_pair x.0.items, x.1.now)) result
         (times_at (pair_at (item_at depth)) count bytes.now) }
 {
-    let mut found = Vec::with_capacity(alloc, count.min(PLACES) as usize)?;
+    let mut found = Vec::with_capacity(alloc, count.min(MAX_RESERVED) as usize)?;
     let mut rest = bytes;
     for _ in 0..count {
         let (both, after) = pair(alloc, rest, depth)?;
@@ -222,7 +223,7 @@ fn pairs_until(
     bytes: &[u8],
     depth: usize,
 ) -> Result<(Vec<(Value, Value)>, &[u8]), ReadError>
-    ensures { Gives (λ x. (map value_pair x.0.items, x.1.now)) result
+    ensures { ReturnsUnlessMemory (λ x. (map value_pair x.0.items, x.1.now)) result
         (until_at (pair_at (item_at depth)) (length bytes.now) bytes.now) }
 {
     let mut found = Vec::new(alloc);

@@ -4,15 +4,15 @@
 ghost use Rattle.std.specs.Prelude.{◌≡◌, IfSome, List, ℕ};
 ghost use Rattle.coset_value.specs.Item.{Item};
 ghost use Rattle.coset_cbor.specs.Reading.{item_at};
-ghost use Rattle.coset_cbor.specs.Skips.{IsPast, items_behind, bytes_behind};
+ghost use Rattle.coset_cbor.specs.Skips.{IsPast, announced_items, announced_bytes};
 
 use crate::head::{MajorType, head_of};
 
 /// Returns how many items a head of that major type and number announces, or `None` if the count
 /// overflows.
 #[inline(always)]
-fn items_behind(major_type: MajorType, number: u64) -> Option<u64>
-    ensures { IfSome result (λ n. n ≡ items_behind major_type number) }
+fn announced_items(major_type: MajorType, number: u64) -> Option<u64>
+    ensures { IfSome result (λ n. n ≡ announced_items major_type number) }
 {
     match major_type {
         MajorType::Array => Some(number),
@@ -24,8 +24,8 @@ fn items_behind(major_type: MajorType, number: u64) -> Option<u64>
 
 /// Returns how many bytes of content a head of that major type and number announces.
 #[inline(always)]
-fn bytes_behind(major_type: MajorType, number: u64) -> u64
-    ensures { result ≡ bytes_behind major_type number }
+fn announced_bytes(major_type: MajorType, number: u64) -> u64
+    ensures { result ≡ announced_bytes major_type number }
 {
     match major_type {
         MajorType::Bytes | MajorType::Text => number,
@@ -36,7 +36,7 @@ fn bytes_behind(major_type: MajorType, number: u64) -> u64
 /// Skips the head at the start and its content. Returns how many enclosed items follow, and the
 /// bytes after the content. Returns `None` if it cannot tell, as for an indefinite length.
 #[inline(always)]
-fn behind(bytes: &[u8]) -> Option<(u64, &[u8])>
+fn skip_head_and_content(bytes: &[u8]) -> Option<(u64, &[u8])>
     ensures { IfSome result (λ x. (v : Item × List ℕ) → item_at 256 bytes.now ≡ Ok v
         → IsPast x.0 x.1.now v.1) }
 {
@@ -44,8 +44,8 @@ fn behind(bytes: &[u8]) -> Option<(u64, &[u8])>
         return None;
     };
     let number = head.number()?;
-    let items = items_behind(head.major_type, number)?;
-    let content = bytes_behind(head.major_type, number);
+    let items = announced_items(head.major_type, number)?;
+    let content = announced_bytes(head.major_type, number);
     if (rest.len() as u64) < content {
         return None;
     }
@@ -62,7 +62,7 @@ pub(crate) fn skip_checked(bytes: &[u8]) -> Option<&[u8]>
     let mut left: u64 = 1;
     let mut rest = bytes;
     for _ in 0..bytes.len() {
-        let (items, after) = behind(rest)?;
+        let (items, after) = skip_head_and_content(rest)?;
         left = (left - 1).checked_add(items)?;
         rest = after;
         if left == 0 {

@@ -2,7 +2,7 @@
 
 ghost use Rattle.std.specs.Prelude.{◌≡◌, true, false, drop, string_bytes, IsTrue, MatchOption};
 ghost use Rattle.std.specs.Str.{is_utf8, IsAscii};
-ghost use Rattle.coset_cbor.specs.Reading.{Answers, Gives, string_at, chunk_at, chunks_at, any_string_by, begins_break};
+ghost use Rattle.coset_cbor.specs.Reading.{Returns, ReturnsUnlessMemory, string_at, chunk_at, chunks_at, any_string_by, begins_break};
 
 use crate::fault::{Fault, ReadError, end};
 use crate::head::{MajorType, head_of};
@@ -103,7 +103,7 @@ pub(crate) fn is_text(bytes: &[u8]) -> bool
 #[tactic(auto, unfolding(crate::specs::Reading::string_at))]
 #[inline(always)]
 pub(crate) fn bytes_at(left: usize, count: u64, bytes: &[u8]) -> Result<(&[u8], &[u8]), Fault>
-    ensures { Answers (λ x. (x.0.now, x.1.now)) result (string_at false left count bytes.now) }
+    ensures { Returns (λ x. (x.0.now, x.1.now)) result (string_at false left count bytes.now) }
 {
     if (bytes.len() as u64) < count {
         return Err(end());
@@ -116,7 +116,7 @@ pub(crate) fn bytes_at(left: usize, count: u64, bytes: &[u8]) -> Result<(&[u8], 
 #[tactic(auto, unfolding(crate::specs::Reading::string_at))]
 #[inline(always)]
 pub(crate) fn text_at(left: usize, count: u64, bytes: &[u8]) -> Result<(&str, &[u8]), Fault>
-    ensures { Answers (λ x. (x.0.now, x.1.now)) result (string_at true left count bytes.now) }
+    ensures { Returns (λ x. (x.0.now, x.1.now)) result (string_at true left count bytes.now) }
 {
     if (bytes.len() as u64) < count {
         return Err(end());
@@ -129,7 +129,7 @@ pub(crate) fn text_at(left: usize, count: u64, bytes: &[u8]) -> Result<(&str, &[
 /// Reads a chunk of a byte string: a definite-length byte string.
 #[tactic(auto, unfolding(crate::specs::Reading::chunk_at))]
 pub(crate) fn byte_chunk(bytes: &[u8]) -> Result<(&[u8], &[u8]), Fault>
-    ensures { Answers (λ x. (x.0.now, x.1.now)) result (chunk_at false bytes.now) }
+    ensures { Returns (λ x. (x.0.now, x.1.now)) result (chunk_at false bytes.now) }
 {
     let (head, rest) = head_of(bytes)?;
     match (head.major_type, head.number()) {
@@ -141,7 +141,7 @@ pub(crate) fn byte_chunk(bytes: &[u8]) -> Result<(&[u8], &[u8]), Fault>
 /// Reads a chunk of a text string: a definite-length text string, which is UTF-8 by itself.
 #[tactic(auto, unfolding(crate::specs::Reading::chunk_at))]
 pub(crate) fn text_chunk(bytes: &[u8]) -> Result<(&str, &[u8]), Fault>
-    ensures { Answers (λ x. (x.0.now, x.1.now)) result (chunk_at true bytes.now) }
+    ensures { Returns (λ x. (x.0.now, x.1.now)) result (chunk_at true bytes.now) }
 {
     let (head, rest) = head_of(bytes)?;
     match (head.major_type, head.number()) {
@@ -153,7 +153,7 @@ pub(crate) fn text_chunk(bytes: &[u8]) -> Result<(&str, &[u8]), Fault>
 /// Reads chunks up to the break and joins them. Each chunk takes at least one byte, so
 /// `bytes.len()` turns are enough.
 fn byte_chunks(alloc: Global, bytes: &[u8]) -> Result<(Vec<u8>, &[u8]), ReadError>
-    ensures { Gives (λ x. (x.0.items, x.1.now)) result (chunks_at false bytes.now) }
+    ensures { ReturnsUnlessMemory (λ x. (x.0.items, x.1.now)) result (chunks_at false bytes.now) }
 {
     let mut joined = Vec::new(alloc);
     let mut rest = bytes;
@@ -170,7 +170,8 @@ fn byte_chunks(alloc: Global, bytes: &[u8]) -> Result<(Vec<u8>, &[u8]), ReadErro
 
 /// Reads the chunks of a text string up to the break and joins them.
 fn text_chunks(alloc: Global, bytes: &[u8]) -> Result<(String, &[u8]), ReadError>
-    ensures { Gives (λ x. (string_bytes x.0, x.1.now)) result (chunks_at true bytes.now) }
+    ensures { ReturnsUnlessMemory (λ x. (string_bytes x.0, x.1.now)) result
+        (chunks_at true bytes.now) }
 {
     let mut joined = String::new(alloc);
     let mut rest = bytes;
@@ -193,7 +194,8 @@ pub(crate) fn byte_string(
     count: Option<u64>,
     bytes: &[u8],
 ) -> Result<(Vec<u8>, &[u8]), ReadError>
-    ensures { Gives (λ x. (x.0.items, x.1.now)) result (any_string_by false left count bytes.now) }
+    ensures { ReturnsUnlessMemory (λ x. (x.0.items, x.1.now)) result
+        (any_string_by false left count bytes.now) }
 {
     let Some(count) = count else {
         return byte_chunks(alloc, bytes);
@@ -211,7 +213,7 @@ pub(crate) fn text_string(
     count: Option<u64>,
     bytes: &[u8],
 ) -> Result<(String, &[u8]), ReadError>
-    ensures { Gives (λ x. (string_bytes x.0, x.1.now)) result
+    ensures { ReturnsUnlessMemory (λ x. (string_bytes x.0, x.1.now)) result
         (any_string_by true left count bytes.now) }
 {
     let Some(count) = count else {

@@ -3,9 +3,9 @@ use Rattle.std.proofs.Common.{◌≡◌, List, [], ◌∷◌, ◌++◌, Bool, �
 use Rattle.coset_value.specs.Item.{Item}
 use Rattle.coset_codec.specs.Maps.{Adds, IfThenElse, is_core}
 use Rattle.coset_codec.specs.MapLaws.{flip}
-use Rattle.coset_label.specs.Names.{RegisteredName}
+use Rattle.coset_label.specs.LabelData.{RegisteredLabelView}
 use Rattle.coset_claims.specs.ClaimLabels as labels
-use Rattle.coset_claims.specs.Claims.{FieldTuple, fields, names, same_name}
+use Rattle.coset_claims.specs.Claims.{FieldTuple, fields, names, same_label}
 use Rattle.coset_claims.specs.ClaimsLaws.{names_laws}
 
 -- None of seven tests passes.
@@ -16,9 +16,10 @@ none a b c d e f g h1 h2 h3 h4 h5 h6 h7 = rw (h1, h2, h3, h4, h5, h6, h7) refl
 
 -- A claim with no field of its own goes to `rest`.
 pub adds_rest :
-    (m : RegisteredName) (v : Item) (x y : FieldTuple × List (RegisteredName × Item)) → same_name labels.iss m ≡ false → same_name labels.sub m ≡ false
-    → same_name labels.aud m ≡ false → same_name labels.exp m ≡ false
-    → same_name labels.nbf m ≡ false → same_name labels.iat m ≡ false → same_name labels.cti m ≡ false → x.0 ≡ y.0 → y.1 ≡ x.1 ++ (m, v) ∷ []
+    (m : RegisteredLabelView) (v : Item) (x y : FieldTuple × List (RegisteredLabelView × Item)) → same_label labels.iss m ≡ false → same_label labels.sub m
+    ≡ false
+    → same_label labels.aud m ≡ false → same_label labels.exp m ≡ false
+    → same_label labels.nbf m ≡ false → same_label labels.iat m ≡ false → same_label labels.cti m ≡ false → x.0 ≡ y.0 → y.1 ≡ x.1 ++ (m, v) ∷ []
     → Adds names fields m v x y
 adds_rest m v x y h1 h2 h3 h4 h5 h6 h7 same rest =
     let other : is_core names fields.labels m ≡ false =
@@ -26,5 +27,5 @@ adds_rest m v x y h1 h2 h3 h4 h5 h6 h7 same rest =
     (turn labels.cti h7) in
     subst (λ b. IfThenElse b (fields.takes m v x.0 y.0 × (y.1 ≡ x.1)) ((x.0 ≡ y.0) × (y.1 ≡ x.1 ++ (m, v) ∷ []))) (sym other) (same, rest)
   where
-    turn : (l : RegisteredName) → same_name l m ≡ false → same_name m l ≡ false
+    turn : (l : RegisteredLabelView) → same_label l m ≡ false → same_label m l ≡ false
     turn l h = flip names names_laws l m h

@@ -9,7 +9,7 @@ use Rattle.coset_value.specs.Item.{Item, Pairs, no_pairs, pair, dict}
 use Rattle.coset_value.specs.Parts.{as_map}
 use Rattle.coset_value.specs.View.{value_item, value_pairs}
 use Rattle.coset_value.specs.declared.value.Value.{Value, Map, the_lemmas}
-use Rattle.coset_codec.specs.Answers.{Describes, IsOnlyItem}
+use Rattle.coset_codec.specs.Results.{Describes, IsOnlyItem}
 use Rattle.coset_codec.specs.Errors.{UnlessMemory}
 use Rattle.coset_codec.specs.MapLaws.{and_pairs-none, and_pairs-with}
 use Rattle.coset_codec.specs.Maps.{SomePair, and_pairs, are_distinct, with_pair}
@@ -17,13 +17,13 @@ use Rattle.coset_codec.specs.ShapeLaws.{some-none, some-one}
 use Rattle.coset_codec.specs.declared.error.CoseError.{CoseError}
 use Rattle.coset_codec.specs.declared.error.CoseError.TheVariants.{DuplicateMapKey}
 use Rattle.coset_label.specs.LabelLaws.{label_laws}
-use Rattle.coset_label.specs.Labels.{label, names}
-use Rattle.coset_label.specs.Names.{Name, RegisteredName}
+use Rattle.coset_label.specs.Labels.{label, cose_labels}
+use Rattle.coset_label.specs.LabelData.{LabelView, RegisteredLabelView}
 use Rattle.coset_label.specs.Views.{label_view, entry_view}
 use Rattle.coset_label.specs.declared.label.Label.{Label}
 use Rattle.coset_claims.specs.Claims.{ClaimsView, claim_name, claims}
 use Rattle.coset_claims.specs.ClaimsLaws.{claims_laws}
-use Rattle.coset_codec.specs.Answers.{IsRefused}
+use Rattle.coset_codec.specs.Results.{IsRefused}
 use Rattle.coset_claims.specs.Known.{AreKnown, IsName, IsNamed, IsNoLabel, KnownFaults, Splits, SplitsOff, Others, known}
 use Rattle.coset_codec.specs.Alone.{IsReadAlone}
 use Rattle.coset_codec.proofs.Refusals.{at_fault}
@@ -46,7 +46,7 @@ named_on all old new ns qs us k v g e n q = λ ms ws h.
     (g (pair k v ms) ws (subst (λ ps. Splits ps (pair k v ms) ws) (sym e) (inl (n, (ms, refl, h)))))
 
 pub other_on :
-    (all old new ns : Pairs) (us vs : Others) (k v : Item) (l : Name) → GoesOn all ns us old → old ≡ pair k v new → (IsName k → ⊥) → label.describes k l
+    (all old new ns : Pairs) (us vs : Others) (k v : Item) (l : LabelView) → GoesOn all ns us old → old ≡ pair k v new → (IsName k → ⊥) → label.describes k l
     → vs ≡ us ++ (l, v) ∷ []
     → GoesOn all ns vs new
 other_on all old new ns us vs k v l g e n d q = λ ms ws h.
@@ -79,7 +79,7 @@ pub entries_pushed :
 entries_pushed old new l y v e q = ap (map entry_view) e ∙ (map-append entry_view old ((l, y) ∷ []) ∙ ap (λ w. map entry_view old ++ (label_view l, w) ∷ []) q)
 
 -- Reading a key by itself decides whether it is a name.
-pub is_named : {T : Type 0} (view : T → RegisteredName) (k : Item) (r : Result T CoseError) (b : Bool) → IsReadAlone claim_name view k r → is_ok r ≡ b
+pub is_named : {T : Type 0} (view : T → RegisteredLabelView) (k : Item) (r : Result T CoseError) (b : Bool) → IsReadAlone claim_name view k r → is_ok r ≡ b
     → IsNamed b k
 is_named view k (Err f) b h e = subst (λ x. IsNamed x k) e (λ n. h.2 n.0 n.1)
 is_named view k (Ok x) b h e = subst (λ y. IsNamed y k) e (view x, h)
@@ -102,7 +102,7 @@ splits_unique (pair k v ps) ns ms us ws (inr p) (inl q) = absurd (p.0 q.0)
 splits_unique (pair k v ps) ns ms us ws (inr p) (inr q) =
     let r = splits_unique ps ns ms p.1.1 q.1.1 p.1.4 q.1.4 in
     let l : p.1.0 ≡ q.1.0 = label_laws.unique k p.1.0 q.1.0 p.1.2 q.1.2 in
-    (r.0, p.1.3 ∙ (ap₂ (λ (x : Name) (y : Others). (x, v) ∷ y) l r.1 ∙ sym q.1.3))
+    (r.0, p.1.3 ∙ (ap₂ (λ (x : LabelView) (y : Others). (x, v) ∷ y) l r.1 ∙ sym q.1.3))
 
 labels_sound : (ps ns : Pairs) (us : Others) (e : CoseError) → Splits ps ns us → SomePair (IsNoLabel e) ps → ⊥
 labels_sound no_pairs ns us e p h = h
@@ -116,7 +116,7 @@ pairs_sound ps x e k (inl h) = labels_sound ps k.0 x.1 e k.1 h
 pairs_sound ps x e k (inr h) =
     let same = splits_unique ps h.0 k.0 h.1 x.1 h.2 k.1 in
     elim h.3 [
-      | inl d ↦ true≢false (sym k.3 ∙ (ap (λ us. are_distinct names.same (keys_of us)) (sym same.1) ∙ d.0))
+      | inl d ↦ true≢false (sym k.3 ∙ (ap (λ us. are_distinct cose_labels.same (keys_of us)) (sym same.1) ∙ d.0))
       | inr f ↦ claims_laws.sound (dict k.0) x.0 e k.2 (subst (λ ns. claims.faults (dict ns) e) same.0 f)
     ]
 
@@ -143,12 +143,13 @@ module _ (s : List ℕ) (v : Item) (only : IsOnlyItem s v) (ps : Pairs) (is : as
   pub no_labels : (e : CoseError) → UnlessMemory e (λ f. SomePair (IsNoLabel f) ps) → IsRefused known s e
   no_labels e h = at_fault known known_sound s v e only (λ n. inr (ps, is, inl (h n)))
 
-  pub repeated : (ns : Pairs) (us : Others) → Splits ps ns us → are_distinct names.same (keys_of us) ≡ false → IsRefused known s DuplicateMapKey
+  pub repeated : (ns : Pairs) (us : Others) → Splits ps ns us → are_distinct cose_labels.same (keys_of us) ≡ false → IsRefused known s DuplicateMapKey
   repeated ns us p d = at_fault known known_sound s v DuplicateMapKey only (λ n. inr (ps, is, inr (ns, us, p, inl (d, refl))))
 
   pub no_claims : (ns : Pairs) (us : Others) → Splits ps ns us → (e : CoseError) → UnlessMemory e (claims.faults (dict ns)) → IsRefused known s e
   no_claims ns us p e h = at_fault known known_sound s v e only (λ n. inr (ps, is, inr (ns, us, p, inr (h n))))
 
-  pub all_known : (ns : Pairs) (us : Others) (c : ClaimsView) → Splits ps ns us → are_distinct names.same (keys_of us) ≡ true → claims.describes (dict ns) c
+  pub all_known : (ns : Pairs) (us : Others) (c : ClaimsView) → Splits ps ns us → are_distinct cose_labels.same (keys_of us) ≡ true
+      → claims.describes (dict ns) c
       → Describes known s (c, us)
   all_known ns us c p d h = (v, only.0, (ps, is, (ns, p, h, d)))

@@ -6,14 +6,14 @@ use Rattle.coset_value.specs.Item.{Items, no_items, item}
 use Rattle.coset_codec.specs.declared.error.CoseError.{CoseError}
 use Rattle.coset_codec.specs.declared.read.decoder.ArrayElements.{ArrayElements}
 use Rattle.coset_codec.specs.Errors.{UnlessMemory}
-use Rattle.coset_codec.specs.Inputs.{State, tree, lent, AreWithin, GoesBehind, length_left}
+use Rattle.coset_codec.specs.Inputs.{State, tree, borrowed, AreWithin, MovesForward, length_left}
 use Rattle.coset_codec.specs.Shape.{IsEnd, LastWrongLength}
 use Rattle.coset_claims.specs.SuppPub.{ReadsOther, other_place}
 
 -- If `t` is after `s`, so is every later position `u`.
-pub goes_further : (s t u : State) → GoesBehind s t → length_left u ≤ length_left t → GoesBehind s u
+pub goes_further : (s t u : State) → MovesForward s t → length_left u ≤ length_left t → MovesForward s u
 goes_further (tree w) t u g h = tt
-goes_further (lent s) t u g h = omega (arith, g, h)
+goes_further (borrowed s) t u g h = omega (arith, g, h)
 
 -- The items after the last element. If there are none, the number of elements isn't wrong.
 pub other_behind : (vs : Items) (t z : State) (m : ArrayElements) (r : Result (Option (Vec ℕ Global)) CoseError) → ReadsOther vs t z m r → (left : Items)

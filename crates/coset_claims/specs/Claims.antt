@@ -9,10 +9,10 @@ use Rattle.coset_iana.specs.Registry.{first_numbered}
 use Rattle.coset_iana.specs.WithPrivateRange.{is_private_use}
 use Rattle.coset_iana.specs.declared.claims.CwtClaimName.{CwtClaimName}
 use Rattle.coset_iana.specs.declared.claims.TheConstants.{CWT_CLAIM_NAMES}
-use Rattle.coset_codec.specs.Maps.{Names, Fields, field, no_field, optional, labelled_freely}
+use Rattle.coset_codec.specs.Maps.{MapLabels, Fields, field, no_field, optional, labelled_freely}
 use Rattle.coset_codec.specs.Shape.{Shape, mapped, bstr, tstr}
 use Rattle.coset_label.specs.Labels.{registered_or_private}
-use Rattle.coset_label.specs.Names.{RegisteredName, registered_cmp}
+use Rattle.coset_label.specs.LabelData.{RegisteredLabelView, registered_cmp}
 use Rattle.coset_label.specs.Views.{registered_or_private_view}
 use Rattle.coset_label.specs.declared.registered.RegisteredLabelWithPrivate.{RegisteredLabelWithPrivate}
 use Rattle.coset_claims.specs.ClaimLabels as labels
@@ -30,14 +30,14 @@ pub record ClaimsView : Type 0 where
   pub not_before : Option TimestampView
   pub issued_at : Option TimestampView
   pub cwt_id : Option (List ℕ)
-  pub rest : List (RegisteredName × Item)
+  pub rest : List (RegisteredLabelView × Item)
 
 -- The view of a claim's name.
-abbrev pub name_view : RegisteredLabelWithPrivate CwtClaimName → RegisteredName
+abbrev pub name_view : RegisteredLabelWithPrivate CwtClaimName → RegisteredLabelView
 name_view = registered_or_private_view claim_names.number
 
 -- The view of a claim in `rest`.
-abbrev pub entry_view : RegisteredLabelWithPrivate CwtClaimName × Value → RegisteredName × Item
+abbrev pub entry_view : RegisteredLabelWithPrivate CwtClaimName × Value → RegisteredLabelView × Item
 entry_view e = (name_view e.0, value_item e.1)
 
 abbrev pub claims_view : ClaimsSet → ClaimsView
@@ -68,16 +68,16 @@ no_claims = record {
 -- ---- shapes
 
 -- A claim's name: a number that IANA assigned, a number for private use, or a text.
-unfoldable pub claim_name : Shape RegisteredName
+unfoldable pub claim_name : Shape RegisteredLabelView
 claim_name = registered_or_private (λ i. is_some (first_numbered claim_names.number CWT_CLAIM_NAMES i)) is_private_use
 
 -- Returns true if the two names are the same.
-abbrev pub same_name : RegisteredName → RegisteredName → Bool
-same_name a b = is_eq (registered_cmp a b)
+abbrev pub same_label : RegisteredLabelView → RegisteredLabelView → Bool
+same_label a b = is_eq (registered_cmp a b)
 
 -- Claim names, which are the same if their numbers or texts are.
-abbrev pub names : Names RegisteredName
-names = record { shape = claim_name; same = same_name }
+abbrev pub names : MapLabels RegisteredLabelView
+names = record { shape = claim_name; same = same_label }
 
 -- The registered claims, in the order of their numbers.
 abbrev pub FieldTuple : Type 0
@@ -85,7 +85,7 @@ FieldTuple = Option (List ℕ) × (Option (List ℕ) × (Option (List ℕ)
     × (Option TimestampView × (Option TimestampView × (Option TimestampView × (Option (List ℕ) × Unit {0}))))))
 
 -- ? 1 => tstr, ? 2 => tstr, ? 3 => tstr, ? 4 => timestamp, ? 5 => timestamp, ? 6 => timestamp, ? 7 => bstr
-abbrev pub fields : Fields RegisteredName FieldTuple
+abbrev pub fields : Fields RegisteredLabelView FieldTuple
 fields =
     field names labels.iss (optional tstr)
     (field names labels.sub (optional tstr)
@@ -96,7 +96,7 @@ fields =
     (field names labels.cti (optional bstr)
     no_field))))))
 
-abbrev pub claims_of : FieldTuple × List (RegisteredName × Item) → ClaimsView
+abbrev pub claims_of : FieldTuple × List (RegisteredLabelView × Item) → ClaimsView
 claims_of p = record {
   issuer = p.0.0;
   subject = p.0.1.0;
@@ -108,7 +108,7 @@ claims_of p = record {
   rest = p.1;
 }
 
-abbrev pub parts_of : ClaimsView → FieldTuple × List (RegisteredName × Item)
+abbrev pub parts_of : ClaimsView → FieldTuple × List (RegisteredLabelView × Item)
 parts_of c = ((c.issuer, (c.subject, (c.audience, (c.expiration_time, (c.not_before, (c.issued_at, (c.cwt_id, tt))))))), c.rest)
 
 -- {fields, * claim_name => any}. Reading a claims set refuses repeated names; writing one doesn't check them.
@@ -118,8 +118,8 @@ claims = mapped claims_of parts_of (labelled_freely names fields)
 -- ---- the builder's calls
 
 -- The claims set with one more claim at the end of `rest`.
-abbrev pub and_claim : RegisteredName → Item → ClaimsView → ClaimsView
-and_claim l v c = record c { rest = c.rest ++ (l, v) ∷ [] }
+abbrev pub push_claim : RegisteredLabelView → Item → ClaimsView → ClaimsView
+push_claim l v c = record c { rest = c.rest ++ (l, v) ∷ [] }
 
 -- The number is none of 1 to 7, which are the claims with fields of their own.
 abbrev pub IsOtherClaim : ℤ → Type 0

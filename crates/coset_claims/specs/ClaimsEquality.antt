@@ -6,18 +6,18 @@ use Rattle.coset_value.specs.Item.{Item}
 use Rattle.coset_value.specs.Same.{item_eq}
 use Rattle.coset_value.specs.SameLaws.{item_eq-decides}
 use Rattle.coset_label.specs.NameOrder.{registered_cmp-apart}
-use Rattle.coset_label.specs.Names.{RegisteredName}
+use Rattle.coset_label.specs.LabelData.{RegisteredLabelView}
 use Rattle.coset_label.specs.Same.{IsEquality}
-use Rattle.coset_claims.specs.Claims.{ClaimsView, same_name}
+use Rattle.coset_claims.specs.Claims.{ClaimsView, same_label}
 
 -- The names are the same, and the items are.
-abbrev claim_eq : RegisteredName × Item → RegisteredName × Item → Bool
-claim_eq e f = same_name e.0 f.0 && item_eq e.1 f.1
+abbrev claim_eq : RegisteredLabelView × Item → RegisteredLabelView × Item → Bool
+claim_eq e f = same_label e.0 f.0 && item_eq e.1 f.1
 
 pub claim_eq-decides : IsEquality claim_eq
 claim_eq-decides e f =
     Decides-like (claim_eq e f) (λ p i. (p.0 i, p.1 i)) (λ p. (ap (λ x. x.0) p, ap (λ x. x.1) p))
-    (Decides-and (same_name e.0 f.0) (item_eq e.1 f.1) (registered_cmp-apart e.0 f.0) (item_eq-decides e.1 f.1))
+    (Decides-and (same_label e.0 f.0) (item_eq e.1 f.1) (registered_cmp-apart e.0 f.0) (item_eq-decides e.1 f.1))
 
 pub claims_decides : {p q r s t u v w : Bool} {m n : ClaimsView} → Decides p (m.issuer ≡ n.issuer) → Decides q (m.subject ≡ n.subject)
     → Decides r (m.audience ≡ n.audience) → Decides s (m.expiration_time ≡ n.expiration_time) → Decides t (m.not_before ≡ n.not_before)

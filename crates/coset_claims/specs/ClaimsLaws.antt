@@ -2,21 +2,21 @@
 use Rattle.std.proofs.Common.{◌≡◌, Some, false, refl, rules}
 use Rattle.std.specs.Prelude.{ℤ}
 use Rattle.coset_value.specs.Item.{integer}
-use Rattle.coset_codec.specs.MapLaws.{LawfulNames, LawfulFields, Flat, field_laws, labelled_laws, no_field_laws, optional_laws}
+use Rattle.coset_codec.specs.MapLaws.{LawfulMapLabels, LawfulFields, Flat, field_laws, labelled_laws, no_field_laws, optional_laws}
 use Rattle.coset_codec.specs.Shape.{bstr, tstr}
 use Rattle.coset_codec.specs.ShapeLaws.{Lawful, mapped_laws, bstr_laws, tstr_laws}
 use Rattle.coset_label.specs.LabelLaws.{registered_or_private_laws}
 use Rattle.coset_label.specs.NameOrder.{registered_cmp-apart}
-use Rattle.coset_label.specs.Names.{RegisteredName, assigned}
+use Rattle.coset_label.specs.LabelData.{RegisteredLabelView, assigned}
 use Rattle.coset_claims.specs.ClaimLabels as labels
 use Rattle.coset_claims.specs.Claims.{ClaimsView, FieldTuple, claim_name, claims, claims_of, fields, names, parts_of}
 use Rattle.coset_claims.specs.Timestamp.{timestamp, timestamp_laws}
 
-claim_name_laws : Lawful RegisteredName claim_name
+claim_name_laws : Lawful RegisteredLabelView claim_name
 unfolding claim_name
 claim_name_laws = registered_or_private_laws _ _
 
-pub names_laws : LawfulNames RegisteredName names
+pub names_laws : LawfulMapLabels RegisteredLabelView names
 names_laws = record {
   shape = claim_name_laws;
   same_is = λ l m h. (registered_cmp-apart l m).0 h;
@@ -24,38 +24,38 @@ names_laws = record {
 }
 
 -- The name of a registered claim is an integer.
-flat : (i : ℤ) → claim_name.image (assigned i) ≡ Some (integer i) → claim_name.describes (integer i) (assigned i) → Flat RegisteredName names (assigned i)
+flat : (i : ℤ) → claim_name.image (assigned i) ≡ Some (integer i) → claim_name.describes (integer i) (assigned i) → Flat RegisteredLabelView names (assigned i)
 flat i e d = record { key = integer i; is_image = e; described = d; is_flat = refl }
 
-flat_iss : Flat RegisteredName names labels.iss
+flat_iss : Flat RegisteredLabelView names labels.iss
 unfolding claim_name
 flat_iss = flat _ refl (refl, (refl, (refl, search rules)))
 
-flat_sub : Flat RegisteredName names labels.sub
+flat_sub : Flat RegisteredLabelView names labels.sub
 unfolding claim_name
 flat_sub = flat _ refl (refl, (refl, (refl, search rules)))
 
-flat_aud : Flat RegisteredName names labels.aud
+flat_aud : Flat RegisteredLabelView names labels.aud
 unfolding claim_name
 flat_aud = flat _ refl (refl, (refl, (refl, search rules)))
 
-flat_exp : Flat RegisteredName names labels.exp
+flat_exp : Flat RegisteredLabelView names labels.exp
 unfolding claim_name
 flat_exp = flat _ refl (refl, (refl, (refl, search rules)))
 
-flat_nbf : Flat RegisteredName names labels.nbf
+flat_nbf : Flat RegisteredLabelView names labels.nbf
 unfolding claim_name
 flat_nbf = flat _ refl (refl, (refl, (refl, search rules)))
 
-flat_iat : Flat RegisteredName names labels.iat
+flat_iat : Flat RegisteredLabelView names labels.iat
 unfolding claim_name
 flat_iat = flat _ refl (refl, (refl, (refl, search rules)))
 
-flat_cti : Flat RegisteredName names labels.cti
+flat_cti : Flat RegisteredLabelView names labels.cti
 unfolding claim_name
 flat_cti = flat _ refl (refl, (refl, (refl, search rules)))
 
-pub fields_laws : LawfulFields RegisteredName FieldTuple names fields
+pub fields_laws : LawfulFields RegisteredLabelView FieldTuple names fields
 fields_laws =
     field_laws names names_laws labels.iss flat_iss _ (optional_laws tstr tstr_laws) _
     (field_laws names names_laws labels.sub flat_sub _ (optional_laws tstr tstr_laws) _

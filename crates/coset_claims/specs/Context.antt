@@ -5,7 +5,7 @@ use Rattle.coset_iana.specs.Algorithm as algorithms
 use Rattle.coset_iana.specs.declared.algorithms.Algorithm.TheVariants.{Reserved}
 use Rattle.coset_codec.specs.Shape.{Shape, mapped, both, bstr, array_of, ◌then◌, any_number}
 use Rattle.coset_codec.specs.ShapeLaws.{Lawful, mapped_laws, bstr_laws, array_of_laws, then_laws, any_number_laws}
-use Rattle.coset_label.specs.Names.{RegisteredName, assigned}
+use Rattle.coset_label.specs.LabelData.{RegisteredLabelView, assigned}
 use Rattle.coset_label.specs.Labels.{algorithm}
 use Rattle.coset_label.specs.LabelLaws.{algorithm_laws}
 use Rattle.coset_label.specs.Views.{algorithm_view}
@@ -15,7 +15,7 @@ use Rattle.coset_claims.specs.declared.context.CoseKdfContext.{CoseKdfContext}
 
 -- The view of a context.
 pub record ContextView : Type 0 where
-  pub algorithm_id : RegisteredName
+  pub algorithm_id : RegisteredLabelView
   pub party_u_info : PartyView
   pub party_v_info : PartyView
   pub supp_pub_info : SuppPubView
@@ -41,7 +41,7 @@ empty_context = record {
 }
 
 abbrev ContextElements : Type 0
-ContextElements = RegisteredName × (PartyView × (PartyView × (SuppPubView × List (List ℕ))))
+ContextElements = RegisteredLabelView × (PartyView × (PartyView × (SuppPubView × List (List ℕ))))
 
 abbrev pub context_of : ContextElements → ContextView
 context_of p = record { algorithm_id = p.0; party_u_info = p.1.0; party_v_info = p.1.1.0; supp_pub_info = p.1.1.1.0; supp_priv_info = p.1.1.1.1 }
@@ -60,8 +60,8 @@ context_laws =
     (then_laws _ _ party_laws (then_laws _ _ supp_pub_laws (any_number_laws bstr bstr_laws))))))
 
 -- The context with one more byte string of private information, after the others.
-abbrev pub and_supp_priv_info : List ℕ → ContextView → ContextView
-and_supp_priv_info b c = record c { supp_priv_info = c.supp_priv_info ++ b ∷ [] }
+abbrev pub push_supp_priv_info : List ℕ → ContextView → ContextView
+push_supp_priv_info b c = record c { supp_priv_info = c.supp_priv_info ++ b ∷ [] }
 
 -- ---- writing
 

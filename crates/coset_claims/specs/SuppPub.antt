@@ -5,7 +5,7 @@ use Rattle.std.proofs.Common.{true≢false}
 use Rattle.coset_value.specs.Item.{Items, no_items, item}
 use Rattle.coset_codec.specs.declared.error.CoseError.{CoseError}
 use Rattle.coset_codec.specs.declared.read.decoder.ArrayElements.{ArrayElements}
-use Rattle.coset_codec.specs.Answers.{Reads}
+use Rattle.coset_codec.specs.Results.{Reads}
 use Rattle.coset_codec.specs.Inputs.{State, AreWithin}
 use Rattle.coset_codec.specs.Shape.{Shape, Elements, mapped, uint, bstr, present, optional_last, array_of, ◌then◌}
 use Rattle.coset_codec.specs.ShapeLaws.{Lawful, mapped_laws, uint_laws, bstr_laws, present_laws, optional_last_laws, array_of_laws, then_laws}

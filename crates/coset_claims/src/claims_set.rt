@@ -9,9 +9,9 @@ ghost use Rattle.coset_codec.specs.declared.error.CoseError.TheVariants.{OutOfMe
 ghost use Rattle.coset_codec.specs.Errors.{UnlessMemory};
 ghost use Rattle.coset_codec.specs.Inputs.{ReadsAt, length_left, state};
 ghost use Rattle.coset_codec.specs.Maps.{Adds, Refuses, are_distinct};
-ghost use Rattle.coset_label.specs.Names.{assigned, text_name, private_use};
+ghost use Rattle.coset_label.specs.LabelData.{assigned, text_name, private_use};
 ghost use Rattle.coset_claims.specs.Timestamp.{timestamp_view};
-ghost use Rattle.coset_claims.specs.Claims.{IsOtherClaim, and_claim, claim_name, claims, claims_view, fields, name_view, names, no_claims, parts_of, same_name};
+ghost use Rattle.coset_claims.specs.Claims.{IsOtherClaim, push_claim, claim_name, claims, claims_view, fields, name_view, names, no_claims, parts_of, same_label};
 
 use crate::timestamp::Timestamp;
 use coset_cbor::value::Value;
@@ -91,7 +91,7 @@ fn size_hint_of<T: Encode>(value: &Option<T>) -> usize {
 
 /// Returns true if `name` is the name of `claim`.
 fn is_claim(name: &ClaimName, claim: CwtClaimName) -> bool
-    ensures { result ≡ same_name (assigned (claim_names.number claim)) (name_view name.now) }
+    ensures { result ≡ same_label (assigned (claim_names.number claim)) (name_view name.now) }
 {
     match name {
         RegisteredLabelWithPrivate::Assigned(found) => found.to_i64() == claim.to_i64(),
@@ -153,15 +153,15 @@ fn set_claim(
 
 /// A claims set is read claim by claim.
 impl MapVisitor for ClaimsSet {
-    ghost use Rattle.coset_label.specs.Names.{RegisteredName};
+    ghost use Rattle.coset_label.specs.LabelData.{RegisteredLabelView};
     ghost use Rattle.coset_claims.specs.Claims.{FieldTuple};
     ghost use Rattle.coset_claims.specs.ClaimsLaws.{fields_laws, names_laws};
 
     type Label = ClaimName;
 
-    ghost Name = { RegisteredName };
+    ghost LabelView = { RegisteredLabelView };
 
-    ghost Got = { FieldTuple };
+    ghost FieldValues = { FieldTuple };
 
     ghost names = { names };
 
@@ -302,7 +302,7 @@ impl ClaimsSet {
     /// The `rest` of a claims set that was read contains no claim with a field of its own, 1 to 7
     /// (RFC 8392, section 3.1).
     pub fn get(&self, name: &ClaimName) -> Option<&Value>
-        ensures { option_map (λ v. value_item v.now) result ≡ lookup (same_name
+        ensures { option_map (λ v. value_item v.now) result ≡ lookup (same_label
             (name_view name.now))
             (claims_view self.now).rest }
     {
@@ -464,7 +464,7 @@ impl ClaimsSetBuilder {
     pub fn claim(mut self, name: CwtClaimName, value: Value) -> Result<ClaimsSetBuilder>
         requires { IsOtherClaim (claim_names.number name) }
         ensures ok { IfOk result (λ b. claims_view b
-            ≡ and_claim (assigned (claim_names.number name)) (value_item value)
+            ≡ push_claim (assigned (claim_names.number name)) (value_item value)
             (claims_view self)) }
         ensures memory { IfErr result (λ e. e ≡ OutOfMemory) }
     {
@@ -483,7 +483,7 @@ impl ClaimsSetBuilder {
     /// `OutOfMemory` if an allocation fails.
     pub fn text_claim(mut self, name: String, value: Value) -> Result<ClaimsSetBuilder>
         ensures ok { IfOk result (λ b. claims_view b
-            ≡ and_claim (text_name (string_bytes name)) (value_item value) (claims_view self)) }
+            ≡ push_claim (text_name (string_bytes name)) (value_item value) (claims_view self)) }
         ensures memory { IfErr result (λ e. e ≡ OutOfMemory) }
     {
         self.0.rest.push((ClaimName::Text(name), value))?;
@@ -501,7 +501,7 @@ impl ClaimsSetBuilder {
         value: Value,
     ) -> Result<ClaimsSetBuilder>
         ensures ok { IfOk result (λ b. claims_view b
-            ≡ and_claim (text_name name.now) (value_item value) (claims_view self)) }
+            ≡ push_claim (text_name name.now) (value_item value) (claims_view self)) }
         ensures memory { IfErr result (λ e. e ≡ OutOfMemory) }
     {
         self.text_claim(String::from_str(alloc, name)?, value)
@@ -517,7 +517,7 @@ impl ClaimsSetBuilder {
     pub fn private_claim(mut self, id: i64, value: Value) -> Result<ClaimsSetBuilder>
         requires { IsTrue (is_private_use id) }
         ensures ok { IfOk result (λ b. claims_view b
-            ≡ and_claim (private_use id) (value_item value) (claims_view self)) }
+            ≡ push_claim (private_use id) (value_item value) (claims_view self)) }
         ensures memory { IfErr result (λ e. e ≡ OutOfMemory) }
     {
         prove!(CwtClaimName::is_private(id));

@@ -5,16 +5,16 @@ ghost use Rattle.coset_value.specs.Item.{Items};
 ghost use Rattle.coset_cbor.specs.Least.{Extends};
 ghost use Rattle.coset_iana.specs.Algorithm as algorithms;
 ghost use Rattle.coset_codec.specs.declared.error.CoseError.TheVariants.{OutOfMemory};
-ghost use Rattle.coset_codec.specs.Answers.{Reads};
+ghost use Rattle.coset_codec.specs.Results.{Reads};
 ghost use Rattle.coset_codec.specs.Encoding.{AppendsElements, Encodes};
 ghost use Rattle.coset_codec.specs.Inputs.{AreWithin, ReadsAt, State, length_left, state};
 ghost use Rattle.coset_codec.specs.Sources.{source_item};
 ghost use Rattle.coset_codec.specs.Lists.{ReadsEach};
 ghost use Rattle.coset_codec.specs.Shape.{bstr, images};
-ghost use Rattle.coset_label.specs.Names.{assigned};
+ghost use Rattle.coset_label.specs.LabelData.{assigned};
 ghost use Rattle.coset_label.specs.Labels.{algorithm};
 ghost use Rattle.coset_label.specs.Views.{algorithm_view};
-ghost use Rattle.coset_claims.specs.Context.{and_supp_priv_info, context, context_view, empty_context, four_elements_and};
+ghost use Rattle.coset_claims.specs.Context.{push_supp_priv_info, context, context_view, empty_context, four_elements_and};
 ghost use Rattle.coset_claims.specs.Party.{party_view};
 ghost use Rattle.coset_claims.specs.SuppPub.{supp_pub_view};
 
@@ -117,7 +117,7 @@ fn read_algorithm(alloc: Global, input: &mut Decoder<'_>) -> Result<Algorithm>
 }
 
 /// The expected item, for the error of too few elements.
-const FOUR: &str = "array with at least 4 items";
+const EXPECTED_ARRAY: &str = "array with at least 4 items";
 
 impl Codec for CoseKdfContext {
     ghost use Rattle.coset_codec.specs.EqDecides.{vec_decides, lists_decides};
@@ -142,13 +142,13 @@ impl Codec for CoseKdfContext {
     /// Otherwise it is the fault of the last element that has one.
     fn read(alloc: Global, input: &mut Decoder<'_>) -> Result<CoseKdfContext> {
         let mut elements = input.enter_array("array")?;
-        elements.next_required(input, FOUR)?;
+        elements.next_required(input, EXPECTED_ARRAY)?;
         let algorithm_id = read_algorithm(alloc, input);
-        elements.next_required(input, FOUR)?;
+        elements.next_required(input, EXPECTED_ARRAY)?;
         let party_u_info = PartyInfo::read(alloc, input);
-        elements.next_required(input, FOUR)?;
+        elements.next_required(input, EXPECTED_ARRAY)?;
         let party_v_info = PartyInfo::read(alloc, input);
-        elements.next_required(input, FOUR)?;
+        elements.next_required(input, EXPECTED_ARRAY)?;
         let supp_pub_info = SuppPubInfo::read(alloc, input);
         let supp_priv_info = read_byte_strings(alloc, &mut elements, input);
         elements.finish(input);
@@ -331,7 +331,7 @@ impl CoseKdfContextBuilder {
     /// `OutOfMemory` if an allocation fails.
     pub fn add_supp_priv_info(mut self, info: Vec<u8>) -> Result<CoseKdfContextBuilder>
         ensures ok { IfOk result (λ b. context_view b
-            ≡ and_supp_priv_info info.items (context_view self)) }
+            ≡ push_supp_priv_info info.items (context_view self)) }
         ensures memory { IfErr result (λ e. e ≡ OutOfMemory) }
     {
         self.0.supp_priv_info.push(info)?;

@@ -6,7 +6,7 @@
 ghost use Rattle.std.specs.Prelude.{◌≡◌, IfOk, IfErr};
 ghost use Rattle.coset_cbor.specs.Elements.{pairs_left};
 ghost use Rattle.coset_cbor.specs.Pulls.{pull_item};
-ghost use Rattle.coset_codec.specs.Answers.{Describes, IsRefused};
+ghost use Rattle.coset_codec.specs.Results.{Describes, IsRefused};
 ghost use Rattle.coset_codec.specs.declared.error.CoseError.TheVariants.{OutOfMemory};
 ghost use Rattle.coset_claims.specs.Known.{IsNamed, SplitsOff, known, known_view, parts_view};
 

@@ -48,7 +48,7 @@ impl SuppPubInfo {
 }
 
 /// The expected item, for the error of another number of elements.
-const TWO_OR_THREE: &str = "array with 2 or 3 items";
+const EXPECTED_ARRAY: &str = "array with 2 or 3 items";
 
 /// Reads the last element, if there is one.
 fn read_other(
@@ -84,12 +84,12 @@ impl Codec for SuppPubInfo {
     /// the fault of the last element that has one.
     fn read(alloc: Global, input: &mut Decoder<'_>) -> Result<SuppPubInfo> {
         let mut elements = input.enter_array("array")?;
-        elements.next_required(input, TWO_OR_THREE)?;
+        elements.next_required(input, EXPECTED_ARRAY)?;
         let key_data_length = input.uint("int");
-        elements.next_required(input, TWO_OR_THREE)?;
+        elements.next_required(input, EXPECTED_ARRAY)?;
         let protected = ProtectedBstr::read(alloc, input);
         let other = read_other(alloc, &mut elements, input);
-        elements.end(input, TWO_OR_THREE)?;
+        elements.end(input, EXPECTED_ARRAY)?;
         let other = other?;
         let ProtectedBstr(protected) = protected?;
         Ok(SuppPubInfo {

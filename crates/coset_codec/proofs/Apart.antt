@@ -8,8 +8,8 @@ use Rattle.coset_cbor.specs.Shortest.{IsShortest}
 use Rattle.coset_cbor.proofs.Shortest.{definite_is_encoding}
 use Rattle.coset_codec.specs.Shape.{Shape, tagged}
 use Rattle.coset_codec.specs.ShapeLaws.{Again, Lawful, some-one, tagged_laws}
-use Rattle.coset_codec.specs.Answers.{Describes}
-use Rattle.coset_codec.specs.ReadAgain.{IsWritten, EncodesApart, ImagesApart, ReadsAgain, StaysAsWritten, again_reads}
+use Rattle.coset_codec.specs.Results.{Describes}
+use Rattle.coset_codec.specs.ReadAgain.{IsWritten, EncodesInjectively, ImagesInjectively, ReadsAgain, StaysAsWritten, again_reads}
 use Rattle.coset_codec.proofs.Whole.{OneItem}
 
 module _ {A : Type 0} (s : Shape A) (l : Lawful A s) where
@@ -20,7 +20,7 @@ module _ {A : Type 0} (s : Shape A) (l : Lawful A s) where
       let b : Again A s w y = l.again w y q in
       l.unique a.image x y a.described (subst (λ u. s.describes u y) (some-one b.is_image (sym e ∙ a.is_image)) b.described)
 
-  pub images_apart : ImagesApart s
+  pub images_apart : ImagesInjectively s
   images_apart v w x y p q = (λ e. one_image v w x y p q e, λ e. ap s.image e)
 
   -- The item that x is written as represents x.
@@ -35,7 +35,7 @@ module _ {A : Type 0} (s : Shape A) (l : Lawful A s) where
 
   pub encodes_apart :
       OneItem → ((v : Item) (b : List ℕ) → IsShortest b v → IsInRange v) → ((v : Item) (b : List ℕ) → IsInRange v → IsShortest b v → b ≡ least_encoding v)
-      → EncodesApart s
+      → EncodesInjectively s
   encodes_apart one in_range least v w c d x y p q m n = (
     λ e.
         let same : n.0 ≡ m.0 = (one n.0 m.0 d c [] [] (encodes d y n) (encodes c x m) (ap (λ b. b ++ []) (sym e))).0 in
@@ -46,7 +46,7 @@ module _ {A : Type 0} (s : Shape A) (l : Lawful A s) where
   )
 
   -- The bytes that x is written as are read as x, and x is written as the same bytes again.
-  pub stays_as_written : OneItem → EncodesApart s → StaysAsWritten s
+  pub stays_as_written : OneItem → EncodesInjectively s → StaysAsWritten s
   stays_as_written one apart v b c x y p m q n =
       let item : m.0 ≡ q.0 = (one m.0 q.0 b b [] [] (encodes b x m) q.1.0 refl).0 in
       let same : y ≡ x = l.unique q.0 y x q.2 (subst (λ u. s.describes u x) item (written_describes v b x p m)) in

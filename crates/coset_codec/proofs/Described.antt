@@ -2,7 +2,7 @@
 use Rattle.std.proofs.Common.{◌≡◌, ℕ, List, ap, subst}
 use Rattle.coset_value.specs.Item.{Item}
 use Rattle.coset_cbor.specs.Grammar.{IsItem}
-use Rattle.coset_codec.specs.Answers.{Describes}
+use Rattle.coset_codec.specs.Results.{Describes}
 use Rattle.coset_codec.specs.Shape.{Shape, tagged}
 use Rattle.coset_codec.specs.ShapeLaws.{some-one}
 use Rattle.coset_codec.proofs.Whole.{OneItem, one_of}

@@ -9,10 +9,10 @@ use Rattle.coset_value.specs.Range.{ArePairsInRange}
 use Rattle.coset_cbor.specs.Least.{least_head, least_encoding, least_pair_encodings}
 use Rattle.coset_codec.specs.declared.error.CoseError.{CoseError}
 use Rattle.coset_codec.specs.Encoding.{AppendsItem, AppendsImage, Encodes, HasNoImage, AppendsPairs, AppendsAll, AppendsField}
-use Rattle.coset_codec.specs.Maps.{Names, field_shape_image, named_image, and_pairs, put_field, entries_image, is_nonempty}
+use Rattle.coset_codec.specs.Maps.{MapLabels, field_shape_image, labelled_image, and_pairs, put_field, entries_image, is_nonempty}
 use Rattle.coset_codec.specs.RestLaws.{as_view}
 use Rattle.coset_codec.specs.Shape.{both, present_image}
-use Rattle.coset_codec.proofs.Pushing.{named_image-append, named_image-none}
+use Rattle.coset_codec.proofs.Pushing.{labelled_image-append, labelled_image-none}
 
 -- ---- pairs after other pairs
 
@@ -62,7 +62,7 @@ pub record AppendsFields (N : Type 0) (f : N → Option Item) (o : Option (List 
   pub entries : List (N × Item)
   pub image : o ≡ Some entries
   pub count : length entries ≡ length (filter (λ b. b) there)
-  pub appended : AppendsAll (named_image f entries) old new
+  pub appended : AppendsAll (labelled_image f entries) old new
 
 pub no-field : {N : Type 0} (f : N → Option Item) (s : List ℕ) → AppendsFields N f (Some []) [] s s
 no-field f s = record { entries = []; image = refl; count = refl; appended = (no_pairs, refl, nothing-added s) }
@@ -120,14 +120,14 @@ listed-put {N} f g xs b {l} {os} {there} {old} {new} told label put more =
 -- The pairs of the rest, as contracts see their labels.
 pub rest-view :
     {L V N : Type 0} (see : L → N) (value_item : V → Item) (f : N → Option Item) (xs : List (L × V))
-    → named_image (λ l. f (see l)) (map (λ x. (x.0, value_item x.1)) xs) ≡ named_image f (map (λ x. (see x.0, value_item x.1)) xs)
+    → labelled_image (λ l. f (see l)) (map (λ x. (x.0, value_item x.1)) xs) ≡ labelled_image f (map (λ x. (see x.0, value_item x.1)) xs)
 rest-view see value_item f [] = refl
 rest-view see value_item f (x ∷ xs) = ap (λ o. both (λ k ps. pair k (value_item x.1) ps) (f (see x.0)) o) (rest-view see value_item f xs)
 
 -- There are as many pairs as labels.
-named-count : {N : Type 0} (f : N → Option Item) (es : List (N × Item)) (ps : Pairs) → named_image f es ≡ Some ps → pairs_count ps ≡ length es
+named-count : {N : Type 0} (f : N → Option Item) (es : List (N × Item)) (ps : Pairs) → labelled_image f es ≡ Some ps → pairs_count ps ≡ length es
 named-count f [] ps e = let none : no_pairs ≡ ps = cc in ap pairs_count (sym none)
-named-count f (x ∷ es) ps e = by (f x.0) (named_image f es) (named-count f es) e
+named-count f (x ∷ es) ps e = by (f x.0) (labelled_image f es) (named-count f es) e
   where
     by : (k : Option Item) (o : Option Pairs) → ((qs : Pairs) → o ≡ Some qs → pairs_count qs ≡ length es) → both (λ j qs. pair j x.1 qs) k o ≡ Some ps
         → pairs_count ps ≡ suc (length es)
@@ -136,39 +136,39 @@ named-count f (x ∷ es) ps e = by (f x.0) (named_image f es) (named-count f es)
     by None o more h = absurd (cc)
 
 -- There is no map if a label of the rest has no item.
-unwritten : {N : Type 0} (n : Names N) (b : Bool) (rest : List (N × Item)) (o : Option (List (N × Item))) → named_image n.shape.image rest ≡ None
+unwritten : {N : Type 0} (n : MapLabels N) (b : Bool) (rest : List (N × Item)) (o : Option (List (N × Item))) → labelled_image n.shape.image rest ≡ None
     → entries_image n b rest o ≡ None
 unwritten n true rest None e = refl
 unwritten n false rest o e = refl
 unwritten {N} n true rest (Some es) e = rw (none es) refl
   where
-    none : (es : List (N × Item)) → named_image n.shape.image (es ++ rest) ≡ None
+    none : (es : List (N × Item)) → labelled_image n.shape.image (es ++ rest) ≡ None
     none [] = e
     none (x ∷ es) = last (n.shape.image x.0) (none es)
       where
-        last : (k : Option Item) → named_image n.shape.image (es ++ rest) ≡ None
-            → both (λ j ps. pair j x.1 ps) k (named_image n.shape.image (es ++ rest)) ≡ None
+        last : (k : Option Item) → labelled_image n.shape.image (es ++ rest) ≡ None
+            → both (λ j ps. pair j x.1 ps) k (labelled_image n.shape.image (es ++ rest)) ≡ None
         last (Some k) h = rw h refl
         last None h = refl
 
 -- A map is written as its head, the present fields and the rest, if it may be written. The head counts the fields and
 -- the rest.
 pub map-written :
-    {N L V T : Type 0} (n : Names N) (see : L → N) (value_item : V → Item) (xs : List (L × V)) {o : Option (List (N × Item))} (b : Bool) (there : List Bool)
+    {N L V T : Type 0} (n : MapLabels N) (see : L → N) (value_item : V → Item) (xs : List (L × V)) {o : Option (List (N × Item))} (b : Bool) (there : List Bool)
     {head mid : List ℕ} (old new : List ℕ) (r : Result T CoseError) → b ≡ true
     → length (filter (λ b. b) there) + length xs < 2 ^ 64
     → head ≡ old ++ least_head 5 (length (filter (λ b. b) there) + length xs)
     → AppendsFields N n.shape.image o there head mid
-    → OnOk r (AppendsAll (named_image (λ l. n.shape.image (see l)) (map (λ x. (x.0, value_item x.1)) xs)) mid new)
-    → IfErr r (HasNoImage (named_image (λ l. n.shape.image (see l)) (map (λ x. (x.0, value_item x.1)) xs)))
+    → OnOk r (AppendsAll (labelled_image (λ l. n.shape.image (see l)) (map (λ x. (x.0, value_item x.1)) xs)) mid new)
+    → IfErr r (HasNoImage (labelled_image (λ l. n.shape.image (see l)) (map (λ x. (x.0, value_item x.1)) xs)))
     → Encodes (entries_image n b (map (as_view see value_item) xs) o) old new r
 map-written n see value_item xs {o} b there old new (Ok x) may small first fields (qs, d, q) refused =
     let es = fields.entries in
     let ps = fields.appended.0 in
     let rest = map (as_view see value_item) xs in
     let all = then-added ps qs fields.appended.2 q in
-    let image : named_image n.shape.image (es ++ rest) ≡ Some (and_pairs ps qs) =
-    named_image-append n.shape.image es rest ps qs fields.appended.1 (sym (rest-view see value_item n.shape.image xs) ∙ d) in
+    let image : labelled_image n.shape.image (es ++ rest) ≡ Some (and_pairs ps qs) =
+    labelled_image-append n.shape.image es rest ps qs fields.appended.1 (sym (rest-view see value_item n.shape.image xs) ∙ d) in
     let count : pairs_count (and_pairs ps qs) ≡ length (filter (λ b. b) there) + length xs = named-count n.shape.image (es ++ rest) (and_pairs ps qs) image
     ∙ (length-append es rest ∙ (λ i. fields.count i + length-map xs (as_view see value_item) i)) in (
       dict (and_pairs ps qs),
@@ -216,11 +216,11 @@ taken see xs i x lt is = ap (map see) (take_more xs i x lt) ∙ (map_push see (t
 
 pub row-added :
     {L V : Type 0} (f : L → Option Item) (see : L × V → L × Item) (xs : List (L × V)) (i : ℕ) (x : L × V) {old mid new : List ℕ} → i < length xs
-    → x ≡ get_or xs i x → AppendsAll (named_image f (map see (take i xs))) old mid
-    → AppendsAll (named_image f (see x ∷ [])) mid new → AppendsAll (named_image f (map see (take (i + 1) xs))) old new
+    → x ≡ get_or xs i x → AppendsAll (labelled_image f (map see (take i xs))) old mid
+    → AppendsAll (labelled_image f (see x ∷ [])) mid new → AppendsAll (labelled_image f (map see (take (i + 1) xs))) old new
 row-added f see xs i x lt is p q = (
   and_pairs p.0 q.0,
-  ap (named_image f) (taken see xs i x lt is) ∙ named_image-append f (map see (take i xs)) (see x ∷ []) p.0 q.0 p.1 q.1,
+  ap (labelled_image f) (taken see xs i x lt is) ∙ labelled_image-append f (map see (take i xs)) (see x ∷ []) p.0 q.0 p.1 q.1,
   then-added p.0 q.0 p.2 q.2,
 )
 
@@ -235,10 +235,10 @@ around see xs i x lt is =
 
 pub row-none :
     {L V : Type 0} (f : L → Option Item) (value_item : V → Item) (xs : List (L × V)) (i : ℕ) (x : L × V) → i < length xs → x ≡ get_or xs i x → f x.0 ≡ None
-    → named_image f (map (λ e. (e.0, value_item e.1)) xs) ≡ None
+    → labelled_image f (map (λ e. (e.0, value_item e.1)) xs) ≡ None
 row-none f value_item xs i x lt is e =
-    ap (named_image f) (around (λ e. (e.0, value_item e.1)) xs i x lt is)
-    ∙ named_image-none f (map (λ e. (e.0, value_item e.1)) (take i xs)) (map (λ e. (e.0, value_item e.1)) (drop (i + 1) xs)) x.0 (value_item x.1) e
+    ap (labelled_image f) (around (λ e. (e.0, value_item e.1)) xs i x lt is)
+    ∙ labelled_image-none f (map (λ e. (e.0, value_item e.1)) (take i xs)) (map (λ e. (e.0, value_item e.1)) (drop (i + 1) xs)) x.0 (value_item x.1) e
 
 pub label-added : {o : Option Item} {v : Item} {old mid new : List ℕ} → AppendsImage o old mid → AppendsItem mid new v
     → AppendsAll (both (λ k ps. pair k v ps) o (Some no_pairs)) old new

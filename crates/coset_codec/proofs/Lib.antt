@@ -4,7 +4,7 @@ pub mod Refusals
 pub mod Lists
 pub mod Alone
 pub mod Walking
-pub mod Gathering
+pub mod Visiting
 pub mod Pushing
 pub mod Distinct
 pub mod Encoding

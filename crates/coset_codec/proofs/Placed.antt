@@ -4,7 +4,7 @@ use Rattle.std.specs.Prelude.{IsErrAnd}
 use Rattle.coset_value.specs.Item.{Item, Items, item}
 use Rattle.coset_codec.specs.declared.error.CoseError.{CoseError}
 use Rattle.coset_codec.specs.declared.read.decoder.ArrayElements.{ArrayElements}
-use Rattle.coset_codec.specs.Answers.{Reads}
+use Rattle.coset_codec.specs.Results.{Reads}
 use Rattle.coset_codec.specs.Errors.{UnlessMemory}
 use Rattle.coset_codec.specs.Inputs.{State, ItemAt, AreWithin, ReadsAt}
 use Rattle.coset_codec.specs.Shape.{Shape}

@@ -3,7 +3,7 @@ use Rattle.std.proofs.Common.{◌≡◌, ◌⊎◌, ◌<◌, ℕ, List, [], ◌+
 use Rattle.std.proofs.Common.{append-nil, arith}
 use Rattle.std.proofs.Common.{take-append-drop, length-take-le}
 use Rattle.coset_value.specs.Item.{Item}
-use Rattle.coset_cbor.specs.Fronts.{AreBytes, HasNoItem}
+use Rattle.coset_cbor.specs.Prefixes.{AreBytes, HasNoItem}
 use Rattle.coset_cbor.specs.Grammar.{IsItem}
 use Rattle.coset_cbor.specs.ReadErrors.{IsMemory, FaultIn}
 use Rattle.coset_cbor.specs.declared.de.EndOfFile.{EndOfFile}
@@ -12,7 +12,7 @@ use Rattle.coset_codec.specs.declared.error.CoseError.{CoseError}
 use Rattle.coset_codec.specs.declared.error.CoseError.TheVariants.{DecodeFailed, DuplicateMapKey, EncodeFailed, ExtraneousData, OutOfRangeIntegerValue}
 use Rattle.coset_codec.specs.declared.error.CoseError.TheVariants.{UnexpectedItem, UnregisteredIanaValue, UnregisteredIanaNonPrivateValue, OutOfMemory}
 use Rattle.coset_codec.specs.Shape.{Shape, tagged}
-use Rattle.coset_codec.specs.Answers.{AllocatesForItems, DescribesNothing, IsOnlyItem, IsRefused, IsWholeFault, Reads, ReadsSlice, RefusesItem, SliceFaults}
+use Rattle.coset_codec.specs.Results.{AllocatesForItems, DescribesNothing, IsOnlyItem, IsRefused, IsWholeFault, Reads, ReadsSlice, RefusesItem, SliceFaults}
 use Rattle.coset_codec.specs.Errors.{UnlessMemory}
 use Rattle.coset_codec.specs.Refusals.{IsNoTag, NamesByteFault, NamesExtraneous, NamesUnexpected, NamesWholeFault}
 use Rattle.coset_codec.proofs.Whole.{OneItem, one_of}

@@ -5,11 +5,11 @@ use Rattle.coset_value.specs.Item.{Item, Pairs, no_pairs, pair}
 use Rattle.coset_value.specs.Parts.{as_map}
 use Rattle.coset_codec.specs.declared.error.CoseError.{CoseError}
 use Rattle.coset_codec.specs.declared.error.CoseError.TheVariants.{DuplicateMapKey}
-use Rattle.coset_codec.specs.Maps.{Names, Fields, Entries, SoFar, Walks, TakesKey, RefusesKey, MapFaults, Twice, and_pairs, with_pair, are_distinct, labelled}
-use Rattle.coset_codec.specs.MapLaws.{LawfulNames, LawfulFields, so_far_none, so_far_more, so_far_all, so_far_twice, refuses_fault, key_fault, distinct_tested}
+use Rattle.coset_codec.specs.Maps.{MapLabels, Fields, Entries, SoFar, Walks, TakesKey, RefusesKey, MapFaults, RepeatsLabel, and_pairs, with_pair, are_distinct, labelled}
+use Rattle.coset_codec.specs.MapLaws.{LawfulMapLabels, LawfulFields, so_far_none, so_far_more, so_far_all, so_far_twice, refuses_fault, key_fault, distinct_tested}
 use Rattle.coset_codec.specs.MapLaws.{and_pairs-with, and_pairs-none}
 
-module _ {N A : Type 0} (n : Names N) (laws : LawfulNames N n) (fs : Fields N A) (fl : LawfulFields N A n fs) where
+module _ {N A : Type 0} (n : MapLabels N) (laws : LawfulMapLabels N n) (fs : Fields N A) (fl : LawfulFields N A n fs) where
   pub sets_out : (all : Pairs) (x : A × List (N × Item)) → fs.describes [] x.0 → x.1 ≡ [] → Walks N A n fs all x all
   sets_out all x f r =
       record { done = no_pairs; parts = λ i. all; so_far = subst (λ rest. SoFar N A n fs no_pairs (x.0, rest)) (sym r) (so_far_none n laws fs fl x.0 f) }
@@ -32,7 +32,7 @@ module _ {N A : Type 0} (n : Names N) (laws : LawfulNames N n) (fs : Fields N A)
   pub stumbles : (v : Item) (all left : Pairs) (x : A × List (N × Item)) → as_map v ≡ Some all → Walks N A n fs all x left
       → are_distinct n.same (keys_of x.1) ≡ false → (labelled n fs).faults v DuplicateMapKey
   stumbles v all left x m w d =
-      inr (all, m, inr (subst (Twice n.shape.describes) (sym w.parts) (so_far_twice n laws fs fl w.done x w.so_far d left), λ i. DuplicateMapKey))
+      inr (all, m, inr (subst (RepeatsLabel n.shape.describes) (sym w.parts) (so_far_twice n laws fs fl w.done x w.so_far d left), λ i. DuplicateMapKey))
 
   pub refuses :
       (v : Item) (all old new : Pairs) (k w : Item) (x : A × List (N × Item)) (e : CoseError) → as_map v ≡ Some all → Walks N A n fs all x old

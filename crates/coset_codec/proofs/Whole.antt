@@ -14,7 +14,7 @@ use Rattle.coset_cbor.specs.declared.de.Error.TheVariants as errors
 use Rattle.coset_codec.specs.declared.error.CoseError.{CoseError}
 use Rattle.coset_codec.specs.declared.error.CoseError.TheVariants.{ExtraneousData}
 use Rattle.coset_codec.specs.Errors.{decode_failure}
-use Rattle.coset_codec.specs.Answers.{IsByteFault, IsExtraneous, IsNoItem, IsOnlyItem, Reads, ReadsSlice, ReadsWhole}
+use Rattle.coset_codec.specs.Results.{IsByteFault, IsExtraneous, IsNoItem, IsOnlyItem, Reads, ReadsSlice, ReadsWhole}
 use Rattle.coset_codec.specs.Shape.{Shape, tagged}
 
 -- The result is an error with the property W.

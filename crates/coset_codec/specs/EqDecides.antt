@@ -35,11 +35,11 @@ bstr_decides = options_decides _ _ vec_decides
 -- ---- values that are seen as their parts, from first to last
 
 module _ {A B : Type 0} (of_parts : A → B) (parts : B → A) (back : (x : B) → of_parts (parts x) ≡ x) where
-  pub parts_told : {t : Bool} {x y : B} → Decides t (parts x ≡ parts y) → Decides t (x ≡ y)
-  parts_told {t} {x} {y} = Decides-like t (λ e. sym (back x) ∙ (ap of_parts e ∙ back y)) (ap parts)
+  pub parts_decide : {t : Bool} {x y : B} → Decides t (parts x ≡ parts y) → Decides t (x ≡ y)
+  parts_decide {t} {x} {y} = Decides-like t (λ e. sym (back x) ∙ (ap of_parts e ∙ back y)) (ap parts)
 
-pub part_told : {A B : Type 0} {t u : Bool} {a c : A} {b d : B} → Decides t (a ≡ c) → Decides u (b ≡ d) → Decides (t && u) (◌≡◌ {A = A × B} (a, b) (c, d))
-part_told p q = Decides-like _ (λ e i. (e.0 i, e.1 i)) (λ e. (ap (λ x. x.0) e, ap (λ x. x.1) e)) (Decides-and _ _ p q)
+pub part_decides : {A B : Type 0} {t u : Bool} {a c : A} {b d : B} → Decides t (a ≡ c) → Decides u (b ≡ d) → Decides (t && u) (◌≡◌ {A = A × B} (a, b) (c, d))
+part_decides p q = Decides-like _ (λ e i. (e.0 i, e.1 i)) (λ e. (ap (λ x. x.0) e, ap (λ x. x.1) e)) (Decides-and _ _ p q)
 
-pub last_told : {A : Type 0} {t : Bool} {a b : A} → Decides t (a ≡ b) → Decides t (◌≡◌ {A = A × Unit {0}} (a, tt) (b, tt))
-last_told {t = t} = Decides-like t (λ e i. (e i, tt)) (ap (λ x. x.0))
+pub last_decides : {A : Type 0} {t : Bool} {a b : A} → Decides t (a ≡ b) → Decides t (◌≡◌ {A = A × Unit {0}} (a, tt) (b, tt))
+last_decides {t = t} = Decides-like t (λ e i. (e i, tt)) (ap (λ x. x.0))

@@ -8,7 +8,7 @@ use Rattle.coset_cbor.specs.Cursors as bytes
 use Rattle.coset_cbor.specs.Cursors.{bytes_left, keys_and_values}
 use Rattle.coset_codec.specs.declared.error.CoseError.{CoseError}
 use Rattle.coset_codec.specs.declared.read.decoder.Decoder.{Decoder}
-use Rattle.coset_codec.specs.declared.read.decoder.Decoder.TheVariants.{Tree, Lent}
+use Rattle.coset_codec.specs.declared.read.decoder.Decoder.TheVariants.{Tree, Borrowed}
 use Rattle.coset_codec.specs.declared.read.decoder.ArrayElements.{ArrayElements}
 use Rattle.coset_codec.specs.declared.read.decoder.ArrayElements.TheVariants as items
 use Rattle.coset_codec.specs.declared.read.decoder.MapEntries.{MapEntries}
@@ -21,27 +21,27 @@ use Rattle.coset_codec.specs.Sources.{IsWrongLength}
 -- The remaining input: an item, or bytes.
 pub data State : Type 0 where
   tree : Item → State
-  lent : List ℕ → State
+  borrowed : List ℕ → State
 
 -- The remaining input of a decoder.
 abbrev pub state : Decoder → State
 state (Tree v) = tree (value_item v)
-state (Lent c) = lent (bytes_left c)
+state (Borrowed c) = borrowed (bytes_left c)
 
 -- The item v is at s, and z is the input after it. A tree leaves null.
 abbrev pub ItemAt : Item → State → State → Type 0
 ItemAt v (tree w) z = (w ≡ v) × (z ≡ tree null)
-ItemAt v (lent s) z = (a : List ℕ) × (z ≡ lent a) × bytes.ItemAt v s a
+ItemAt v (borrowed s) z = (a : List ℕ) × (z ≡ borrowed a) × bytes.ItemAt v s a
 
 -- The elements vs of an array are still to be read at s, and z is the input after the array.
 abbrev pub AreWithin : ArrayElements → Items → State → State → Type 0
 AreWithin (items.Tree it) vs s z = (value_items (into_iter_items it) ≡ vs) × (s ≡ tree null) × (z ≡ tree null)
-AreWithin (items.Lent p) vs s z = (b : List ℕ) × (a : List ℕ) × (s ≡ lent b) × (z ≡ lent a) × bytes.AreWithin p vs b a
+AreWithin (items.Borrowed p) vs s z = (b : List ℕ) × (a : List ℕ) × (s ≡ borrowed b) × (z ≡ borrowed a) × bytes.AreWithin p vs b a
 
 -- The pairs ps of a map are still to be read at s, and z is the input after the map.
 abbrev pub PairsWithin : MapEntries → Pairs → State → State → Type 0
 PairsWithin (pairs.Tree it) ps s z = (value_pairs (into_iter_items it) ≡ ps) × (s ≡ tree null) × (z ≡ tree null)
-PairsWithin (pairs.Lent p) ps s z = (b : List ℕ) × (a : List ℕ) × (s ≡ lent b) × (z ≡ lent a) × bytes.AreWithin p (keys_and_values ps) b a
+PairsWithin (pairs.Borrowed p) ps s z = (b : List ℕ) × (a : List ℕ) × (s ≡ borrowed b) × (z ≡ borrowed a) × bytes.AreWithin p (keys_and_values ps) b a
 
 -- ---- results of reading
 
@@ -60,9 +60,9 @@ TakesNull v s t z true = (is_nil v ≡ true) × (t ≡ z)
 TakesNull v s t z false = (is_nil v ≡ false) × (t ≡ s)
 
 -- The remaining input is borrowed bytes.
-abbrev pub IsLent : State → Type 0
-IsLent (tree w) = ⊥
-IsLent (lent s) = ⊤
+abbrev pub IsBorrowed : State → Type 0
+IsBorrowed (tree w) = ⊥
+IsBorrowed (borrowed s) = ⊤
 
 -- The elements of the array v are to be read at t. Or v is no array and was skipped.
 abbrev pub EntersArray : List ℕ → Item → State → State → Result ArrayElements CoseError → Type 0
@@ -98,41 +98,41 @@ NextsKey s view ps t z m (Err e) = (k : Item) × (v : Item) × (others : Pairs) 
 -- The number of bytes left.
 abbrev pub length_left : State → ℕ
 length_left (tree w) = 0
-length_left (lent s) = length s
+length_left (borrowed s) = length s
 
 -- The depth of a tree, or the number of bytes left.
 abbrev pub input_size : State → ℕ
 input_size (tree w) = depth w
-input_size (lent s) = length s
+input_size (borrowed s) = length s
 
 -- The depth of the elements left in a tree, or the number of bytes left. Recursive readers end because this falls.
 abbrev pub items_size : ArrayElements → State → ℕ
 items_size (items.Tree it) s = items_depth (value_items (into_iter_items it))
-items_size (items.Lent p) s = length_left s
+items_size (items.Borrowed p) s = length_left s
 
 -- The depth of the pairs left in a tree, or the number of bytes left.
 abbrev pub pairs_size : MapEntries → State → ℕ
 pairs_size (pairs.Tree it) s = pairs_depth (value_pairs (into_iter_items it))
-pairs_size (pairs.Lent p) s = length_left s
+pairs_size (pairs.Borrowed p) s = length_left s
 
 -- The most elements of an array that can still be read.
 abbrev pub items_turns : ArrayElements → State → ℕ
 items_turns (items.Tree it) s = items_count (value_items (into_iter_items it))
-items_turns (items.Lent p) s = length_left s
+items_turns (items.Borrowed p) s = length_left s
 
 -- The most pairs of a map that can still be read.
 abbrev pub pairs_turns : MapEntries → State → ℕ
 pairs_turns (pairs.Tree it) s = pairs_count (value_pairs (into_iter_items it))
-pairs_turns (pairs.Lent p) s = length_left s
+pairs_turns (pairs.Borrowed p) s = length_left s
 
 -- If s is bytes, fewer of them are left at t.
-abbrev pub GoesBehind : State → State → Type 0
-GoesBehind (tree w) t = ⊤
-GoesBehind (lent s) t = length_left t < length s
+abbrev pub MovesForward : State → State → Type 0
+MovesForward (tree w) t = ⊤
+MovesForward (borrowed s) t = length_left t < length s
 
 -- Reading goes forward from s to t. At t there are at most as many bytes left as at s. If the result is `Ok` and s is
 -- bytes, there are fewer. If an item is at s, t is the input just after it, and P holds of the item.
 pub record ReadsForward {A E : Type 0} (s t : State) (result : Result A E) (P : Item → Type 0) : Type 0 where
   pub shrinks : length_left t ≤ length_left s
-  pub strictly : OnOk result (GoesBehind s t)
+  pub strictly : OnOk result (MovesForward s t)
   pub reads : ReadsAt s t P

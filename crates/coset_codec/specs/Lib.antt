@@ -8,7 +8,7 @@ pub mod SetLaws
 pub mod Maps
 pub mod MapLaws
 pub mod RestLaws
-pub mod Answers
+pub mod Results
 pub mod Refusals
 pub mod Alone
 pub mod Serialized
@@ -20,7 +20,7 @@ pub mod Sources
 pub mod Lists
 pub mod Encoding
 pub mod Inputs
-pub mod Gathering
+pub mod Visiting
 pub mod InPlace
 pub mod Recursive
 pub mod RecursiveLaws

@@ -17,7 +17,7 @@ use Rattle.coset_codec.specs.declared.error.CoseError.{CoseError}
 use Rattle.coset_codec.specs.declared.error.CoseError.TheVariants.{DuplicateMapKey}
 use Rattle.coset_codec.specs.Shape.{Shape, present}
 use Rattle.coset_codec.specs.ShapeLaws.{Again, Lawful, some-one, some-none, both-some, present_laws}
-use Rattle.coset_codec.specs.Maps.{Names, Named, named_image, HasLabel, Twice, SomePair, FieldShape, field_shape}
+use Rattle.coset_codec.specs.Maps.{MapLabels, AreLabelled, labelled_image, HasLabel, RepeatsLabel, SomePair, FieldShape, field_shape}
 use Rattle.coset_codec.specs.Maps.{optional, is_nonempty, unless_empty, IfThenElse, Fields}
 use Rattle.coset_codec.specs.Maps.{no_field, put_field, field, is_core, rest_of, are_distinct, Entries, PairFaults, MapFaults, may_write, labelled_by}
 use Rattle.coset_codec.specs.Maps.{with_pair, and_pairs, SoFar, Adds, Refuses}
@@ -92,13 +92,13 @@ by_where false w f g = g refl w
 -- ---- labels, and the values of fields
 
 -- The shape of the labels has laws, and the test says whether two labels are the same.
-pub record LawfulNames (N : Type 0) (n : Names N) : Type 0 where
+pub record LawfulMapLabels (N : Type 0) (n : MapLabels N) : Type 0 where
   pub shape : Lawful N n.shape
   pub same_is : (l m : N) → n.same l m ≡ true → l ≡ m
   pub same_self : (l : N) → n.same l l ≡ true
 
 -- A label whose item has depth 0.
-pub record Flat (N : Type 0) (n : Names N) (l : N) : Type 0 where
+pub record Flat (N : Type 0) (n : MapLabels N) (l : N) : Type 0 where
   pub key : Item
   pub is_image : n.shape.image l ≡ Some key
   pub described : n.shape.describes key l
@@ -165,7 +165,7 @@ unless_empty_laws s never l = field_shape_laws [] is_nonempty refl empty_hidden 
 -- ---- fields
 
 -- A pair whose key has an item. Neither the key nor the value is deeper than d.
-pub record Writable (N : Type 0) (n : Names N) (d : ℕ) (e : N × Item) : Type 0 where
+pub record Writable (N : Type 0) (n : MapLabels N) (d : ℕ) (e : N × Item) : Type 0 where
   pub key : Item
   pub is_image : n.shape.image e.0 ≡ Some key
   pub described : n.shape.describes key e.0
@@ -173,25 +173,25 @@ pub record Writable (N : Type 0) (n : Names N) (d : ℕ) (e : N × Item) : Type 
   pub shallow : depth e.1 ≤ d
 
 -- Pairs that have items and are at most d deep.
-record Written (N : Type 0) (n : Names N) (d : ℕ) (es : List (N × Item)) : Type 0 where
+record Written (N : Type 0) (n : MapLabels N) (d : ℕ) (es : List (N × Item)) : Type 0 where
   pub pairs : Pairs
-  pub is_image : named_image n.shape.image es ≡ Some pairs
-  pub named : Named n.shape.describes pairs es
+  pub is_image : labelled_image n.shape.image es ≡ Some pairs
+  pub named : AreLabelled n.shape.describes pairs es
   pub shallow : pairs_depth pairs ≤ d
 
 -- No pair has the label l.
-abbrev pub IsNew : {N : Type 0} → Names N → N → List (N × Item) → Type 0
+abbrev pub IsNew : {N : Type 0} → MapLabels N → N → List (N × Item) → Type 0
 IsNew n l es = AllByRecursion (λ m. n.same l m ≡ false) (keys_of es)
 
 -- The label of each pair has a field (`IsCore`), or none of the labels has one (`IsRest`).
-abbrev pub IsCore : {N : Type 0} → Names N → List N → List (N × Item) → Type 0
+abbrev pub IsCore : {N : Type 0} → MapLabels N → List N → List (N × Item) → Type 0
 IsCore n labels es = AllByRecursion (λ e. is_core n labels e.0 ≡ true) es
 
-abbrev pub IsRest : {N : Type 0} → Names N → List N → List (N × Item) → Type 0
+abbrev pub IsRest : {N : Type 0} → MapLabels N → List N → List (N × Item) → Type 0
 IsRest n labels es = AllByRecursion (λ e. is_core n labels e.0 ≡ false) es
 
 -- x is written as fields that represent x, whatever other pairs follow.
-pub record AgainFields (N A : Type 0) (n : Names N) (fs : Fields N A) (d : ℕ) (x : A) : Type 0 where
+pub record AgainFields (N A : Type 0) (n : MapLabels N) (fs : Fields N A) (d : ℕ) (x : A) : Type 0 where
   pub entries : List (N × Item)
   pub is_image : fs.image x ≡ Some entries
   pub described : (more : List (N × Item)) → IsRest n fs.labels more → fs.describes (entries ++ more) x
@@ -202,7 +202,7 @@ pub record AgainFields (N A : Type 0) (n : Names N) (fs : Fields N A) (d : ℕ) 
 -- `frame` and `other`: a pair without a field changes nothing, first or last. `takes`: if a pair with a new label turns
 -- x into y, the pairs with it at the end represent y. `fresh`: a pair turns x into another value only if its label is
 -- new. `repeated`: a label that repeats is there already.
-pub record LawfulFields (N A : Type 0) (n : Names N) (fs : Fields N A) : Type 0 where
+pub record LawfulFields (N A : Type 0) (n : MapLabels N) (fs : Fields N A) : Type 0 where
   pub unique : (es : List (N × Item)) (x y : A) → fs.describes es x → fs.describes es y → x ≡ y
   pub frame : (m : N) (v : Item) (es : List (N × Item)) (x : A) → is_core n fs.labels m ≡ false → fs.describes es x → fs.describes ((m, v) ∷ es) x
   pub again : (d : ℕ) (es : List (N × Item)) (x : A) → AllByRecursion (λ e. depth e.1 ≤ d) es → fs.describes es x → AgainFields N A n fs d x
@@ -228,13 +228,13 @@ some_last : (P : Item → Item → Type 0) (ps : Pairs) (k v : Item) (more : Pai
 some_last P no_pairs k v more h = inl h
 some_last P (pair j w ps) k v more h = inr (some_last P ps k v more h)
 
-pub key_fault : {N A : Type 0} (n : Names N) (fs : Fields N A) (ps : Pairs) (k v : Item) (e : CoseError) → n.shape.faults k e → (more : Pairs)
+pub key_fault : {N A : Type 0} (n : MapLabels N) (fs : Fields N A) (ps : Pairs) (k v : Item) (e : CoseError) → n.shape.faults k e → (more : Pairs)
     → MapFaults n fs (and_pairs (with_pair ps k v) more) e
 key_fault n fs ps k v e f more = inl (some_last (PairFaults n fs e) ps k v more (inl f))
 
 module _ {N : Type 0} (r : Item → N → Type 0) where
   -- The labels of one more pair, and of other pairs after it.
-  named_snoc : (ps : Pairs) (es : List (N × Item)) (k v : Item) (m : N) → Named r ps es → r k m → Named r (with_pair ps k v) (es ++ (m, v) ∷ [])
+  named_snoc : (ps : Pairs) (es : List (N × Item)) (k v : Item) (m : N) → AreLabelled r ps es → r k m → AreLabelled r (with_pair ps k v) (es ++ (m, v) ∷ [])
   named_snoc no_pairs [] k v m p q = (q, refl, tt)
   named_snoc no_pairs (e ∷ es) k v m p q = absurd p
   named_snoc (pair j w ps) [] k v m p q = absurd p
@@ -245,7 +245,7 @@ module _ {N : Type 0} (r : Item → N → Type 0) where
   label_and (pair j w ps) l more (inl h) = inl h
   label_and (pair j w ps) l more (inr h) = inr (label_and ps l more h)
 
-  twice_and : (ps more : Pairs) → Twice r ps → Twice r (and_pairs ps more)
+  twice_and : (ps more : Pairs) → RepeatsLabel r ps → RepeatsLabel r (and_pairs ps more)
   twice_and no_pairs more h = absurd h
   twice_and (pair j w ps) more (inl h) = inl (h.0, h.1, label_and ps h.0 more h.2)
   twice_and (pair j w ps) more (inr h) = inr (twice_and ps more h)
@@ -254,7 +254,7 @@ module _ {N : Type 0} (r : Item → N → Type 0) where
   label_last no_pairs k v l more h = inl h
   label_last (pair j w ps) k v l more h = inr (label_last ps k v l more h)
 
-  twice_last : (ps : Pairs) (k v : Item) (l : N) (more : Pairs) → HasLabel r l ps → r k l → Twice r (and_pairs (with_pair ps k v) more)
+  twice_last : (ps : Pairs) (k v : Item) (l : N) (more : Pairs) → HasLabel r l ps → r k l → RepeatsLabel r (and_pairs (with_pair ps k v) more)
   twice_last no_pairs k v l more h q = absurd h
   twice_last (pair j w ps) k v l more (inl h) q = inl (l, h, label_last ps k v l more q)
   twice_last (pair j w ps) k v l more (inr h) q = inr (twice_last ps k v l more h q)
@@ -264,7 +264,7 @@ as_map-is : (v : Item) (ps : Pairs) → as_map v ≡ Some ps → dict ps ≡ v
 as_map-is (dict qs) ps p = cc
 as_map-is _ ps p = absurd (cc)
 
-module _ {N : Type 0} (n : Names N) where
+module _ {N : Type 0} (n : MapLabels N) where
   -- A look-up finds nothing if and only if no pair has the label.
   pub lookup_none : (l : N) (es : List (N × Item)) → IsNew n l es → lookup (n.same l) es ≡ None
   lookup_none l [] h = refl
@@ -343,7 +343,7 @@ module _ {N : Type 0} (n : Names N) where
   may_write_distinct true rest d = tested_distinct (keys_of rest) d
   may_write_distinct false rest d = refl
 
-module _ {N : Type 0} (n : Names N) (laws : LawfulNames N n) where
+module _ {N : Type 0} (n : MapLabels N) (laws : LawfulMapLabels N n) where
   -- The test of labels says whether two labels are the same.
   pub not_same : (l m : N) → (l ≡ m → ⊥) → n.same l m ≡ false
   not_same l m h = false_from_ne_true (n.same l m) (λ p. h (laws.same_is l m p))
@@ -588,7 +588,7 @@ module _ {N : Type 0} (n : Names N) (laws : LawfulNames N n) where
   -- ---- the whole map
 
   -- The labels of the pairs are unique.
-  pub named_unique : (ps : Pairs) (es fs : List (N × Item)) → Named n.shape.describes ps es → Named n.shape.describes ps fs → es ≡ fs
+  pub named_unique : (ps : Pairs) (es fs : List (N × Item)) → AreLabelled n.shape.describes ps es → AreLabelled n.shape.describes ps fs → es ≡ fs
   named_unique no_pairs [] [] p q = refl
   named_unique no_pairs [] (f ∷ fs) p q = absurd q
   named_unique no_pairs (e ∷ es) fs p q = absurd p
@@ -597,7 +597,7 @@ module _ {N : Type 0} (n : Names N) (laws : LawfulNames N n) where
   named_unique (pair k v ps) (e ∷ es) (f ∷ fs) p q =
       λ i. (laws.shape.unique k e.0 f.0 p.0 q.0 i, (sym p.1 ∙ q.1) i) ∷ named_unique ps es fs p.2 q.2 i
 
-  named_writable : (d : ℕ) (ps : Pairs) (es : List (N × Item)) → pairs_depth ps ≤ d → Named n.shape.describes ps es → AllByRecursion (Writable N n d) es
+  named_writable : (d : ℕ) (ps : Pairs) (es : List (N × Item)) → pairs_depth ps ≤ d → AreLabelled n.shape.describes ps es → AllByRecursion (Writable N n d) es
   named_writable d no_pairs [] b p = tt
   named_writable d no_pairs (e ∷ es) b p = absurd p
   named_writable d (pair k v ps) [] b p = absurd p
@@ -621,13 +621,14 @@ module _ {N : Type 0} (n : Names N) (laws : LawfulNames N n) where
       }
 
   -- A label of the pairs is not new.
-  pub not_new : (ps : Pairs) (es : List (N × Item)) (l : N) → Named n.shape.describes ps es → HasLabel n.shape.describes l ps → IsNew n l es → ⊥
+  pub not_new : (ps : Pairs) (es : List (N × Item)) (l : N) → AreLabelled n.shape.describes ps es → HasLabel n.shape.describes l ps → IsNew n l es → ⊥
   not_new no_pairs es l p h a = h
   not_new (pair k v ps) [] l p h a = p
   not_new (pair k v ps) (e ∷ es) l p (inl g) a = apart_of l e.0 a.0 (laws.shape.unique k l e.0 g p.0)
   not_new (pair k v ps) (e ∷ es) l p (inr g) a = not_new ps es l p.2 g a.1
 
-  not_distinct : (ps : Pairs) (es : List (N × Item)) → Named n.shape.describes ps es → Twice n.shape.describes ps → IsDistinct n.same (keys_of es) → ⊥
+  not_distinct : (ps : Pairs) (es : List (N × Item)) → AreLabelled n.shape.describes ps es → RepeatsLabel n.shape.describes ps → IsDistinct n.same (keys_of es)
+      → ⊥
   unfolding IsDistinct
   not_distinct no_pairs es p t d = t
   not_distinct (pair k v ps) [] p t d = p
@@ -636,7 +637,7 @@ module _ {N : Type 0} (n : Names N) (laws : LawfulNames N n) where
   not_distinct (pair k v ps) (e ∷ es) p (inr g) d = not_distinct ps es p.2 g d.1
 
   -- A label that is not new is a label of the pairs.
-  pub has_label : (ps : Pairs) (es : List (N × Item)) (l : N) → Named n.shape.describes ps es → (IsNew n l es → ⊥) → HasLabel n.shape.describes l ps
+  pub has_label : (ps : Pairs) (es : List (N × Item)) (l : N) → AreLabelled n.shape.describes ps es → (IsNew n l es → ⊥) → HasLabel n.shape.describes l ps
   has_label no_pairs [] l p h = absurd (h tt)
   has_label no_pairs (e ∷ es) l p h = absurd p
   has_label (pair k v ps) [] l p h = absurd p
@@ -646,15 +647,15 @@ module _ {N : Type 0} (n : Names N) (laws : LawfulNames N n) where
       go true q ih = inl (subst (n.shape.describes k) (sym (laws.same_is l e.0 q)) p.0)
       go false q ih = inr (ih (λ a. h (q, a)))
 
-  twice : (ps : Pairs) (es : List (N × Item)) → Named n.shape.describes ps es → (IsDistinct n.same (keys_of es) → ⊥) → Twice n.shape.describes ps
+  twice : (ps : Pairs) (es : List (N × Item)) → AreLabelled n.shape.describes ps es → (IsDistinct n.same (keys_of es) → ⊥) → RepeatsLabel n.shape.describes ps
   unfolding IsDistinct
   twice no_pairs [] p h = absurd (h tt)
   twice no_pairs (e ∷ es) p h = absurd p
   twice (pair k v ps) [] p h = absurd p
   twice (pair k v ps) (e ∷ es) p h = go (list_all (λ m. not (n.same e.0 m)) (keys_of es)) refl (twice ps es p.2)
     where
-      go : (b : Bool) → list_all (λ m. not (n.same e.0 m)) (keys_of es) ≡ b → ((IsDistinct n.same (keys_of es) → ⊥) → Twice n.shape.describes ps)
-          → ((l : N) × n.shape.describes k l × HasLabel n.shape.describes l ps) ⊎ Twice n.shape.describes ps
+      go : (b : Bool) → list_all (λ m. not (n.same e.0 m)) (keys_of es) ≡ b → ((IsDistinct n.same (keys_of es) → ⊥) → RepeatsLabel n.shape.describes ps)
+          → ((l : N) × n.shape.describes k l × HasLabel n.shape.describes l ps) ⊎ RepeatsLabel n.shape.describes ps
       go true q ih = inr (ih (λ d. h (new_tested n e.0 (keys_of es) q, d)))
       go false q ih = inl (e.0, p.0, has_label ps es e.0 p.2 (λ a. true≢false (sym (tested_new n e.0 (keys_of es) a) ∙ q)))
 
@@ -678,7 +679,7 @@ module _ {N : Type 0} (n : Names N) (laws : LawfulNames N n) where
 
     -- No pair has a fault if the labels are distinct, and if no value that a look-up finds has a fault.
     pairs_sound :
-        (e : CoseError) (ps : Pairs) (es : List (N × Item)) → Named n.shape.describes ps es → IsDistinct n.same (keys_of es)
+        (e : CoseError) (ps : Pairs) (es : List (N × Item)) → AreLabelled n.shape.describes ps es → IsDistinct n.same (keys_of es)
         → ((m : N) (v : Item) → lookup (n.same m) es ≡ Some v → fs.faults m v e → ⊥)
         → SomePair (PairFaults n fs e) ps → ⊥
     unfolding IsDistinct
@@ -810,7 +811,7 @@ module _ {N : Type 0} (n : Names N) (laws : LawfulNames N n) where
 
     -- Or a label of the rest occurs twice, whatever pairs follow.
     pub so_far_twice : (ps : Pairs) (x : A × List (N × Item)) → SoFar N A n fs ps x → are_distinct n.same (keys_of x.1) ≡ false → (more : Pairs)
-        → Twice n.shape.describes (and_pairs ps more)
+        → RepeatsLabel n.shape.describes (and_pairs ps more)
     so_far_twice ps x s h more =
         twice_and n.shape.describes ps more
         (twice ps s.entries s.named (λ d. true≢false (sym (tested_distinct n (keys_of x.1) (rest_distinct n fs.labels s.entries x.1 s.rest d)) ∙ h)))

@@ -11,23 +11,23 @@ use Rattle.coset_codec.specs.Errors.{IsUnexpected}
 use Rattle.coset_codec.specs.Shape.{Shape, both, present}
 
 -- Which keys are labels, and a test whether two labels are the same.
-pub record Names (N : Type 0) : Type 1 where
+pub record MapLabels (N : Type 0) : Type 1 where
   pub shape : Shape N
   pub same : N → N → Bool
 
 -- ---- the pairs by label
 
 -- The pairs, each with the label of its key.
-abbrev pub Named : {N : Type 0} → (Item → N → Type 0) → Pairs → List (N × Item) → Type 0
-Named r no_pairs [] = ⊤
-Named r no_pairs (e ∷ es) = ⊥
-Named r (pair k v ps) [] = ⊥
-Named r (pair k v ps) (e ∷ es) = r k e.0 × (v ≡ e.1) × Named r ps es
+abbrev pub AreLabelled : {N : Type 0} → (Item → N → Type 0) → Pairs → List (N × Item) → Type 0
+AreLabelled r no_pairs [] = ⊤
+AreLabelled r no_pairs (e ∷ es) = ⊥
+AreLabelled r (pair k v ps) [] = ⊥
+AreLabelled r (pair k v ps) (e ∷ es) = r k e.0 × (v ≡ e.1) × AreLabelled r ps es
 
 -- The pairs that labels and values are written as, if each label has an item.
-abbrev pub named_image : {N : Type 0} → (N → Option Item) → List (N × Item) → Option Pairs
-named_image f [] = Some no_pairs
-named_image f (e ∷ es) = both (λ k ps. pair k e.1 ps) (f e.0) (named_image f es)
+abbrev pub labelled_image : {N : Type 0} → (N → Option Item) → List (N × Item) → Option Pairs
+labelled_image f [] = Some no_pairs
+labelled_image f (e ∷ es) = both (λ k ps. pair k e.1 ps) (f e.0) (labelled_image f es)
 
 -- One of the pairs has a key with the label l.
 abbrev pub HasLabel : {N : Type 0} → (Item → N → Type 0) → N → Pairs → Type 0
@@ -35,9 +35,9 @@ HasLabel r l no_pairs = ⊥
 HasLabel r l (pair k v ps) = r k l ⊎ HasLabel r l ps
 
 -- Two keys have the same label.
-abbrev pub Twice : {N : Type 0} → (Item → N → Type 0) → Pairs → Type 0
-Twice r no_pairs = ⊥
-Twice {N} r (pair k v ps) = ((l : N) × r k l × HasLabel r l ps) ⊎ Twice r ps
+abbrev pub RepeatsLabel : {N : Type 0} → (Item → N → Type 0) → Pairs → Type 0
+RepeatsLabel r no_pairs = ⊥
+RepeatsLabel {N} r (pair k v ps) = ((l : N) × r k l × HasLabel r l ps) ⊎ RepeatsLabel r ps
 
 -- P holds of one of the pairs.
 abbrev pub SomePair : (Item → Item → Type 0) → Pairs → Type 0
@@ -120,7 +120,7 @@ put_field l (Some v) es = (l, v) ∷ es
 put_field l None es = es
 
 -- ? l => h, and then the others
-abbrev pub field : {N A B : Type 0} → Names N → N → FieldShape A → Fields N B → Fields N (A × B)
+abbrev pub field : {N A B : Type 0} → MapLabels N → N → FieldShape A → Fields N B → Fields N (A × B)
 field n l h fs = record {
   labels = l ∷ fs.labels;
   describes = λ es x. h.describes (lookup (n.same l) es) x.0 × fs.describes es x.1;
@@ -133,11 +133,11 @@ field n l h fs = record {
 -- ---- maps
 
 -- The label l has a field.
-abbrev pub is_core : {N : Type 0} → Names N → List N → N → Bool
+abbrev pub is_core : {N : Type 0} → MapLabels N → List N → N → Bool
 is_core n labels l = list_any (n.same l) labels
 
 -- The pairs whose labels have no field.
-abbrev pub rest_of : {N : Type 0} → Names N → List N → List (N × Item) → List (N × Item)
+abbrev pub rest_of : {N : Type 0} → MapLabels N → List N → List (N × Item) → List (N × Item)
 rest_of n labels es = filter (λ e. not (is_core n labels e.0)) es
 
 -- No two labels are the same by that test.
@@ -146,31 +146,31 @@ are_distinct same [] = true
 are_distinct same (l ∷ ls) = list_all (λ m. not (same l m)) ls && are_distinct same ls
 
 -- Each key has a label, and no two labels are the same. x is the fields and the rest.
-pub record Entries (N A : Type 0) (n : Names N) (fs : Fields N A) (ps : Pairs) (x : A × List (N × Item)) : Type 0 where
+pub record Entries (N A : Type 0) (n : MapLabels N) (fs : Fields N A) (ps : Pairs) (x : A × List (N × Item)) : Type 0 where
   pub entries : List (N × Item)
-  pub named : Named n.shape.describes ps entries
+  pub named : AreLabelled n.shape.describes ps entries
   pub distinct : IsDistinct n.same (keys_of entries)
   pub fields : fs.describes entries x.0
   pub rest : x.1 ≡ rest_of n fs.labels entries
 
 -- The error names a fault in a key, or in the value of a field.
-abbrev pub PairFaults : {N A : Type 0} → Names N → Fields N A → CoseError → Item → Item → Type 0
+abbrev pub PairFaults : {N A : Type 0} → MapLabels N → Fields N A → CoseError → Item → Item → Type 0
 PairFaults {N} n fs e k v = n.shape.faults k e ⊎ ((m : N) × n.shape.describes k m × fs.faults m v e)
 
-abbrev pub MapFaults : {N A : Type 0} → Names N → Fields N A → Pairs → CoseError → Type 0
-MapFaults n fs ps e = SomePair (PairFaults n fs e) ps ⊎ (Twice n.shape.describes ps × (e ≡ errors.DuplicateMapKey))
+abbrev pub MapFaults : {N A : Type 0} → MapLabels N → Fields N A → Pairs → CoseError → Type 0
+MapFaults n fs ps e = SomePair (PairFaults n fs e) ps ⊎ (RepeatsLabel n.shape.describes ps × (e ≡ errors.DuplicateMapKey))
 
-abbrev pub entries_image : {N : Type 0} → Names N → Bool → List (N × Item) → Option (List (N × Item)) → Option Item
-entries_image n true rest (Some es) = option_map dict (named_image n.shape.image (es ++ rest))
+abbrev pub entries_image : {N : Type 0} → MapLabels N → Bool → List (N × Item) → Option (List (N × Item)) → Option Item
+entries_image n true rest (Some es) = option_map dict (labelled_image n.shape.image (es ++ rest))
 entries_image n true rest None = None
 entries_image n false rest o = None
 
 -- True if the rest may be written. If `checks` is true, no two labels of the rest may be the same.
-abbrev pub may_write : {N : Type 0} → Names N → Bool → List (N × Item) → Bool
+abbrev pub may_write : {N : Type 0} → MapLabels N → Bool → List (N × Item) → Bool
 may_write n true rest = are_distinct n.same (keys_of rest)
 may_write n false rest = true
 
-abbrev pub labelled_by : {N A : Type 0} → Bool → Names N → Fields N A → Shape (A × List (N × Item))
+abbrev pub labelled_by : {N A : Type 0} → Bool → MapLabels N → Fields N A → Shape (A × List (N × Item))
 labelled_by {N} {A} checks n fs = record {
   describes = λ v x. (ps : Pairs) × (as_map v ≡ Some ps) × Entries N A n fs ps x;
   image = λ x. entries_image n (may_write n checks x.1) x.1 (fs.image x.0);
@@ -178,11 +178,11 @@ labelled_by {N} {A} checks n fs = record {
 }
 
 -- {fields, * label => any}, written only if no label of the rest occurs twice
-abbrev pub labelled : {N A : Type 0} → Names N → Fields N A → Shape (A × List (N × Item))
+abbrev pub labelled : {N A : Type 0} → MapLabels N → Fields N A → Shape (A × List (N × Item))
 labelled n fs = labelled_by true n fs
 
 -- {fields, * label => any}, written whatever labels the rest has
-abbrev pub labelled_freely : {N A : Type 0} → Names N → Fields N A → Shape (A × List (N × Item))
+abbrev pub labelled_freely : {N A : Type 0} → MapLabels N → Fields N A → Shape (A × List (N × Item))
 labelled_freely n fs = labelled_by false n fs
 
 -- ---- pair by pair
@@ -198,44 +198,44 @@ and_pairs no_pairs qs = qs
 and_pairs (pair k v ps) qs = pair k v (and_pairs ps qs)
 
 -- The value that the pairs read so far make, before a check for repeated labels in the rest.
-pub record SoFar (N A : Type 0) (n : Names N) (fs : Fields N A) (ps : Pairs) (x : A × List (N × Item)) : Type 0 where
+pub record SoFar (N A : Type 0) (n : MapLabels N) (fs : Fields N A) (ps : Pairs) (x : A × List (N × Item)) : Type 0 where
   pub entries : List (N × Item)
-  pub named : Named n.shape.describes ps entries
+  pub named : AreLabelled n.shape.describes ps entries
   pub once : IsDistinct n.same (keys_of (filter (λ e. is_core n fs.labels e.0) entries))
   pub fields : fs.describes entries x.0
   pub rest : x.1 ≡ rest_of n fs.labels entries
 
 -- A pair with label m and value v turns x into y.
-abbrev pub Adds : {N A : Type 0} → Names N → Fields N A → N → Item → A × List (N × Item) → A × List (N × Item) → Type 0
+abbrev pub Adds : {N A : Type 0} → MapLabels N → Fields N A → N → Item → A × List (N × Item) → A × List (N × Item) → Type 0
 Adds n fs m v x y = IfThenElse (is_core n fs.labels m) (fs.takes m v x.0 y.0 × (y.1 ≡ x.1)) ((x.0 ≡ y.0) × (y.1 ≡ x.1 ++ (m, v) ∷ []))
 
 -- The error says why x refuses a pair with label m and value v.
-abbrev pub Refuses : {N A : Type 0} → Names N → Fields N A → N → Item → A × List (N × Item) → CoseError → Type 0
+abbrev pub Refuses : {N A : Type 0} → MapLabels N → Fields N A → N → Item → A × List (N × Item) → CoseError → Type 0
 Refuses n fs m v x e = IfThenElse (is_core n fs.labels m) ((fs.repeats m x.0 × (e ≡ errors.DuplicateMapKey)) ⊎ fs.faults m v e) ⊥
 
 -- Of all the pairs, some were read and make x, and those left are still to be read.
-pub record Walks (N A : Type 0) (n : Names N) (fs : Fields N A) (all : Pairs) (x : A × List (N × Item)) (left : Pairs) : Type 0 where
+pub record Walks (N A : Type 0) (n : MapLabels N) (fs : Fields N A) (all : Pairs) (x : A × List (N × Item)) (left : Pairs) : Type 0 where
   pub done : Pairs
   pub parts : all ≡ and_pairs done left
   pub so_far : SoFar N A n fs done x
 
 -- The pair of this key and value turns x into y.
-abbrev pub TakesKey : {N A : Type 0} → Names N → Fields N A → Item → Item → A × List (N × Item) → A × List (N × Item) → Type 0
+abbrev pub TakesKey : {N A : Type 0} → MapLabels N → Fields N A → Item → Item → A × List (N × Item) → A × List (N × Item) → Type 0
 TakesKey {N} n fs k v x y = (m : N) × n.shape.describes k m × Adds n fs m v x y
 
 -- The error says why x refuses the pair of this key and value.
-abbrev pub RefusesKey : {N A : Type 0} → Names N → Fields N A → Item → Item → A × List (N × Item) → CoseError → Type 0
+abbrev pub RefusesKey : {N A : Type 0} → MapLabels N → Fields N A → Item → Item → A × List (N × Item) → CoseError → Type 0
 RefusesKey {N} n fs k v x e = n.shape.faults k e ⊎ ((m : N) × n.shape.describes k m × Refuses n fs m v x e)
 
 -- The error says why a label is refused after the pairs before it, whatever its value.
 abbrev pub Excludes : Type 0 → Type 0 → Type 1
 Excludes N A = N → A × List (N × Item) → CoseError → Type 0
 
-abbrev pub ExcludesKey : {N A : Type 0} → Names N → Excludes N A → Item → A × List (N × Item) → CoseError → Type 0
+abbrev pub ExcludesKey : {N A : Type 0} → MapLabels N → Excludes N A → Item → A × List (N × Item) → CoseError → Type 0
 ExcludesKey {N} n excludes k x e = (m : N) × n.shape.describes k m × excludes m x e
 
 -- The first pairs make a value that excludes the label of the next pair.
-pub record IsExcluded (N A : Type 0) (n : Names N) (fs : Fields N A) (excludes : Excludes N A) (ps : Pairs) (e : CoseError) : Type 0 where
+pub record IsExcluded (N A : Type 0) (n : MapLabels N) (fs : Fields N A) (excludes : Excludes N A) (ps : Pairs) (e : CoseError) : Type 0 where
   pub key : Item
   pub value : Item
   pub left : Pairs
@@ -244,5 +244,5 @@ pub record IsExcluded (N A : Type 0) (n : Names N) (fs : Fields N A) (excludes :
   pub excluded : ExcludesKey n excludes key before e
 
 -- The error names a fault in an item that is read pair by pair.
-abbrev pub GatherFaults : {N A : Type 0} → Names N → Fields N A → Excludes N A → Item → CoseError → Type 0
-GatherFaults {N} {A} n fs excludes v e = (labelled n fs).faults v e ⊎ ((ps : Pairs) × (as_map v ≡ Some ps) × IsExcluded N A n fs excludes ps e)
+abbrev pub VisitorFaults : {N A : Type 0} → MapLabels N → Fields N A → Excludes N A → Item → CoseError → Type 0
+VisitorFaults {N} {A} n fs excludes v e = (labelled n fs).faults v e ⊎ ((ps : Pairs) × (as_map v ≡ Some ps) × IsExcluded N A n fs excludes ps e)

@@ -7,7 +7,7 @@ use Rattle.coset_cbor.specs.Shortest.{IsShortest}
 use Rattle.coset_cbor.proofs.Shortest.{definite_is_encoding}
 use Rattle.coset_codec.specs.Shape.{Shape}
 use Rattle.coset_codec.specs.ShapeLaws.{Again, Lawful}
-use Rattle.coset_codec.specs.Answers.{Describes}
+use Rattle.coset_codec.specs.Results.{Describes}
 
 -- x is written as an item whose shortest encoding describes x.
 abbrev pub ReadsAgain : {A : Type 0} → Shape A → A → Type 0
@@ -27,13 +27,13 @@ abbrev pub IsWritten : {A : Type 0} → Shape A → A → List ℕ → Type 0
 IsWritten s x b = (v : Item) × (s.image x ≡ Some v) × IsShortest b v
 
 -- Values that were read, from any source, are written as equal bytes if and only if they are equal.
-abbrev pub EncodesApart : {A : Type 0} → Shape A → Type 0
-EncodesApart {A} s =
+abbrev pub EncodesInjectively : {A : Type 0} → Shape A → Type 0
+EncodesInjectively {A} s =
     (v w : Item) (c d : List ℕ) (x y : A) → s.describes v x → s.describes w y → IsWritten s x c → IsWritten s y d → (c ≡ d) ↔ (x ≡ y)
 
 -- The same holds for the items that they are written as.
-abbrev pub ImagesApart : {A : Type 0} → Shape A → Type 0
-ImagesApart {A} s = (v w : Item) (x y : A) → s.describes v x → s.describes w y → (s.image x ≡ s.image y) ↔ (x ≡ y)
+abbrev pub ImagesInjectively : {A : Type 0} → Shape A → Type 0
+ImagesInjectively {A} s = (v w : Item) (x y : A) → s.describes v x → s.describes w y → (s.image x ≡ s.image y) ↔ (x ≡ y)
 
 -- A value that was read, from any source, is written as bytes. Reading and writing these bytes again gives the same
 -- value and the same bytes.

@@ -12,21 +12,21 @@ use Rattle.coset_codec.specs.ShapeLaws.{Again, Lawful}
 -- ---- shapes that describe no more than others
 
 -- Each value that s describes is described by one of the shapes t. Each fault of s is a fault of one of them.
-pub record Passes (I : Type 0) (A : Type 0) (s : Shape A) (t : I → Shape A) : Type 0 where
+pub record IsCoveredBy (I : Type 0) (A : Type 0) (s : Shape A) (t : I → Shape A) : Type 0 where
   pub describes : (v : Item) (x : A) → s.describes v x → (i : I) × (t i).describes v x
   pub faults : (v : Item) (e : CoseError) → s.faults v e → (i : I) × (t i).faults v e
 
--- The same as `Passes`, for the elements of arrays. A number of elements is wrong for s if and only if it is wrong for
--- t.
-pub record PassesElements (I : Type 0) (A : Type 0) (s : Elements A) (t : I → Elements A) : Type 0 where
+-- The same as `IsCoveredBy`, for the elements of arrays. A number of elements is wrong for s if and only if it is wrong
+-- for t.
+pub record ElementsAreCovered (I : Type 0) (A : Type 0) (s : Elements A) (t : I → Elements A) : Type 0 where
   pub describes : (vs : Items) (x : A) → s.describes vs x → (i : I) × (t i).describes vs x
   pub wrong_length : (i : I) (vs : Items) → s.wrong_length vs → (t i).wrong_length vs
   pub fits : (i : I) (vs : Items) → (t i).wrong_length vs → s.wrong_length vs
   pub faults : (vs : Items) (e : CoseError) → s.faults vs e → (i : I) × (t i).faults vs e
 
--- `Passes` for two single shapes.
+-- `IsCoveredBy` for two single shapes.
 abbrev pub Below : (A : Type 0) → Shape A → Shape A → Type 0
-Below A s t = Passes (Unit {0}) A s (λ i. t)
+Below A s t = IsCoveredBy (Unit {0}) A s (λ i. t)
 
 pub below : {A : Type 0} (s t : Shape A) → ((v : Item) (x : A) → s.describes v x → t.describes v x) → ((v : Item) (e : CoseError) → s.faults v e → t.faults v e)
     → Below A s t
@@ -34,21 +34,22 @@ below s t d f = record { describes = λ v x h. (tt, d v x h); faults = λ v e h.
 
 module _ {I : Type 0} (some : I) where
   -- An array, by its elements.
-  faults_pass : {A : Type 0} (s : Elements A) (t : I → Elements A) → PassesElements I A s t → (vs : Items) (e : CoseError) → ElementsFaults s vs e → (i : I)
+  faults_pass : {A : Type 0} (s : Elements A) (t : I → Elements A) → ElementsAreCovered I A s t → (vs : Items) (e : CoseError) → ElementsFaults s vs e → (i : I)
       × ElementsFaults (t i) vs e
   faults_pass s t p vs e (inl h) = (some, inl (p.wrong_length some vs h.0, h.1))
   faults_pass s t p vs e (inr h) = let g = p.faults vs e h.1 in (g.0, inr ((λ m. h.0 (p.fits g.0 vs m)), g.1))
 
-  array_faults : {A : Type 0} (s : Elements A) (t : I → Elements A) → PassesElements I A s t → (v : Item) (e : CoseError) → (array_of s).faults v e → (i : I)
+  array_faults : {A : Type 0} (s : Elements A) (t : I → Elements A) → ElementsAreCovered I A s t → (v : Item) (e : CoseError) → (array_of s).faults v e
+      → (i : I)
       × (array_of (t i)).faults v e
   array_faults s t p v e (inl h) = (some, inl h)
   array_faults s t p v e (inr h) = let g = faults_pass s t p h.0 e h.2 in (g.0, inr (h.0, h.1, g.1))
 
-  pub array_passes : {A : Type 0} (s : Elements A) (t : I → Elements A) → PassesElements I A s t → Passes I A (array_of s) (λ i. array_of (t i))
+  pub array_passes : {A : Type 0} (s : Elements A) (t : I → Elements A) → ElementsAreCovered I A s t → IsCoveredBy I A (array_of s) (λ i. array_of (t i))
   array_passes s t p = record { describes = λ v x h. let g = p.describes h.0 x h.2 in (g.0, (h.0, h.1, g.1)); faults = array_faults s t p }
 
   -- An element before others.
-  module _ {A B : Type 0} (a : Shape A) (s : Elements B) (t : I → Elements B) (p : PassesElements I B s t) where
+  module _ {A B : Type 0} (a : Shape A) (s : Elements B) (t : I → Elements B) (p : ElementsAreCovered I B s t) where
     then_describes : (vs : Items) (x : A × B) → (a then s).describes vs x → (i : I) × (a then t i).describes vs x
     then_describes no_items x h = absurd h
     then_describes (item v vs) x h = let g = p.describes vs x.1 h.1 in (g.0, (h.0, g.1))
@@ -66,11 +67,11 @@ module _ {I : Type 0} (some : I) where
     then_faults (item v vs) e (inl h) = (some, inl h)
     then_faults (item v vs) e (inr h) = let g = p.faults vs e h in (g.0, inr g.1)
 
-    pub then_passes : PassesElements I (A × B) (a then s) (λ i. a then t i)
+    pub then_passes : ElementsAreCovered I (A × B) (a then s) (λ i. a then t i)
     then_passes = record { describes = then_describes; wrong_length = then_wrong_length; fits = then_fits; faults = then_faults }
 
   -- A last element that may be missing.
-  module _ {A : Type 0} (absent : A) (shows : A → Bool) (s : Shape A) (t : I → Shape A) (p : Passes I A s t) where
+  module _ {A : Type 0} (absent : A) (shows : A → Bool) (s : Shape A) (t : I → Shape A) (p : IsCoveredBy I A s t) where
     last_describes : (vs : Items) (x : A) → LastDescribes absent s.describes vs x → (i : I) × LastDescribes absent (t i).describes vs x
     last_describes no_items x h = (some, h)
     last_describes (item v no_items) x h = p.describes v x h
@@ -80,12 +81,12 @@ module _ {I : Type 0} (some : I) where
     last_faults no_items e h = absurd h
     last_faults (item v vs) e h = p.faults v e h
 
-    pub optional_last_passes : PassesElements I A (optional_last absent shows s) (λ i. optional_last absent shows (t i))
+    pub optional_last_passes : ElementsAreCovered I A (optional_last absent shows s) (λ i. optional_last absent shows (t i))
     optional_last_passes = record { describes = last_describes; wrong_length = λ i vs h. h; fits = λ i vs h. h; faults = last_faults }
 
 -- A shape that is seen as another type.
-pub mapped_passes : {I A B : Type 0} (to : A → B) (from : B → A) (s : Shape A) (t : I → Shape A) → Passes I A s t
-    → Passes I B (mapped to from s) (λ i. mapped to from (t i))
+pub mapped_passes : {I A B : Type 0} (to : A → B) (from : B → A) (s : Shape A) (t : I → Shape A) → IsCoveredBy I A s t
+    → IsCoveredBy I B (mapped to from s) (λ i. mapped to from (t i))
 mapped_passes to from s t p = record { describes = λ v x h. p.describes v (from x) h; faults = p.faults }
 
 -- A list, whose elements all pass on to the same shape.
@@ -120,7 +121,7 @@ module _ {A : Type 0} (s t : Shape A) (p : Below A s t) where
 pub record Step (A : Type 0) (step : Shape A → Shape A) (image : A → Option Item) : Type 1 where
   pub lawful : (s : Shape A) → Lawful A s → Lawful A (step s)
   pub rises : (s t : Shape A) → Below A s t → Below A (step s) (step t)
-  pub gathers : (s : Shape A) (t : ℕ → Shape A) → Passes ℕ (List A) (list_of s) (λ n. list_of (t n)) → Passes ℕ A (step s) (λ n. step (t n))
+  pub gathers : (s : Shape A) (t : ℕ → Shape A) → IsCoveredBy ℕ (List A) (list_of s) (λ n. list_of (t n)) → IsCoveredBy ℕ A (step s) (λ n. step (t n))
   pub written : (s : Shape A) → ((x : A) → s.image x ≡ image x) → (x : A) → (step s).image x ≡ image x
 
 module _ {A : Type 0} (step : Shape A → Shape A) (image : A → Option Item) (k : Step A step image) where
@@ -169,7 +170,7 @@ module _ {A : Type 0} (step : Shape A → Shape A) (image : A → Option Item) (
   each_faults_gathered (item v vs) e (inl h) = (h.0, inl h.1)
   each_faults_gathered (item v vs) e (inr h) = let g = each_faults_gathered vs e h in (g.0, inr g.1)
 
-  list_gathered : Passes ℕ (List A) (list_of (recursive step image)) (λ n. list_of (nested step image n))
+  list_gathered : IsCoveredBy ℕ (List A) (list_of (recursive step image)) (λ n. list_of (nested step image n))
   list_gathered =
       array_passes 0 (any_number (recursive step image)) (λ n. any_number (nested step image n))
       (record { describes = each_gathered; wrong_length = λ i vs h. h; fits = λ i vs h. h; faults = each_faults_gathered })

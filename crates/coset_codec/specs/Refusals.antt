@@ -3,11 +3,11 @@
 use Rattle.std.specs.Prelude.{◌≡◌, ◌≢◌, ◌<◌, ℕ, List, Some, Result, Err, length, take, IsErrAnd}
 use Rattle.coset_value.specs.Item.{Item}
 use Rattle.coset_value.specs.Parts.{as_tag}
-use Rattle.coset_cbor.specs.Fronts.{AreBytes, HasNoItem}
+use Rattle.coset_cbor.specs.Prefixes.{AreBytes, HasNoItem}
 use Rattle.coset_cbor.specs.Grammar.{IsItem}
 use Rattle.coset_codec.specs.declared.error.CoseError.{CoseError}
 use Rattle.coset_codec.specs.declared.error.CoseError.TheVariants.{ExtraneousData}
-use Rattle.coset_codec.specs.Answers.{IsByteFault}
+use Rattle.coset_codec.specs.Results.{IsByteFault}
 use Rattle.coset_codec.specs.Errors.{IsUnexpected, UnlessMemory}
 
 -- If no prefix of the bytes s is an item, the error names a fault in them.

@@ -4,7 +4,7 @@ use Rattle.std.specs.Prelude.{Result, Ok, Err, IfOk}
 use Rattle.std.specs.List.{list_all}
 use Rattle.std.specs.Map.{keys_of}
 use Rattle.coset_value.specs.Item.{Item}
-use Rattle.coset_codec.specs.Maps.{Names, are_distinct, entries_image, may_write}
+use Rattle.coset_codec.specs.Maps.{MapLabels, are_distinct, entries_image, may_write}
 
 -- If P implies Q, and P holds of the value in `Ok`, so does Q.
 pub if_ok : {T E : Type 0} (r : Result T E) (P Q : T → Type 0) → ((x : T) → P x → Q x) → IfOk r P → IfOk r Q
@@ -45,6 +45,6 @@ module _ {K N V : Type 0} (view : K → N) (value_item : V → Item) (eq : K →
   repeated-view b es p q = sym (are_distinct-view es) ∙ (not-not b (are_distinct eq (keys_of es)) p ∙ ap not q)
 
 -- No map is written if labels of the rest repeat and that is checked.
-pub no-entries : {N : Type 0} (n : Names N) (rest : List (N × Item)) (o : Option (List (N × Item))) → are_distinct n.same (keys_of rest) ≡ false
+pub no-entries : {N : Type 0} (n : MapLabels N) (rest : List (N × Item)) (o : Option (List (N × Item))) → are_distinct n.same (keys_of rest) ≡ false
     → entries_image n (may_write n true rest) rest o ≡ None
 no-entries n rest o e = ap (λ b. entries_image n b rest o) e

@@ -8,7 +8,7 @@ use Rattle.coset_cbor.specs.Least.{least_encoding}
 use Rattle.coset_codec.specs.declared.error.CoseError.{CoseError}
 use Rattle.coset_codec.specs.Errors.{IsUnexpected}
 use Rattle.coset_codec.specs.Shape.{Shape}
-use Rattle.coset_codec.specs.Answers.{Describes, IsWholeFault}
+use Rattle.coset_codec.specs.Results.{Describes, IsWholeFault}
 
 -- The content of the string. No bytes represent `empty`, and other bytes are one item, which s describes.
 abbrev pub ContentDescribes : {A : Type 0} → A → Shape A → List ℕ → A → Type 0

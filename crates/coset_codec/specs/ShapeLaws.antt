@@ -281,11 +281,11 @@ pub end_laws : LawfulElements (Unit {0}) end
 end_laws = record { unique = λ vs x y p q. refl; again = end_again; fits = λ vs x p m. m p; sound = λ vs x e p f. f }
 
 -- One more element at the front fits if the elements after it fit.
-pub fits_behind :
+pub fits_after :
     {A B : Type 0} (s : Shape A) (ps : Elements B) → ((vs : Items) (x : B) → ps.describes vs x → ps.wrong_length vs → ⊥) → (vs : Items) (x : A × B)
     → (s then ps).describes vs x → (s then ps).wrong_length vs → ⊥
-fits_behind s ps fits no_items x p m = p
-fits_behind s ps fits (item v vs) x p m = fits vs x.1 p.1 m
+fits_after s ps fits no_items x p m = p
+fits_after s ps fits (item v vs) x p m = fits vs x.1 p.1 m
 
 module _ {A B : Type 0} (s : Shape A) (ps : Elements B) (l : Lawful A s) (ls : LawfulElements B ps) where
   then_unique : (vs : Items) (x y : A × B) → (s then ps).describes vs x → (s then ps).describes vs y → x ≡ y
@@ -310,7 +310,7 @@ module _ {A B : Type 0} (s : Shape A) (ps : Elements B) (l : Lawful A s) (ls : L
   then_sound (item v vs) x e p (inr f) = ls.sound vs x.1 e p.1 f
 
   pub then_laws : LawfulElements (A × B) (s then ps)
-  then_laws = record { unique = then_unique; again = then_again; fits = fits_behind s ps ls.fits; sound = then_sound }
+  then_laws = record { unique = then_unique; again = then_again; fits = fits_after s ps ls.fits; sound = then_sound }
 
 module _ {A : Type 0} (s : Shape A) (l : Lawful A s) where
   each_unique : (vs : Items) (x y : List A) → Each s.describes vs x → Each s.describes vs y → x ≡ y

@@ -7,7 +7,7 @@ use Rattle.coset_cbor.specs.Pulls.{pull_bytes, pull_item}
 use Rattle.coset_codec.specs.declared.error.CoseError.{CoseError}
 use Rattle.coset_codec.specs.declared.error.CoseError.TheVariants.{OutOfMemory}
 use Rattle.coset_codec.specs.declared.read.source.ItemSource.{ItemSource}
-use Rattle.coset_codec.specs.declared.read.source.ItemSource.TheVariants.{Tree, Lent}
+use Rattle.coset_codec.specs.declared.read.source.ItemSource.TheVariants.{Tree, Borrowed}
 use Rattle.coset_codec.specs.Errors.{IsUnexpected}
 use Rattle.coset_codec.specs.Kinds.{Says}
 use Rattle.coset_codec.specs.Shape.{FirstWrongLength, IsEnd}
@@ -15,12 +15,12 @@ use Rattle.coset_codec.specs.Shape.{FirstWrongLength, IsEnd}
 -- The item of a source.
 abbrev pub source_item : ItemSource → Item
 source_item (Tree v) = value_item v
-source_item (Lent p) = pull_item p
+source_item (Borrowed p) = pull_item p
 
 -- The depth of a value, or the number of bytes of a borrowed item.
 abbrev pub source_size : ItemSource → ℕ
 source_size (Tree v) = depth (value_item v)
-source_size (Lent p) = length (pull_bytes p)
+source_size (Borrowed p) = length (pull_bytes p)
 
 -- A value of the item, or `OutOfMemory`.
 abbrev pub Copies : {T : Type 0} → (T → Item) → Item → Result T CoseError → Type 0

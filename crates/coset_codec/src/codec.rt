@@ -3,7 +3,7 @@
 ghost use Rattle.std.specs.Prelude.{◌≡◌, ◌↔◌, ℕ, ⊤, IfErr, IsTrue};
 ghost use Rattle.coset_cbor.specs.Least.{Extends};
 ghost use Rattle.coset_codec.specs.declared.error.CoseError.TheVariants.{OutOfMemory};
-ghost use Rattle.coset_codec.specs.Answers.{Reads};
+ghost use Rattle.coset_codec.specs.Results.{Reads};
 ghost use Rattle.coset_codec.specs.Encoding.{Encodes};
 ghost use Rattle.coset_codec.specs.Inputs.{State, tree, state, ReadsForward};
 ghost use Rattle.coset_codec.specs.Shape.{Shape};
@@ -125,7 +125,7 @@ impl<T: Codec> Encode for T {
 
 impl<T: Codec> FromPull for T {
     fn from_pull(alloc: Global, pull: Pull<'_>) -> Result<T> {
-        T::read(alloc, &mut Decoder::new(ItemSource::Lent(pull)))
+        T::read(alloc, &mut Decoder::new(ItemSource::Borrowed(pull)))
     }
 
     #[inline(always)]
@@ -137,7 +137,7 @@ impl<T: Codec> FromPull for T {
 impl<T: Codec> CborSerializable for T {
     fn from_slice(alloc: Global, s: &[u8]) -> Result<T> {
         let item = whole_item(s)?;
-        T::read(alloc, &mut Decoder::new(ItemSource::Lent(item)))
+        T::read(alloc, &mut Decoder::new(ItemSource::Borrowed(item)))
     }
 
     #[inline(always)]
@@ -153,12 +153,12 @@ impl<T: TaggedCodec> TaggedCborSerializable for T {
 
     fn from_tagged_slice(alloc: Global, s: &[u8]) -> Result<T> {
         let item = item_under_tag(T::TAG_NUMBER, whole_item(s)?)?;
-        T::read(alloc, &mut Decoder::new(ItemSource::Lent(item)))
+        T::read(alloc, &mut Decoder::new(ItemSource::Borrowed(item)))
     }
 
     fn from_any_slice(alloc: Global, s: &[u8]) -> Result<T> {
         let item = item_without_tag(T::TAG_NUMBER, whole_item(s)?);
-        T::read(alloc, &mut Decoder::new(ItemSource::Lent(item)))
+        T::read(alloc, &mut Decoder::new(ItemSource::Borrowed(item)))
     }
 
     #[inline(always)]

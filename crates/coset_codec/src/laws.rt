@@ -3,11 +3,11 @@
 
 ghost use Rattle.std.specs.Prelude.{◌≡◌, ◌↔◌, ◌≤◌, ◌⊎◌, IsTrue, List, Result, ℕ};
 ghost use Rattle.coset_value.specs.Item.{Item, depth};
-ghost use Rattle.coset_cbor.specs.Fronts.{AreBytes};
+ghost use Rattle.coset_cbor.specs.Prefixes.{AreBytes};
 ghost use Rattle.coset_cbor.specs.Grammar.{IsItem};
-ghost use Rattle.coset_codec.specs.Answers.{AllocatesForItems, Describes, Reads, ReadsSlice, RefusesItem};
+ghost use Rattle.coset_codec.specs.Results.{AllocatesForItems, Describes, Reads, ReadsSlice, RefusesItem};
 ghost use Rattle.coset_codec.specs.PerhapsTagged.{DescribesNoTag, perhaps_tagged};
-ghost use Rattle.coset_codec.specs.ReadAgain.{EncodesApart, ImagesApart, ReadsAgain, StaysAsWritten};
+ghost use Rattle.coset_codec.specs.ReadAgain.{EncodesInjectively, ImagesInjectively, ReadsAgain, StaysAsWritten};
 ghost use Rattle.coset_codec.specs.Refusals.{IsNoTag, NamesUnexpected, NamesWholeFault};
 ghost use Rattle.coset_codec.specs.Shape.{tagged};
 ghost use Rattle.coset_codec.specs.ShapeLaws.{Again};
@@ -31,7 +31,7 @@ pub fn one_value<T: AsCborValue>()
 
 /// Two encodings of one item describe the same value, or neither describes any. The same holds
 /// under a tag.
-pub fn spellings_agree<T: AsCborValue>()
+pub fn encodings_agree<T: AsCborValue>()
     ensures plain { (s t : List ℕ) (v : Item) (x : T.View) → IsItem s v → IsItem t v
         → Describes T.shape s x → Describes T.shape t x }
     ensures tagged { (n : ℕ) (s t : List ℕ) (v : Item) (x : T.View) → IsItem s v → IsItem t v
@@ -119,10 +119,10 @@ pub fn plain_or_tagged<T: Lawful>()
 /// if both are written plain, or both under one tag. It also holds for the items that they are
 /// written as. Each value may come from bytes (with or without a tag), a tree, a borrowed item, or
 /// a part of another value. The only premise is that some item describes it.
-pub fn written_apart<T: Lawful>()
-    ensures plain { EncodesApart T.shape }
-    ensures tagged { (n : ℕ) → EncodesApart (tagged n T.shape) }
-    ensures items { ImagesApart T.shape }
+pub fn encoding_is_injective<T: Lawful>()
+    ensures plain { EncodesInjectively T.shape }
+    ensures tagged { (n : ℕ) → EncodesInjectively (tagged n T.shape) }
+    ensures items { ImagesInjectively T.shape }
 {
     one_item();
     shortest_is_in_range();
@@ -136,7 +136,7 @@ pub fn stays_as_written<T: Lawful>()
     ensures tagged { (n : ℕ) → StaysAsWritten (tagged n T.shape) }
 {
     one_item();
-    written_apart::<T>();
+    encoding_is_injective::<T>();
 }
 
 /// `==` is equality of what contracts see.

@@ -6,7 +6,7 @@ ghost use Rattle.coset_value.specs.View.{value_item};
 ghost use Rattle.coset_cbor.specs.Pulls.{pull_bytes, pull_item};
 ghost use Rattle.coset_codec.specs.declared.error.CoseError.{CoseError};
 ghost use Rattle.coset_codec.specs.declared.error.CoseError.TheVariants.{OutOfMemory};
-ghost use Rattle.coset_codec.specs.Answers.{Reads, Images, Writes, ReadsSlice, ReadsWhole, Untags, AllocatesForItems, RefusesSlice};
+ghost use Rattle.coset_codec.specs.Results.{Reads, Images, Writes, ReadsSlice, ReadsWhole, Untags, AllocatesForItems, RefusesSlice};
 ghost use Rattle.coset_codec.specs.Inputs.{state, ReadsForward};
 ghost use Rattle.coset_codec.specs.PerhapsTagged.{perhaps_tagged, untagged};
 ghost use Rattle.coset_codec.specs.Shape.{Shape, any, tagged};
@@ -273,7 +273,7 @@ pub trait FromPull: AsCborValue {
     {
         match input.take()? {
             ItemSource::Tree(value) => Self::from_cbor_value(alloc, value),
-            ItemSource::Lent(pull) => Self::from_pull(alloc, pull),
+            ItemSource::Borrowed(pull) => Self::from_pull(alloc, pull),
         }
     }
 }

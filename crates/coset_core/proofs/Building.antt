@@ -1,7 +1,7 @@
 -- A header with one more counter signature.
 use Rattle.std.proofs.Common.{◌≡◌, List, [], ◌∷◌, ◌++◌, map, refl, ap, sym, ◌∙◌}
 use Rattle.std.proofs.lemmas.List.{map_push}
-use Rattle.coset_core.specs.Built.{and_last, and_counter_signature, and_countersignature_v2}
+use Rattle.coset_core.specs.Built.{and_last, push_counter_signature, push_countersignature_v2}
 use Rattle.coset_core.specs.FieldViews.{fields_level}
 use Rattle.coset_core.specs.Headers.{HeaderView, Signatures, header_of, SignatureView, and_signatures, signatures_of}
 use Rattle.coset_core.specs.ViewLaws.{HeaderLevel, header-made, header-opened}
@@ -25,24 +25,24 @@ pub counter_signature-added :
     (h : Header) (x : HeaderLevel) (s : CoseSignature) → fields_level x ≡ fields_level (out-Header h)
     → x.counter_signatures.items ≡ (out-Header h).counter_signatures.items ++ s ∷ []
     → x.countersignatures_v2.items ≡ (out-Header h).countersignatures_v2.items
-    → header_view (roll-Header x) ≡ and_counter_signature (signature_view s) (header_view h)
+    → header_view (roll-Header x) ≡ push_counter_signature (signature_view s) (header_view h)
 counter_signature-added h x s fields pushed others =
     let old : List CoseSignature = (out-Header h).counter_signatures.items in
     header-made x
     ∙ (λ i. header_of (fields i) (signatures_of (map signature_view (pushed i))) (signatures_of (map countersignature_view (others i))))
     ∙ ap (λ ss. with_first h (signatures_of ss)) (map_push signature_view old s)
     ∙ ap (with_first h) (signatures-pushed (map signature_view old) (signature_view s))
-    ∙ sym (ap (and_counter_signature (signature_view s)) (header-opened h))
+    ∙ sym (ap (push_counter_signature (signature_view s)) (header-opened h))
 
 pub countersignature-added :
     (h : Header) (x : HeaderLevel) (s : CoseCountersignature) → fields_level x ≡ fields_level (out-Header h)
     → x.counter_signatures.items ≡ (out-Header h).counter_signatures.items
     → x.countersignatures_v2.items ≡ (out-Header h).countersignatures_v2.items ++ s ∷ []
-    → header_view (roll-Header x) ≡ and_countersignature_v2 (countersignature_view s) (header_view h)
+    → header_view (roll-Header x) ≡ push_countersignature_v2 (countersignature_view s) (header_view h)
 countersignature-added h x s fields others pushed =
     let old : List CoseCountersignature = (out-Header h).countersignatures_v2.items in
     header-made x
     ∙ (λ i. header_of (fields i) (signatures_of (map signature_view (others i))) (signatures_of (map countersignature_view (pushed i))))
     ∙ ap (λ ts. with_second h (signatures_of ts)) (map_push countersignature_view old s)
     ∙ ap (with_second h) (signatures-pushed (map countersignature_view old) (countersignature_view s))
-    ∙ sym (ap (and_countersignature_v2 (countersignature_view s)) (header-opened h))
+    ∙ sym (ap (push_countersignature_v2 (countersignature_view s)) (header-opened h))

@@ -11,21 +11,21 @@ use Rattle.coset_codec.specs.declared.read.decoder.MapEntries.{MapEntries}
 use Rattle.coset_codec.specs.declared.error.ErrorStored.{ErrorStored}
 use Rattle.coset_codec.specs.Errors.{UnlessMemory, IsUnexpected, stored}
 use Rattle.coset_codec.specs.Inputs.{State, ItemAt, AreWithin, PairsWithin, EntersMap, Nexts, ReadsAt}
-use Rattle.coset_codec.specs.Maps.{GatherFaults, labelled, SomePair, and_pairs, optional, unless_empty, is_nonempty}
+use Rattle.coset_codec.specs.Maps.{VisitorFaults, labelled, SomePair, and_pairs, optional, unless_empty, is_nonempty}
 use Rattle.coset_codec.specs.Shape.{Shape, Each, any, bstr, any_number, one_or_more, one_or_many}
 use Rattle.coset_codec.proofs.Walking.{sets_out, goes_on, arrives, refuses}
 use Rattle.coset_codec.specs.InPlace.{Fills, FillsEach}
 use Rattle.coset_codec.proofs.InPlace.{not_filled}
-use Rattle.coset_label.specs.Labels.{label, names}
-use Rattle.coset_label.specs.LabelLaws.{names_laws}
+use Rattle.coset_label.specs.Labels.{label, cose_labels}
+use Rattle.coset_label.specs.LabelLaws.{cose_labels_laws}
 use Rattle.coset_core.specs.OneOrMore.{Begins}
 use Rattle.coset_core.specs.FieldLabels as labels
-use Rattle.coset_core.specs.Fields.{FieldsView, Versions, empty_fields, fields, parts_of, excludes, HasOneIv, partial_header, HoldsSignatures}
+use Rattle.coset_core.specs.Fields.{FieldsView, PerVersion, empty_fields, fields, parts_of, excludes, HasOneIv, partial_header, IsCountersignatureLabel}
 use Rattle.coset_core.specs.Fields.{SomeCounterSignatures}
 use Rattle.coset_core.specs.FieldLaws.{partial_fields_laws, join, barred_fault}
-use Rattle.coset_core.specs.FieldViews.{signatures_held, fields_view, counter_signatures_held, countersignatures_held}
-use Rattle.coset_core.specs.Filling.{WalksTo, AtHeld, AtEnd, FillsFields, IsDistinctRest, Keeps, BeginsElements, EndsElements, FirstPlace, label_of, at_version}
-use Rattle.coset_core.specs.Filling.{with_version, held, held_of}
+use Rattle.coset_core.specs.FieldViews.{signature_lists, fields_view, counter_signature_list, countersignature_v2_list}
+use Rattle.coset_core.specs.Filling.{WalksTo, AtCounterSignatures, AtEnd, FillsFields, IsDistinctRest, Keeps, BeginsElements, EndsElements, FirstPlace, label_of, at_version}
+use Rattle.coset_core.specs.Filling.{with_version, signature_views, signatures_of_version}
 use Rattle.coset_core.specs.HeaderAgain.{array-is, bytes-is, never_none}
 use Rattle.coset_core.specs.HeaderReads.{partial_header_fault, counter_signatures_fault}
 use Rattle.coset_core.specs.Headers.{HeaderView, fields_in, counter_signatures_in, countersignatures_in, SignatureView, empty_header, layered_header}
@@ -33,8 +33,8 @@ use Rattle.coset_core.specs.Headers.{layered_protected, layered_signature, signa
 use Rattle.coset_core.specs.ViewLaws.{header-opened}
 use Rattle.coset_core.specs.Views.{countersignature_view, header_view, signature_view}
 use Rattle.coset_core.specs.declared.header.Header.{Header}
-use Rattle.coset_core.specs.declared.header.reading.Version.{Version}
-use Rattle.coset_core.specs.declared.header.reading.Version.TheVariants.{V1, V2}
+use Rattle.coset_core.specs.declared.header.reading.CountersignatureVersion.{CountersignatureVersion}
+use Rattle.coset_core.specs.declared.header.reading.CountersignatureVersion.TheVariants.{V1, V2}
 use Rattle.coset_core.proofs.Putting.{none_held}
 use Rattle.coset_core.proofs.Reading.{no_string, header_whole}
 
@@ -54,10 +54,10 @@ not_entered k v h t z r e y is m = (m.0, not_filled (layered_header k) h v r e y
 fields_opened : (h : Header) → header_view h ≡ empty_header → fields_view h ≡ empty_fields
 fields_opened h e = sym (ap fields_in (header-opened h)) ∙ ap fields_in e
 
-pub none_held_yet : (h : Header) → header_view h ≡ empty_header → held h ≡ ([], [])
-none_held_yet h e =
-    let first = none_held signature_view (counter_signatures_held h) (sym (ap counter_signatures_in (header-opened h)) ∙ ap counter_signatures_in e) in
-    let second = none_held countersignature_view (countersignatures_held h) (sym (ap countersignatures_in (header-opened h)) ∙ ap countersignatures_in e) in
+pub no_signatures_yet : (h : Header) → header_view h ≡ empty_header → signature_views h ≡ ([], [])
+no_signatures_yet h e =
+    let first = none_held signature_view (counter_signature_list h) (sym (ap counter_signatures_in (header-opened h)) ∙ ap counter_signatures_in e) in
+    let second = none_held countersignature_view (countersignature_v2_list h) (sym (ap countersignatures_in (header-opened h)) ∙ ap countersignatures_in e) in
     λ i. (map signature_view (first i), map countersignature_view (second i))
 
 pub one_iv_yet : (h : Header) → header_view h ≡ empty_header → HasOneIv (fields_view h)
@@ -66,11 +66,11 @@ one_iv_yet h e = inl (ap (λ f. f.iv) (fields_opened h e))
 set_out : (h : Header) (all : Pairs) → header_view h ≡ empty_header → WalksTo all (fields_view h) (None, None) all
 set_out h all e =
     subst (λ f. WalksTo all f (None, None) all) (sym (fields_opened h e))
-    (sets_out names names_laws (fields (optional any) (optional any)) partial_fields_laws all (parts_of (empty_fields, (None, None)))
+    (sets_out cose_labels cose_labels_laws (fields (optional any) (optional any)) partial_fields_laws all (parts_of (empty_fields, (None, None)))
     (refl, (refl, (refl, (refl, (refl, (refl, (refl, (refl, (refl, tt))))))))) refl)
 
 -- A fault of the pairs is a fault of the map.
-gather_fault : (v : Item) (e : CoseError) → GatherFaults names (fields (optional any) (optional any)) excludes v e → partial_header.faults v e
+gather_fault : (v : Item) (e : CoseError) → VisitorFaults cose_labels (fields (optional any) (optional any)) excludes v e → partial_header.faults v e
 unfolding partial_header
 gather_fault v e (inl g) = inl g
 gather_fault v e (inr g) = barred_fault v e g
@@ -80,12 +80,12 @@ Passed m t z = (left : Pairs) × PairsWithin m left t z
 
 -- The state after some pairs: the fields that they make, and the counter signatures in the values of labels 7 and 11.
 pub record HeaderSoFar (k : ℕ) (all : Pairs) (h : Header) (t z : State) (m : MapEntries) : Type 0 where
-  pub values : Versions (Option Item)
+  pub values : PerVersion (Option Item)
   pub left : Pairs
   pub walks : WalksTo all (fields_view h) values left
   pub within : PairsWithin m left t z
-  pub first : (unless_empty (signatures_within k)).describes values.0 (held h).0
-  pub second : (unless_empty (signatures_within k)).describes values.1 (held h).1
+  pub first : (unless_empty (signatures_within k)).describes values.0 (signature_views h).0
+  pub second : (unless_empty (signatures_within k)).describes values.1 (signature_views h).1
 
 -- The state before any pair.
 pub so_far_none : (k : ℕ) (all : Pairs) (h : Header) (t z : State) (m : MapEntries) → header_view h ≡ empty_header → PairsWithin m all t z
@@ -95,13 +95,13 @@ so_far_none k all h t z m e within = record {
   left = all;
   walks = set_out h all e;
   within = within;
-  first = ap (λ x. x.0) (none_held_yet h e);
-  second = ap (λ x. x.1) (none_held_yet h e);
+  first = ap (λ x. x.0) (no_signatures_yet h e);
+  second = ap (λ x. x.1) (no_signatures_yet h e);
 }
 
 -- One of the next pairs has a fault.
 pub pairs_refused :
-    (k : ℕ) (all : Pairs) (o : Versions (Option Item)) (z : State) (f : FieldsView) (t : State) (m : MapEntries) (h : HeaderView)
+    (k : ℕ) (all : Pairs) (o : PerVersion (Option Item)) (z : State) (f : FieldsView) (t : State) (m : MapEntries) (h : HeaderView)
     (r : Result (Unit {0}) ErrorStored) (e : CoseError) (y : ErrorStored) → IsErrAnd r (λ i. i ≡ y)
     → FillsFields all o z f t m (Err e) → Passed m t z × Fills (layered_header k) (dict all) h (stored e r)
 pairs_refused k all o z f t m h r e y is p = (
@@ -110,25 +110,25 @@ pairs_refused k all o z f t m h r e y is p = (
 )
 
 -- All pairs were read.
-unread_all : (all : Pairs) (o : Versions (Option Item)) (f : FieldsView) (t z : State) (m : MapEntries) → AtEnd all o f t z m → IsDistinctRest f → HasOneIv f
+unread_all : (all : Pairs) (o : PerVersion (Option Item)) (f : FieldsView) (t z : State) (m : MapEntries) → AtEnd all o f t z m → IsDistinctRest f → HasOneIv f
     → partial_header.describes (dict all) (f, o)
 unfolding partial_header
 unread_all all o f t z m p d one = (
-  arrives names names_laws (fields (optional any) (optional any)) partial_fields_laws (dict all) all no_pairs
+  arrives cose_labels cose_labels_laws (fields (optional any) (optional any)) partial_fields_laws (dict all) all no_pairs
       (parts_of (f, o)) refl p.walks refl d,
   one,
 )
 
 pub ends :
     (k : ℕ) (all : Pairs) (z : State) (g h : Header) (s t : State) (m n : MapEntries) → (p : HeaderSoFar k all g s z m)
-    → FillsFields all p.values z (fields_view h) t n (Ok None) → HasOneIv (fields_view h) → signatures_held h ≡ signatures_held g
+    → FillsFields all p.values z (fields_view h) t n (Ok None) → HasOneIv (fields_view h) → signature_lists h ≡ signature_lists g
     → Passed n t z × (layered_header k).describes (dict all) (header_view h)
 ends k all z g h s t m n p q one same =
     let first = subst (λ xs. (unless_empty (signatures_within k)).describes p.values.0 (map signature_view xs)) (sym (ap (λ x. x.0) same)) p.first in
     let second = subst (λ xs. (unless_empty (signatures_within k)).describes p.values.1 (map countersignature_view xs)) (sym (ap (λ x. x.1) same)) p.second in (
       (no_pairs, q.0.within),
-      header_whole k (dict all) (header_view h) (fields_view h) (held h).0 (held h).1
-          (join (unless_empty (signatures_within k)) (unless_empty (signatures_within k)) (dict all) (fields_view h) p.values (held h)
+      header_whole k (dict all) (header_view h) (fields_view h) (signature_views h).0 (signature_views h).1
+          (join (unless_empty (signatures_within k)) (unless_empty (signatures_within k)) (dict all) (fields_view h) p.values (signature_views h)
           (unread_all all p.values (fields_view h) t z n q.0 q.1 one) first second) (header-opened h),
     )
 
@@ -137,24 +137,27 @@ some_there : (P : Item → Item → Type 0) (done others : Pairs) (k v : Item) �
 some_there P no_pairs others k v p = inl p
 some_there P (pair j w done) others k v p = inr (some_there P done others k v p)
 
-named : (version : Version) (key : Item) → label.describes key (label_of version) → HoldsSignatures key
+named : (version : CountersignatureVersion) (key : Item) → label.describes key (label_of version) → IsCountersignatureLabel key
 named V1 key h = inl h
 named V2 key h = inr h
 
-held_there : (version : Version) (all : Pairs) (o : Versions (Option Item)) (f : FieldsView) (t z : State) (m : MapEntries) → (s : AtHeld version all o f t z m)
+held_there : (version : CountersignatureVersion) (all : Pairs) (o : PerVersion (Option Item)) (f : FieldsView) (t z : State) (m : MapEntries)
+    → (s : AtCounterSignatures version all o f t z m)
     → SomeCounterSignatures (λ u. u ≡ s.value) (dict all)
 held_there version all o f t z m s = (
   all,
   refl,
-  subst (SomePair (λ j w. HoldsSignatures j × (w ≡ s.value))) (sym s.walks.parts)
-      (some_there (λ j w. HoldsSignatures j × (w ≡ s.value)) s.walks.done s.others s.key s.value (named version s.key s.held, refl)),
+  subst (SomePair (λ j w. IsCountersignatureLabel j × (w ≡ s.value))) (sym s.walks.parts)
+      (some_there (λ j w. IsCountersignatureLabel j × (w ≡ s.value)) s.walks.done s.others s.key s.value (named version s.key s.is_label, refl)),
 )
 
 -- The value of counter signatures was refused, or there was no memory to store the signatures.
 pub counter_signatures_refused :
-    (version : Version) (k : ℕ) (all : Pairs) (o : Versions (Option Item)) (f : FieldsView) (t u z : State) (m : MapEntries) (xs : List SignatureView)
+    (version : CountersignatureVersion) (k : ℕ) (all : Pairs) (o : PerVersion (Option Item)) (f : FieldsView) (t u z : State) (m : MapEntries)
+    (xs : List SignatureView)
     (h : HeaderView) (r : Result (Unit {0}) ErrorStored) (e : CoseError) (y : ErrorStored)
-    → IsErrAnd r (λ i. i ≡ y) → AtHeld version all o f t z m → ((w : Item) (x : State) → ItemAt w t x → (u ≡ x) × Fills (signatures_within k) w xs (Err e))
+    → IsErrAnd r (λ i. i ≡ y) → AtCounterSignatures version all o f t z m
+    → ((w : Item) (x : State) → ItemAt w t x → (u ≡ x) × Fills (signatures_within k) w xs (Err e))
     → Passed m u z × Fills (layered_header k) (dict all) h (stored e r)
 counter_signatures_refused version k all o f t u z m xs h r e y is s read =
     let here = read s.value s.mid s.stands in (
@@ -164,9 +167,11 @@ counter_signatures_refused version k all o f t u z m xs h r e y is s read =
     )
 
 pub not_kept :
-    (version : Version) (k : ℕ) (all : Pairs) (o : Versions (Option Item)) (f : FieldsView) (t u z : State) (m : MapEntries) (xs : List SignatureView)
+    (version : CountersignatureVersion) (k : ℕ) (all : Pairs) (o : PerVersion (Option Item)) (f : FieldsView) (t u z : State) (m : MapEntries)
+    (xs : List SignatureView)
     (h : HeaderView) (r : Result (Unit {0}) ErrorStored) (e : CoseError) (y : ErrorStored)
-    → IsErrAnd r (λ i. i ≡ y) → AtHeld version all o f t z m → ((w : Item) (x : State) → ItemAt w t x → (u ≡ x) × (signatures_within k).describes w xs)
+    → IsErrAnd r (λ i. i ≡ y) → AtCounterSignatures version all o f t z m
+    → ((w : Item) (x : State) → ItemAt w t x → (u ≡ x) × (signatures_within k).describes w xs)
     → e ≡ OutOfMemory → Passed m u z × Fills (layered_header k) (dict all) h (stored e r)
 not_kept version k all o f t u z m xs h r e y is s read memory =
     let here = read s.value s.mid s.stands in (
@@ -176,15 +181,17 @@ not_kept version k all o f t u z m xs h r e y is s read memory =
 
 -- The value of counter signatures was read and stored.
 taken :
-    (version : Version) (all : Pairs) (f : FieldsView) (o : Versions (Option Item)) (key value : Item) (others : Pairs)
+    (version : CountersignatureVersion) (all : Pairs) (f : FieldsView) (o : PerVersion (Option Item)) (key value : Item) (others : Pairs)
     → WalksTo all f o (pair key value others) → label.describes key (label_of version) → at_version version o ≡ None
     → WalksTo all f (with_version version (Some value) o) others
 taken V1 all f o key value others w h none =
-    goes_on names names_laws (fields (optional any) (optional any)) partial_fields_laws all (pair key value others) others key value (parts_of (f, o))
+    goes_on cose_labels cose_labels_laws (fields (optional any) (optional any)) partial_fields_laws all (pair key value others) others key value
+    (parts_of (f, o))
     (parts_of (f, (Some value, o.1))) w refl
     (labels.counter_signature, h, ((refl, (refl, (refl, (refl, (refl, (refl, (none, refl, refl))))))), refl))
 taken V2 all f o key value others w h none =
-    goes_on names names_laws (fields (optional any) (optional any)) partial_fields_laws all (pair key value others) others key value (parts_of (f, o))
+    goes_on cose_labels cose_labels_laws (fields (optional any) (optional any)) partial_fields_laws all (pair key value others) others key value
+    (parts_of (f, o))
     (parts_of (f, (o.0, Some value))) w refl
     (labels.countersignature_v2, h, ((refl, (refl, (refl, (refl, (refl, (refl, (refl, (none, refl, refl)))))))), refl))
 
@@ -202,9 +209,11 @@ no_value k (Some w) [] d e = absurd (never_empty k w d)
 no_value k (Some w) (x ∷ xs) d e = absurd (true≢false e)
 
 pub so_far_more :
-    (version : Version) (k : ℕ) (all : Pairs) (g h i : Header) (s t u z : State) (m n : MapEntries) (xs : List SignatureView) → (p : HeaderSoFar k all g s z m)
-    → AtHeld version all p.values (fields_view h) t z n → signatures_held h ≡ signatures_held g
-    → is_nonempty (held_of version h) ≡ false → ((w : Item) (y : State) → ItemAt w t y → (u ≡ y) × (signatures_within k).describes w xs) → Keeps version xs h i
+    (version : CountersignatureVersion) (k : ℕ) (all : Pairs) (g h i : Header) (s t u z : State) (m n : MapEntries) (xs : List SignatureView)
+    → (p : HeaderSoFar k all g s z m)
+    → AtCounterSignatures version all p.values (fields_view h) t z n → signature_lists h ≡ signature_lists g
+    → is_nonempty (signatures_of_version version h) ≡ false → ((w : Item) (y : State) → ItemAt w t y → (u ≡ y) × (signatures_within k).describes w xs)
+    → Keeps version xs h i
     → HeaderSoFar k all i u z n
 so_far_more V1 k all g h i s t u z m n xs p at same empty read kept =
     let here = read at.value at.mid at.stands in
@@ -214,7 +223,7 @@ so_far_more V1 k all g h i s t u z m n xs p at same empty read kept =
       values = (Some at.value, p.values.1);
       left = at.others;
       walks = subst (λ f. WalksTo all f (Some at.value, p.values.1) at.others) (sym kept.fields)
-          (taken V1 all (fields_view h) p.values at.key at.value at.others at.walks at.held (no_value k p.values.0 (held h).0 first empty));
+          (taken V1 all (fields_view h) p.values at.key at.value at.others at.walks at.is_label (no_value k p.values.0 (signature_views h).0 first empty));
       within = subst (λ y. PairsWithin n at.others y z) (sym here.0) at.within;
       first = subst (λ x. (unless_empty (signatures_within k)).describes (Some at.value) x.0) (sym kept.signatures) here.1;
       second = subst (λ x. (unless_empty (signatures_within k)).describes p.values.1 x.1) (sym kept.signatures) second;
@@ -227,7 +236,7 @@ so_far_more V2 k all g h i s t u z m n xs p at same empty read kept =
       values = (p.values.0, Some at.value);
       left = at.others;
       walks = subst (λ f. WalksTo all f (p.values.0, Some at.value) at.others) (sym kept.fields)
-          (taken V2 all (fields_view h) p.values at.key at.value at.others at.walks at.held (no_value k p.values.1 (held h).1 second empty));
+          (taken V2 all (fields_view h) p.values at.key at.value at.others at.walks at.is_label (no_value k p.values.1 (signature_views h).1 second empty));
       within = subst (λ y. PairsWithin n at.others y z) (sym here.0) at.within;
       first = subst (λ x. (unless_empty (signatures_within k)).describes p.values.0 x.0) (sym kept.signatures) first;
       second = subst (λ x. (unless_empty (signatures_within k)).describes (Some at.value) x.1) (sym kept.signatures) here.1;
@@ -238,20 +247,21 @@ some_value : (k : ℕ) (o : Option Item) (xs : List SignatureView) → (unless_e
 some_value k None xs d e none = absurd (true≢false (sym e ∙ ap is_nonempty d))
 some_value k (Some w) xs d e none = absurd (cc)
 
-repeated : (version : Version) (all : Pairs) (f : FieldsView) (o : Versions (Option Item)) (key value : Item) (others : Pairs)
+repeated : (version : CountersignatureVersion) (all : Pairs) (f : FieldsView) (o : PerVersion (Option Item)) (key value : Item) (others : Pairs)
     → WalksTo all f o (pair key value others) → label.describes key (label_of version) → (at_version version o ≡ None → ⊥)
-    → (labelled names (fields (optional any) (optional any))).faults (dict all) DuplicateMapKey
+    → (labelled cose_labels (fields (optional any) (optional any))).faults (dict all) DuplicateMapKey
 repeated V1 all f o key value others w h some =
-    refuses names names_laws (fields (optional any) (optional any)) partial_fields_laws (dict all) all (pair key value others) others key value
+    refuses cose_labels cose_labels_laws (fields (optional any) (optional any)) partial_fields_laws (dict all) all (pair key value others) others key value
     (parts_of (f, o)) DuplicateMapKey refl w refl (inr (labels.counter_signature, h, inl (some, refl)))
 repeated V2 all f o key value others w h some =
-    refuses names names_laws (fields (optional any) (optional any)) partial_fields_laws (dict all) all (pair key value others) others key value
+    refuses cose_labels cose_labels_laws (fields (optional any) (optional any)) partial_fields_laws (dict all) all (pair key value others) others key value
     (parts_of (f, o)) DuplicateMapKey refl w refl (inr (labels.countersignature_v2, h, inl (some, refl)))
 
 pub second_refused :
-    (version : Version) (k : ℕ) (all : Pairs) (g h : Header) (s t u z : State) (m n : MapEntries) (x : HeaderView) (r : Result (Unit {0}) CoseError)
-    → (p : HeaderSoFar k all g s z m) → AtHeld version all p.values (fields_view h) t z n → signatures_held h ≡ signatures_held g
-    → is_nonempty (held_of version h) ≡ true → ((w : Item) (y : State) → ItemAt w t y → (u ≡ y) × (r ≡ Err DuplicateMapKey)) → Passed n u z
+    (version : CountersignatureVersion) (k : ℕ) (all : Pairs) (g h : Header) (s t u z : State) (m n : MapEntries) (x : HeaderView)
+    (r : Result (Unit {0}) CoseError)
+    → (p : HeaderSoFar k all g s z m) → AtCounterSignatures version all p.values (fields_view h) t z n → signature_lists h ≡ signature_lists g
+    → is_nonempty (signatures_of_version version h) ≡ true → ((w : Item) (y : State) → ItemAt w t y → (u ≡ y) × (r ≡ Err DuplicateMapKey)) → Passed n u z
     × Fills (layered_header k) (dict all) x r
 second_refused version k all g h s t u z m n x r p at same filled read =
     let here = read at.value at.mid at.stands in (
@@ -259,13 +269,13 @@ second_refused version k all g h s t u z m n x r p at same filled read =
       subst (Fills (layered_header k) (dict all) x) (sym here.1)
           (λ _. partial_header_fault k (dict all) DuplicateMapKey
           (gather_fault (dict all) DuplicateMapKey
-          (inl (repeated version all (fields_view h) p.values at.key at.value at.others at.walks at.held (there version filled))))),
+          (inl (repeated version all (fields_view h) p.values at.key at.value at.others at.walks at.is_label (there version filled))))),
     )
   where
-    there : (version : Version) → is_nonempty (held_of version h) ≡ true → at_version version p.values ≡ None → ⊥
-    there V1 filled = some_value k p.values.0 (held h).0
+    there : (version : CountersignatureVersion) → is_nonempty (signatures_of_version version h) ≡ true → at_version version p.values ≡ None → ⊥
+    there V1 filled = some_value k p.values.0 (signature_views h).0
         (subst (λ ys. (unless_empty (signatures_within k)).describes p.values.0 (map signature_view ys)) (sym (ap (λ x. x.0) same)) p.first) filled
-    there V2 filled = some_value k p.values.1 (held h).1
+    there V2 filled = some_value k p.values.1 (signature_views h).1
         (subst (λ ys. (unless_empty (signatures_within k)).describes p.values.1 (map countersignature_view ys)) (sym (ap (λ x. x.1) same)) p.second) filled
 
 -- ---- one signature or several

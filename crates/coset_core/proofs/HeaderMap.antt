@@ -5,12 +5,12 @@ use Rattle.coset_codec.specs.declared.error.CoseError.{CoseError}
 use Rattle.coset_codec.specs.Maps.{FieldShape, unless_empty, optional, IfThenElse, SomePair, PairFaults, entries_image, may_write}
 use Rattle.coset_codec.specs.Serialized.{ContentDescribes, ContentFaults}
 use Rattle.coset_codec.specs.Shape.{Shape, Each, EachFaults, both, any, bstr, ◌then◌, end, one_or_array}
-use Rattle.coset_label.specs.Labels.{label, names}
-use Rattle.coset_label.specs.Names.{Name, same_name}
-use Rattle.coset_label.specs.LabelLaws.{names_laws}
+use Rattle.coset_label.specs.Labels.{label, cose_labels}
+use Rattle.coset_label.specs.LabelData.{LabelView, same_label}
+use Rattle.coset_label.specs.LabelLaws.{cose_labels_laws}
 use Rattle.coset_core.specs.FieldLabels as labels
 use Rattle.coset_core.specs.FieldLaws.{join, image_with}
-use Rattle.coset_core.specs.Fields.{FieldsView, Versions, fields, map_with, partial_header, HoldsSignatures, SomeCounterSignatures}
+use Rattle.coset_core.specs.Fields.{FieldsView, PerVersion, fields, map_with, partial_header, IsCountersignatureLabel, SomeCounterSignatures}
 use Rattle.coset_core.specs.HeaderMap.{each_of, header_with, header_parts, header_map}
 use Rattle.coset_core.specs.HeaderReads.{signed_as, ProtectedOf, header_read_with, faults_read, protected_faults, unprotected_faults}
 use Rattle.coset_core.specs.HeaderWrites.{images_signatures}
@@ -96,19 +96,19 @@ not_later f (Some a) None h = refl
 not_later f None o h = refl
 
 -- If the fields have no image, the map has none.
-no_entries : (rest : List (Name × Item)) (b : Bool) (o : Option (List (Name × Item))) → o ≡ None → entries_image names b rest o ≡ None
-no_entries rest true o h = ap (entries_image names true rest) h
+no_entries : (rest : List (LabelView × Item)) (b : Bool) (o : Option (List (LabelView × Item))) → o ≡ None → entries_image cose_labels b rest o ≡ None
+no_entries rest true o h = ap (entries_image cose_labels true rest) h
 no_entries rest false o h = refl
 
 -- So the image of a header is the image of the map, given the images of its signatures.
-module _ (c : FieldShape (List SignatureView)) (f : FieldsView) (x : Versions (List SignatureView)) where
+module _ (c : FieldShape (List SignatureView)) (f : FieldsView) (x : PerVersion (List SignatureView)) where
   map_image : (o p : Option (Option Item)) → c.image x.0 ≡ o → c.image x.1 ≡ p → header_item f o p ≡ (map_with c c).image (f, x)
   map_image (Some v) (Some w) h k = image_with c c f x v w h k
   map_image (Some v) None h k =
-      sym (no_entries f.rest (may_write names true f.rest) _
+      sym (no_entries f.rest (may_write cose_labels true f.rest) _
       (not_later _ _ _ (not_later _ _ _ (not_later _ _ _ (not_later _ _ _ (not_later _ _ _ (not_later _ _ _ (not_later _ _ _ (not_first _ _ _ k)))))))))
   map_image None p h k =
-      sym (no_entries f.rest (may_write names true f.rest) _
+      sym (no_entries f.rest (may_write cose_labels true f.rest) _
       (not_later _ _ _ (not_later _ _ _ (not_later _ _ _ (not_later _ _ _ (not_later _ _ _ (not_later _ _ _ (not_first _ _ _ h))))))))
 
 pub header_written : (k : ℕ) (h : HeaderView) → (layered_header k).image h ≡ (header_map (signatures_within k)).image h
@@ -139,16 +139,16 @@ past true P Q R f h = absurd h
 past false P Q R f h = f h
 
 -- The label is 7 or 11.
-abbrev IsVersion : Name → Type 0
-IsVersion m = (same_name labels.counter_signature m ≡ true) ⊎ (same_name labels.countersignature_v2 m ≡ true)
+abbrev IsVersion : LabelView → Type 0
+IsVersion m = (same_label labels.counter_signature m ≡ true) ⊎ (same_label labels.countersignature_v2 m ≡ true)
 
 module _ (s : Shape (List SignatureView)) (e : CoseError) where
   -- A fault in the value of a field is a fault of an undecoded value, or a fault of signatures.
   field_split :
-      (m : Name) (v : Item) → (fields (unless_empty s) (unless_empty s)).faults m v e
+      (m : LabelView) (v : Item) → (fields (unless_empty s) (unless_empty s)).faults m v e
       → (fields (optional any) (optional any)).faults m v e ⊎ (IsVersion m × s.faults v e)
   field_split m v =
-      let asked : Name → Bool = λ l. same_name l m in
+      let asked : LabelView → Bool = λ l. same_label l m in
       later (asked labels.alg) _ _ _ _ (
       later (asked labels.crit) _ _ _ _ (
       later (asked labels.content_type) _ _ _ _ (
@@ -159,9 +159,9 @@ module _ (s : Shape (List SignatureView)) (e : CoseError) where
       here (asked labels.countersignature_v2) _ _ _ _ (λ b f. (inr b, f)) (λ h. inl h))))))))
 
   -- Conversely, a fault of an undecoded value or of signatures is a fault of the map.
-  field_left : (m : Name) (v : Item) → (fields (optional any) (optional any)).faults m v e → (fields (unless_empty s) (unless_empty s)).faults m v e
+  field_left : (m : LabelView) (v : Item) → (fields (optional any) (optional any)).faults m v e → (fields (unless_empty s) (unless_empty s)).faults m v e
   field_left m v =
-      let asked : Name → Bool = λ l. same_name l m in
+      let asked : LabelView → Bool = λ l. same_label l m in
       further (asked labels.alg) _ _ _ (
       further (asked labels.crit) _ _ _ (
       further (asked labels.content_type) _ _ _ (
@@ -170,19 +170,19 @@ module _ (s : Shape (List SignatureView)) (e : CoseError) where
       further (asked labels.partial_iv) _ _ _ (
       past (asked labels.counter_signature) _ _ _ (past (asked labels.countersignature_v2) _ _ _ (λ h. h))))))))
 
-  holds : (k : Item) (m : Name) → label.describes k m → IsVersion m → HoldsSignatures k
-  holds k m d (inl b) = inl (subst (label.describes k) (sym (names_laws.same_is labels.counter_signature m b)) d)
-  holds k m d (inr b) = inr (subst (label.describes k) (sym (names_laws.same_is labels.countersignature_v2 m b)) d)
+  holds : (k : Item) (m : LabelView) → label.describes k m → IsVersion m → IsCountersignatureLabel k
+  holds k m d (inl b) = inl (subst (label.describes k) (sym (cose_labels_laws.same_is labels.counter_signature m b)) d)
+  holds k m d (inr b) = inr (subst (label.describes k) (sym (cose_labels_laws.same_is labels.countersignature_v2 m b)) d)
 
   pair_split :
-      (k v : Item) → PairFaults names (fields (unless_empty s) (unless_empty s)) e k v
-      → PairFaults names (fields (optional any) (optional any)) e k v ⊎ (HoldsSignatures k × s.faults v e)
+      (k v : Item) → PairFaults cose_labels (fields (unless_empty s) (unless_empty s)) e k v
+      → PairFaults cose_labels (fields (optional any) (optional any)) e k v ⊎ (IsCountersignatureLabel k × s.faults v e)
   pair_split k v (inl h) = inl (inl h)
   pair_split k v (inr h) = elim (field_split h.0 v h.2) [ inl g ↦ inl (inr (h.0, h.1, g)) | inr g ↦ inr (holds k h.0 h.1 g.0, g.1) ]
 
   pairs_split :
-      (ps : Pairs) → SomePair (PairFaults names (fields (unless_empty s) (unless_empty s)) e) ps
-      → SomePair (PairFaults names (fields (optional any) (optional any)) e) ps ⊎ SomePair (λ k w. HoldsSignatures k × s.faults w e) ps
+      (ps : Pairs) → SomePair (PairFaults cose_labels (fields (unless_empty s) (unless_empty s)) e) ps
+      → SomePair (PairFaults cose_labels (fields (optional any) (optional any)) e) ps ⊎ SomePair (λ k w. IsCountersignatureLabel k × s.faults w e) ps
   pairs_split no_pairs h = absurd h
   pairs_split (pair k v ps) (inl h) = elim (pair_split k v h) [ inl g ↦ inl (inl g) | inr g ↦ inr (inl g) ]
   pairs_split (pair k v ps) (inr h) = elim (pairs_split ps h) [ inl g ↦ inl (inr g) | inr g ↦ inr (inr g) ]
@@ -197,13 +197,14 @@ module _ (s : Shape (List SignatureView)) (e : CoseError) where
       ]
   map_split v (inr h) = inl (inr h)
 
-  pair_left : (k v : Item) → PairFaults names (fields (optional any) (optional any)) e k v → PairFaults names (fields (unless_empty s) (unless_empty s)) e k v
+  pair_left : (k v : Item) → PairFaults cose_labels (fields (optional any) (optional any)) e k v
+      → PairFaults cose_labels (fields (unless_empty s) (unless_empty s)) e k v
   pair_left k v (inl h) = inl h
   pair_left k v (inr h) = inr (h.0, h.1, field_left h.0 v h.2)
 
   pairs_left :
-      (ps : Pairs) → SomePair (PairFaults names (fields (optional any) (optional any)) e) ps
-      → SomePair (PairFaults names (fields (unless_empty s) (unless_empty s)) e) ps
+      (ps : Pairs) → SomePair (PairFaults cose_labels (fields (optional any) (optional any)) e) ps
+      → SomePair (PairFaults cose_labels (fields (unless_empty s) (unless_empty s)) e) ps
   pairs_left no_pairs h = absurd h
   pairs_left (pair k v ps) (inl h) = inl (pair_left k v h)
   pairs_left (pair k v ps) (inr h) = inr (pairs_left ps h)
@@ -214,12 +215,12 @@ module _ (s : Shape (List SignatureView)) (e : CoseError) where
   map_left v (inl (inr h)) = inl (inr (h.0, h.1, elim h.2 [ inl p ↦ inl (pairs_left h.0 p) | inr t ↦ inr t ]))
   map_left v (inr h) = inr h
 
-  pair_held : (k v : Item) → HoldsSignatures k → s.faults v e → PairFaults names (fields (unless_empty s) (unless_empty s)) e k v
+  pair_held : (k v : Item) → IsCountersignatureLabel k → s.faults v e → PairFaults cose_labels (fields (unless_empty s) (unless_empty s)) e k v
   pair_held k v (inl d) f = inr (labels.counter_signature, d, f)
   pair_held k v (inr d) f = inr (labels.countersignature_v2, d, f)
 
-  pairs_held : (ps : Pairs) → SomePair (λ k w. HoldsSignatures k × s.faults w e) ps
-      → SomePair (PairFaults names (fields (unless_empty s) (unless_empty s)) e) ps
+  pairs_held : (ps : Pairs) → SomePair (λ k w. IsCountersignatureLabel k × s.faults w e) ps
+      → SomePair (PairFaults cose_labels (fields (unless_empty s) (unless_empty s)) e) ps
   pairs_held no_pairs h = absurd h
   pairs_held (pair k v ps) (inl h) = inl (pair_held k v h.0 h.1)
   pairs_held (pair k v ps) (inr h) = inr (pairs_held ps h)
@@ -271,8 +272,8 @@ faulty_within (suc n) k w e (inl f) = inl f
 faulty_within (suc n) k w e (inr f) = inr (f.0, f.1, elim f.2 [ inl m ↦ absurd m.0 | inr m ↦ inr (m.0, signatures_faulty n k f.0 e m.1) ])
 
 some_faulty :
-    (n k : ℕ) (e : CoseError) (ps : Pairs) → SomePair (λ j w. HoldsSignatures j × counter_signatures_faults n k w e) ps
-    → SomePair (λ j w. HoldsSignatures j × (signatures_within k).faults w e) ps
+    (n k : ℕ) (e : CoseError) (ps : Pairs) → SomePair (λ j w. IsCountersignatureLabel j × counter_signatures_faults n k w e) ps
+    → SomePair (λ j w. IsCountersignatureLabel j × (signatures_within k).faults w e) ps
 some_faulty n k e no_pairs f = absurd f
 some_faulty n k e (pair j w ps) (inl f) = inl (f.0, faulty_within n k w e f.1)
 some_faulty n k e (pair j w ps) (inr f) = inr (some_faulty n k e ps f)
@@ -287,8 +288,8 @@ header_faulty k v e f =
 
 -- A fault of the shape is found within some number of nested signatures.
 some_found :
-    (k : ℕ) (e : CoseError) (ps : Pairs) → SomePair (λ j w. HoldsSignatures j × (signatures_within k).faults w e) ps
-    → (n : ℕ) × SomePair (λ j w. HoldsSignatures j × counter_signatures_faults n k w e) ps
+    (k : ℕ) (e : CoseError) (ps : Pairs) → SomePair (λ j w. IsCountersignatureLabel j × (signatures_within k).faults w e) ps
+    → (n : ℕ) × SomePair (λ j w. IsCountersignatureLabel j × counter_signatures_faults n k w e) ps
 some_found k e no_pairs f = absurd f
 some_found k e (pair j w ps) (inl f) = let g = faults_read k w e f.1 in (g.0, inl (f.0, g.1))
 some_found k e (pair j w ps) (inr f) = let g = some_found k e ps f in (g.0, inr g.1)

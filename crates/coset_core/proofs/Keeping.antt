@@ -10,7 +10,7 @@ use Rattle.coset_value.specs.declared.value.Value.TheOpen.{Value-F}
 use Rattle.coset_value.specs.declared.value.Value.TheFolds.{fold-roll-Value}
 use Rattle.coset_codec.specs.declared.error.CoseError.{CoseError}
 use Rattle.coset_codec.specs.declared.error.CoseError.TheVariants.{DuplicateMapKey}
-use Rattle.coset_codec.specs.Answers.{Images}
+use Rattle.coset_codec.specs.Results.{Images}
 use Rattle.coset_codec.specs.Errors.{UnlessMemory}
 use Rattle.coset_codec.specs.Serialized.{content_bytes, fresh_bytes}
 use Rattle.coset_core.specs.Headers.{HeaderView, ProtectedView, is_empty_header, header_image, protected_bytes, protected, LAYERS}

@@ -5,11 +5,11 @@ use Rattle.coset_value.specs.Item.{Item, Pairs, no_pairs, pair, bytes, dict, int
 use Rattle.coset_value.specs.Parts.{as_integer, as_text, as_map}
 use Rattle.coset_codec.specs.AsWritten.{AsWritten, WhenRead}
 use Rattle.coset_codec.specs.Lists.{EachHas, EachWith}
-use Rattle.coset_codec.specs.Maps.{FieldShape, Named, named_image, put_field, optional, unless_empty, entries_image, may_write}
+use Rattle.coset_codec.specs.Maps.{FieldShape, AreLabelled, labelled_image, put_field, optional, unless_empty, entries_image, may_write}
 use Rattle.coset_codec.specs.Shape.{Shape, both, bstr}
 use Rattle.coset_codec.specs.ShapeLaws.{some-one}
-use Rattle.coset_label.specs.Labels.{is_integer, label, names}
-use Rattle.coset_label.specs.Names.{Name, number, text_label, same_name}
+use Rattle.coset_label.specs.Labels.{is_integer, label, cose_labels}
+use Rattle.coset_label.specs.LabelData.{LabelView, number, text_label, same_label}
 use Rattle.coset_core.specs.FieldLabels as labels
 use Rattle.coset_core.specs.Fields.{FieldTuple, fields, parts_of}
 use Rattle.coset_core.specs.HeaderMap.{each_of, header_map, header_parts}
@@ -32,7 +32,7 @@ mapped_part f None x e = absurd (cc)
 -- ---- labels and pairs
 
 -- A label that is written and read again is the same label.
-label_again : (l m : Name) (k : Item) → label.image l ≡ Some k → label.describes k m → m ≡ l
+label_again : (l m : LabelView) (k : Item) → label.image l ≡ Some k → label.describes k m → m ≡ l
 label_again (number i) (number j) k e d =
     let same : integer i ≡ k = some-one refl e in
     ap number (some-one d.1.0 (ap as_integer (sym same)))
@@ -52,20 +52,20 @@ label_again (text_label s) (text_label t) k e d =
 
 -- So each label has the same value.
 pub lookup_again :
-    (test : Name → Bool) (es fs : List (Name × Item)) (ps : Pairs) → named_image label.image es ≡ Some ps → Named label.describes ps fs
+    (test : LabelView → Bool) (es fs : List (LabelView × Item)) (ps : Pairs) → labelled_image label.image es ≡ Some ps → AreLabelled label.describes ps fs
     → lookup test fs ≡ lookup test es
-lookup_again test [] fs ps e d = none fs (subst (λ qs. Named label.describes qs fs) (sym (some-one refl e)) d)
+lookup_again test [] fs ps e d = none fs (subst (λ qs. AreLabelled label.describes qs fs) (sym (some-one refl e)) d)
   where
-    none : (gs : List (Name × Item)) → Named label.describes no_pairs gs → lookup test gs ≡ None
+    none : (gs : List (LabelView × Item)) → AreLabelled label.describes no_pairs gs → lookup test gs ≡ None
     none [] n = refl
     none (g ∷ gs) n = absurd n
 lookup_again test (x ∷ es) fs ps e d =
-    let parts = both_parts (λ k qs. pair k x.1 qs) (label.image x.0) (named_image label.image es) ps e in
-    one parts.0 parts.1 parts.2 fs (λ gs. lookup_again test es gs parts.1 parts.3) (subst (λ qs. Named label.describes qs fs) parts.4 d)
+    let parts = both_parts (λ k qs. pair k x.1 qs) (label.image x.0) (labelled_image label.image es) ps e in
+    one parts.0 parts.1 parts.2 fs (λ gs. lookup_again test es gs parts.1 parts.3) (subst (λ qs. AreLabelled label.describes qs fs) parts.4 d)
   where
-    one : (k : Item) (qs : Pairs) → label.image x.0 ≡ Some k → (gs : List (Name × Item))
-        → ((hs : List (Name × Item)) → Named label.describes qs hs → lookup test hs ≡ lookup test es)
-        → Named label.describes (pair k x.1 qs) gs → lookup test gs ≡ lookup test (x ∷ es)
+    one : (k : Item) (qs : Pairs) → label.image x.0 ≡ Some k → (gs : List (LabelView × Item))
+        → ((hs : List (LabelView × Item)) → AreLabelled label.describes qs hs → lookup test hs ≡ lookup test es)
+        → AreLabelled label.describes (pair k x.1 qs) gs → lookup test gs ≡ lookup test (x ∷ es)
     one k qs is [] more n = absurd n
     one k qs is (g ∷ gs) more n =
         let name : g.0 ≡ x.0 = label_again x.0 g.0 k is n.0 in
@@ -73,8 +73,8 @@ lookup_again test (x ∷ es) fs ps e d =
         let after : lookup test gs ≡ lookup test es = more gs n.2 in
         (λ i. cond (test (name i)) (Some g.1) (after i)) ∙ ap (λ v. cond (test x.0) (Some v) (lookup test es)) (sym value)
 
-module _ (test : Name → Bool) where
-  found_first : (es rs : List (Name × Item)) (w : Item) → lookup test es ≡ Some w → lookup test (es ++ rs) ≡ Some w
+module _ (test : LabelView → Bool) where
+  found_first : (es rs : List (LabelView × Item)) (w : Item) → lookup test es ≡ Some w → lookup test (es ++ rs) ≡ Some w
   found_first [] rs w e = absurd (cc)
   found_first (x ∷ es) rs w e = go (test x.0) (found_first es rs w) e
     where
@@ -83,7 +83,7 @@ module _ (test : Name → Bool) where
       go true later h = h
       go false later h = later h
 
-  found_later : (es rs : List (Name × Item)) → lookup test es ≡ None → lookup test (es ++ rs) ≡ lookup test rs
+  found_later : (es rs : List (LabelView × Item)) → lookup test es ≡ None → lookup test (es ++ rs) ≡ lookup test rs
   found_later [] rs e = refl
   found_later (x ∷ es) rs e = go (test x.0) (found_later es rs) e
     where
@@ -94,41 +94,42 @@ module _ (test : Name → Bool) where
 
   -- ---- fields
 
-  other_put : (l : Name) (o : Option Item) (es : List (Name × Item)) → test l ≡ false → lookup test (put_field l o es) ≡ lookup test es
+  other_put : (l : LabelView) (o : Option Item) (es : List (LabelView × Item)) → test l ≡ false → lookup test (put_field l o es) ≡ lookup test es
   other_put l (Some v) es h = ap (λ b. cond b (Some v) (lookup test es)) h
   other_put l None es h = refl
 
-  this_put : (l : Name) (o : Option Item) (es : List (Name × Item)) → test l ≡ true → lookup test es ≡ None → lookup test (put_field l o es) ≡ o
+  this_put : (l : LabelView) (o : Option Item) (es : List (LabelView × Item)) → test l ≡ true → lookup test es ≡ None → lookup test (put_field l o es) ≡ o
   this_put l (Some v) es h none = ap (λ b. cond b (Some v) (lookup test es)) h
   this_put l None es h none = none
 
   -- If no field has the label, there is no value under it.
-  no_more : (es : List (Name × Item)) → ◌≡◌ {A = Option (List (Name × Item))} (Some []) (Some es) → lookup test es ≡ None
+  no_more : (es : List (LabelView × Item)) → ◌≡◌ {A = Option (List (LabelView × Item))} (Some []) (Some es) → lookup test es ≡ None
   no_more es e = ap (lookup test) (sym (some-one refl e))
 
   none_beyond :
-      (l : Name) → test l ≡ false → (o : Option (Option Item)) (p : Option (List (Name × Item)))
-      → ((fs : List (Name × Item)) → p ≡ Some fs → lookup test fs ≡ None)
-      → (es : List (Name × Item)) → both (put_field l) o p ≡ Some es → lookup test es ≡ None
+      (l : LabelView) → test l ≡ false → (o : Option (Option Item)) (p : Option (List (LabelView × Item)))
+      → ((fs : List (LabelView × Item)) → p ≡ Some fs → lookup test fs ≡ None)
+      → (es : List (LabelView × Item)) → both (put_field l) o p ≡ Some es → lookup test es ≡ None
   none_beyond l h o p more es e =
       let parts = both_parts (put_field l) o p es e in
       ap (lookup test) parts.4 ∙ (other_put l parts.0 parts.1 h ∙ more parts.1 parts.3)
 
   -- The value under the label is the image of the field.
   module _ (field : Option (Option Item)) where
-    abbrev Holds : List (Name × Item) → Type 0
+    abbrev Holds : List (LabelView × Item) → Type 0
     Holds es = (v : Option Item) × (field ≡ Some v) × (lookup test es ≡ v)
 
     here :
-        (l : Name) → test l ≡ true → (p : Option (List (Name × Item))) → ((fs : List (Name × Item)) → p ≡ Some fs → lookup test fs ≡ None)
-        → (es : List (Name × Item)) → both (put_field l) field p ≡ Some es → Holds es
+        (l : LabelView) → test l ≡ true → (p : Option (List (LabelView × Item))) → ((fs : List (LabelView × Item)) → p ≡ Some fs → lookup test fs ≡ None)
+        → (es : List (LabelView × Item)) → both (put_field l) field p ≡ Some es → Holds es
     here l h p none es e =
         let parts = both_parts (put_field l) field p es e in
         (parts.0, parts.2, ap (lookup test) parts.4 ∙ this_put l parts.0 parts.1 h (none parts.1 parts.3))
 
     beyond :
-        (l : Name) → test l ≡ false → (o : Option (Option Item)) (p : Option (List (Name × Item))) → ((fs : List (Name × Item)) → p ≡ Some fs → Holds fs)
-        → (es : List (Name × Item)) → both (put_field l) o p ≡ Some es → Holds es
+        (l : LabelView) → test l ≡ false → (o : Option (Option Item)) (p : Option (List (LabelView × Item)))
+        → ((fs : List (LabelView × Item)) → p ≡ Some fs → Holds fs)
+        → (es : List (LabelView × Item)) → both (put_field l) o p ≡ Some es → Holds es
     beyond l h o p more es e =
         let parts = both_parts (put_field l) o p es e in
         let held = more parts.1 parts.3 in
@@ -136,9 +137,9 @@ module _ (test : Name → Bool) where
 
 -- The values under labels 7, 11 and 12 are the images of their fields.
 module _ {C : Type 0} (c d : FieldShape C) (x : FieldTuple C) where
-  under_first : (es : List (Name × Item)) → (fields c d).image x ≡ Some es → Holds (same_name labels.counter_signature) (c.image x.1.1.1.1.1.1.0) es
+  under_first : (es : List (LabelView × Item)) → (fields c d).image x ≡ Some es → Holds (same_label labels.counter_signature) (c.image x.1.1.1.1.1.1.0) es
   under_first =
-      let t = same_name labels.counter_signature in
+      let t = same_label labels.counter_signature in
       let f = c.image x.1.1.1.1.1.1.0 in
       beyond t f labels.alg refl _ _ (
       beyond t f labels.crit refl _ _ (
@@ -149,9 +150,9 @@ module _ {C : Type 0} (c d : FieldShape C) (x : FieldTuple C) where
       here t f labels.counter_signature refl _ (
       none_beyond t labels.countersignature_v2 refl _ _ (none_beyond t labels.countersignature0_v2 refl _ _ (no_more t)))))))))
 
-  under_second : (es : List (Name × Item)) → (fields c d).image x ≡ Some es → Holds (same_name labels.countersignature_v2) (d.image x.1.1.1.1.1.1.1.0) es
+  under_second : (es : List (LabelView × Item)) → (fields c d).image x ≡ Some es → Holds (same_label labels.countersignature_v2) (d.image x.1.1.1.1.1.1.1.0) es
   under_second =
-      let t = same_name labels.countersignature_v2 in
+      let t = same_label labels.countersignature_v2 in
       let f = d.image x.1.1.1.1.1.1.1.0 in
       beyond t f labels.alg refl _ _ (
       beyond t f labels.crit refl _ _ (
@@ -162,10 +163,10 @@ module _ {C : Type 0} (c d : FieldShape C) (x : FieldTuple C) where
       beyond t f labels.counter_signature refl _ _ (
       here t f labels.countersignature_v2 refl _ (none_beyond t labels.countersignature0_v2 refl _ _ (no_more t)))))))))
 
-  under_third : (es : List (Name × Item)) → (fields c d).image x ≡ Some es
-      → Holds (same_name labels.countersignature0_v2) ((optional bstr).image x.1.1.1.1.1.1.1.1.0) es
+  under_third : (es : List (LabelView × Item)) → (fields c d).image x ≡ Some es
+      → Holds (same_label labels.countersignature0_v2) ((optional bstr).image x.1.1.1.1.1.1.1.1.0) es
   under_third =
-      let t = same_name labels.countersignature0_v2 in
+      let t = same_label labels.countersignature0_v2 in
       let f = (optional bstr).image x.1.1.1.1.1.1.1.1.0 in
       beyond t f labels.alg refl _ _ (
       beyond t f labels.crit refl _ _ (
@@ -179,16 +180,17 @@ module _ {C : Type 0} (c d : FieldShape C) (x : FieldTuple C) where
 -- ---- maps
 
 -- The parts of the map that these fields and the rest are written as.
-record IsMap (o : Option (List (Name × Item))) (rest : List (Name × Item)) (v : Item) : Type 0 where
-  pub entries : List (Name × Item)
+record IsMap (o : Option (List (LabelView × Item))) (rest : List (LabelView × Item)) (v : Item) : Type 0 where
+  pub entries : List (LabelView × Item)
   pub is_image : o ≡ Some entries
   pub pairs : Pairs
-  pub are_pairs : named_image label.image (entries ++ rest) ≡ Some pairs
+  pub are_pairs : labelled_image label.image (entries ++ rest) ≡ Some pairs
   pub is : v ≡ dict pairs
 
-is_map : (b : Bool) (rest : List (Name × Item)) (o : Option (List (Name × Item))) (v : Item) → entries_image names b rest o ≡ Some v → IsMap o rest v
+is_map : (b : Bool) (rest : List (LabelView × Item)) (o : Option (List (LabelView × Item))) (v : Item) → entries_image cose_labels b rest o ≡ Some v
+    → IsMap o rest v
 is_map true rest (Some es) v e =
-    let m = mapped_part dict (named_image label.image (es ++ rest)) v e in
+    let m = mapped_part dict (labelled_image label.image (es ++ rest)) v e in
     record { entries = es; is_image = refl; pairs = m.0; are_pairs = m.1; is = m.2 }
 is_map true rest None v e = absurd (cc)
 is_map false rest o v e = absurd (cc)
@@ -196,16 +198,16 @@ is_map false rest o v e = absurd (cc)
 module _ (s : Shape (List SignatureView)) (R : SignatureView → SignatureView → Type 0) (law : AsWritten s (EachWith R)) where
   -- The signatures under a label. `found` is the value read there, and `put` is the value written there.
   read_as :
-      (l : Name) (rest : List (Name × Item)) (ss ts : List SignatureView) (es : List (Name × Item)) (found put : Option Item)
-      → (unless_empty s).image ss ≡ Some put → lookup (same_name l) es ≡ put → found ≡ lookup (same_name l) (es ++ rest)
+      (l : LabelView) (rest : List (LabelView × Item)) (ss ts : List SignatureView) (es : List (LabelView × Item)) (found put : Option Item)
+      → (unless_empty s).image ss ≡ Some put → lookup (same_label l) es ≡ put → found ≡ lookup (same_label l) (es ++ rest)
       → (unless_empty s).describes found ts → EachReadAs R l rest ss ts
   read_as l rest [] ts es found put e stands looked d = λ none.
       let nothing : None ≡ put = some-one refl e in
-      let later = found_later (same_name l) es rest (stands ∙ sym nothing) in
+      let later = found_later (same_label l) es rest (stands ∙ sym nothing) in
       subst (λ o. (unless_empty s).describes o ts) (looked ∙ (later ∙ none)) d
   read_as l rest (x ∷ ss) ts es found put e stands looked d =
       let m = mapped_part Some (s.image (x ∷ ss)) put e in
-      let first = found_first (same_name l) es rest m.0 (stands ∙ m.2) in
+      let first = found_first (same_label l) es rest m.0 (stands ∙ m.2) in
       law m.0 (x ∷ ss) ts m.1 (subst (λ o. (unless_empty s).describes o ts) (looked ∙ first) d)
 
 -- An abbreviated countersignature.
@@ -217,17 +219,17 @@ module _ (s : Shape (List SignatureView)) (h g : HeaderView) (v : Item) (e : (he
   abbrev tuple : FieldTuple (List SignatureView)
   tuple = (parts_of (header_parts h)).0
 
-  abbrev rest : List (Name × Item)
+  abbrev rest : List (LabelView × Item)
   rest = (fields_in h).rest
 
   written : IsMap ((fields (unless_empty s) (unless_empty s)).image tuple) rest v
-  written = is_map (may_write names true rest) rest ((fields (unless_empty s) (unless_empty s)).image tuple) v e
+  written = is_map (may_write cose_labels true rest) rest ((fields (unless_empty s) (unless_empty s)).image tuple) v e
 
-  looked : (l : Name) → lookup (same_name l) d.0.2.entries ≡ lookup (same_name l) (written.entries ++ rest)
+  looked : (l : LabelView) → lookup (same_label l) d.0.2.entries ≡ lookup (same_label l) (written.entries ++ rest)
   looked l =
       let same : d.0.0 ≡ written.pairs = some-one d.0.1 (ap as_map written.is) in
-      lookup_again (same_name l) (written.entries ++ rest) d.0.2.entries written.pairs written.are_pairs
-      (subst (λ ps. Named label.describes ps d.0.2.entries) same d.0.2.named)
+      lookup_again (same_label l) (written.entries ++ rest) d.0.2.entries written.pairs written.are_pairs
+      (subst (λ ps. AreLabelled label.describes ps d.0.2.entries) same d.0.2.named)
 
   pub signatures_as_written : (R : SignatureView → SignatureView → Type 0) → AsWritten s (EachWith R) → SignaturesReadAs R h g
   signatures_as_written R law =
@@ -243,7 +245,7 @@ module _ (s : Shape (List SignatureView)) (h g : HeaderView) (v : Item) (e : (he
   abbreviated_as_written t is =
       let third = under_third (unless_empty s) (unless_empty s) tuple written.entries written.is_image in
       let put : Some (bytes t) ≡ third.0 = some-one (ap (optional bstr).image is) third.1 in
-      let first = found_first (same_name labels.countersignature0_v2) written.entries rest (bytes t) (third.2 ∙ sym put) in
+      let first = found_first (same_label labels.countersignature0_v2) written.entries rest (bytes t) (third.2 ∙ sym put) in
       string_again t (fields_in g).countersignature0_v2
       (subst (λ o. (optional bstr).describes o (fields_in g).countersignature0_v2) (looked labels.countersignature0_v2 ∙ first)
       d.0.2.fields.1.1.1.1.1.1.1.1.0)

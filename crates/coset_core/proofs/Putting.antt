@@ -10,20 +10,20 @@ use Rattle.coset_codec.specs.MapLaws.{core_apart, not_same}
 use Rattle.coset_codec.specs.Errors.{UnlessMemory}
 use Rattle.coset_codec.specs.declared.error.CoseError.{CoseError}
 use Rattle.coset_codec.specs.Shape.{any, bstr, some_of, nonempty_bstr}
-use Rattle.coset_label.specs.Names.{Name, number, RegisteredName, same_name}
-use Rattle.coset_label.specs.Labels.{algorithm, names}
-use Rattle.coset_label.specs.LabelLaws.{names_laws}
+use Rattle.coset_label.specs.LabelData.{LabelView, number, RegisteredLabelView, same_label}
+use Rattle.coset_label.specs.Labels.{algorithm, cose_labels}
+use Rattle.coset_label.specs.LabelLaws.{cose_labels_laws}
 use Rattle.coset_label.proofs.Apart.{numbers_apart}
 use Rattle.coset_core.specs.FieldLabels as labels
 use Rattle.coset_core.specs.Headers.{SignatureView, no_signatures, signatures_of}
 use Rattle.coset_core.specs.Filling.{GoesTo, NamesNoVersion, label_of}
-use Rattle.coset_core.specs.Fields.{critical, content_type, FieldsView, Versions, FieldTuple, fields, excludes, parts_of}
+use Rattle.coset_core.specs.Fields.{critical, content_type, FieldsView, PerVersion, FieldTuple, fields, excludes, parts_of}
 use Rattle.coset_core.specs.declared.header.reading.Field.{Field}
 use Rattle.coset_core.specs.declared.header.reading.Field.TheVariants.{Alg, Crit, ContentType, KeyId, Iv, PartialIv, Signatures, Countersignature0V2, Rest}
-use Rattle.coset_core.specs.declared.header.reading.Version.{Version}
-use Rattle.coset_core.specs.declared.header.reading.Version.TheVariants.{V1, V2}
+use Rattle.coset_core.specs.declared.header.reading.CountersignatureVersion.{CountersignatureVersion}
+use Rattle.coset_core.specs.declared.header.reading.CountersignatureVersion.TheVariants.{V1, V2}
 
-abbrev F : Fields Name (FieldTuple (Option Item))
+abbrev F : Fields LabelView (FieldTuple (Option Item))
 F = fields (optional any) (optional any)
 
 -- If all nine tests are false, so is their disjunction.
@@ -42,8 +42,8 @@ other_number n h1 h2 h3 h4 h5 h6 h7 h8 h9 =
 
 -- A pair whose label has no field is added to the rest.
 pub adds_rest :
-    (m : Name) (v : Item) (x y : FieldTuple (Option Item) × List (Name × Item)) → GoesTo m Rest → x.0 ≡ y.0 → y.1 ≡ x.1 ++ (m, v) ∷ []
-    → Adds names (fields (optional any) (optional any)) m v x y
+    (m : LabelView) (v : Item) (x y : FieldTuple (Option Item) × List (LabelView × Item)) → GoesTo m Rest → x.0 ≡ y.0 → y.1 ≡ x.1 ++ (m, v) ∷ []
+    → Adds cose_labels (fields (optional any) (optional any)) m v x y
 adds_rest m v x y other same rest =
     subst (λ b. IfThenElse b ((fields (optional any) (optional any)).takes m v x.0 y.0 × (y.1 ≡ x.1)) ((x.0 ≡ y.0) × (y.1 ≡ x.1 ++ (m, v) ∷ []))) (sym other)
     (same, rest)
@@ -51,7 +51,7 @@ adds_rest m v x y other same rest =
 -- ---- the labels of counter signatures
 
 -- A label of any other field is that of no version.
-pub no_version : (m : Name) (f : Field) → ((version : Version) → f ≡ Signatures version → ⊥) → GoesTo m f → NamesNoVersion m
+pub no_version : (m : LabelView) (f : Field) → ((version : CountersignatureVersion) → f ≡ Signatures version → ⊥) → GoesTo m f → NamesNoVersion m
 no_version m Alg h e = rw e (refl, refl)
 no_version m Crit h e = rw e (refl, refl)
 no_version m ContentType h e = rw e (refl, refl)
@@ -62,88 +62,89 @@ no_version m (Signatures version) h e = absurd (h version refl)
 no_version m Countersignature0V2 h e = rw e (refl, refl)
 no_version m Rest h e = (apart labels.counter_signature refl, apart labels.countersignature_v2 refl)
   where
-    apart : (l : Name) → is_core names F.labels l ≡ true → same_name l m ≡ false
-    apart l there = not_same names names_laws l m (λ same. core_apart names names_laws F.labels m l e there (sym same))
+    apart : (l : LabelView) → is_core cose_labels F.labels l ≡ true → same_label l m ≡ false
+    apart l there = not_same cose_labels cose_labels_laws l m (λ same. core_apart cose_labels cose_labels_laws F.labels m l e there (sym same))
 
 -- A label of no version is not the label of a version.
-pub not_version : (m : Name) (version : Version) → NamesNoVersion m → m ≡ label_of version → ⊥
-not_version m V1 h e = true≢false (sym (names_laws.same_self labels.counter_signature) ∙ (ap (same_name labels.counter_signature) (sym e) ∙ h.0))
-not_version m V2 h e = true≢false (sym (names_laws.same_self labels.countersignature_v2) ∙ (ap (same_name labels.countersignature_v2) (sym e) ∙ h.1))
+pub not_version : (m : LabelView) (version : CountersignatureVersion) → NamesNoVersion m → m ≡ label_of version → ⊥
+not_version m V1 h e = true≢false (sym (cose_labels_laws.same_self labels.counter_signature) ∙ (ap (same_label labels.counter_signature) (sym e) ∙ h.0))
+not_version m V2 h e = true≢false (sym (cose_labels_laws.same_self labels.countersignature_v2) ∙ (ap (same_label labels.countersignature_v2) (sym e) ∙ h.1))
 
-pub of_version : (m : Name) (version : Version) → m ≡ label_of version → same_name (label_of version) m ≡ true
-of_version m version e = rw e (names_laws.same_self (label_of version))
+pub of_version : (m : LabelView) (version : CountersignatureVersion) → m ≡ label_of version → same_label (label_of version) m ≡ true
+of_version m version e = rw e (cose_labels_laws.same_self (label_of version))
 
 -- ---- pairs of fields
 
 -- A value is added to the field of its label, and the other fields stay the same.
 adds_at :
-    (l m : Name) (v : Item) (r : Result (Unit {0}) CoseError) (f g k : FieldsView) (o : Versions (Option Item)) (P : Type 0) → m ≡ l → OnOk r P
+    (l m : LabelView) (v : Item) (r : Result (Unit {0}) CoseError) (f g k : FieldsView) (o : PerVersion (Option Item)) (P : Type 0) → m ≡ l → OnOk r P
     → g ≡ k
-    → (P → Adds names F l v (parts_of (f, o)) (parts_of (k, o))) → OnOk r (Adds names F m v (parts_of (f, o)) (parts_of (g, o)))
+    → (P → Adds cose_labels F l v (parts_of (f, o)) (parts_of (k, o))) → OnOk r (Adds cose_labels F m v (parts_of (f, o)) (parts_of (g, o)))
 adds_at l m v (Ok u) f g k o P h t e put =
-    subst (λ n. Adds names F n v (parts_of (f, o)) (parts_of (g, o))) (sym h)
-    (subst (λ x. Adds names F l v (parts_of (f, o)) (parts_of (x, o))) (sym e) (put t))
+    subst (λ n. Adds cose_labels F n v (parts_of (f, o)) (parts_of (g, o))) (sym h)
+    (subst (λ x. Adds cose_labels F l v (parts_of (f, o)) (parts_of (x, o))) (sym e) (put t))
 adds_at l m v (Err x) f g k o P h t e put = t
 
 pub adds_alg :
-    (m : Name) (v : Item) (r : Result (Unit {0}) CoseError) (f g : FieldsView) (a : Option RegisteredName) (o : Versions (Option Item))
+    (m : LabelView) (v : Item) (r : Result (Unit {0}) CoseError) (f g : FieldsView) (a : Option RegisteredLabelView) (o : PerVersion (Option Item))
     → m ≡ labels.alg → OnOk r (TakesValue (optional algorithm) v f.alg a)
-    → g ≡ record f { alg = a } → OnOk r (Adds names F m v (parts_of (f, o)) (parts_of (g, o)))
+    → g ≡ record f { alg = a } → OnOk r (Adds cose_labels F m v (parts_of (f, o)) (parts_of (g, o)))
 adds_alg m v r f g a o h t e = adds_at labels.alg m v r f g (record f { alg = a }) o (TakesValue (optional algorithm) v f.alg a) h t e
     (λ p. ((p.0, p.1, refl), refl))
 
 pub adds_crit :
-    (m : Name) (v : Item) (r : Result (Unit {0}) CoseError) (f g : FieldsView) (a : List RegisteredName) (o : Versions (Option Item))
+    (m : LabelView) (v : Item) (r : Result (Unit {0}) CoseError) (f g : FieldsView) (a : List RegisteredLabelView) (o : PerVersion (Option Item))
     → m ≡ labels.crit → OnOk r (TakesValue (unless_empty (some_of critical)) v f.crit a)
-    → g ≡ record f { crit = a } → OnOk r (Adds names F m v (parts_of (f, o)) (parts_of (g, o)))
+    → g ≡ record f { crit = a } → OnOk r (Adds cose_labels F m v (parts_of (f, o)) (parts_of (g, o)))
 adds_crit m v r f g a o h t e = adds_at labels.crit m v r f g (record f { crit = a }) o (TakesValue (unless_empty (some_of critical)) v f.crit a) h t e
     (λ p. ((refl, (p.0, p.1, refl)), refl))
 
 pub adds_content_type :
-    (m : Name) (v : Item) (r : Result (Unit {0}) CoseError) (f g : FieldsView) (a : Option Name) (o : Versions (Option Item))
+    (m : LabelView) (v : Item) (r : Result (Unit {0}) CoseError) (f g : FieldsView) (a : Option LabelView) (o : PerVersion (Option Item))
     → m ≡ labels.content_type → OnOk r (TakesValue (optional content_type) v f.content_type a)
-    → g ≡ record f { content_type = a } → OnOk r (Adds names F m v (parts_of (f, o)) (parts_of (g, o)))
+    → g ≡ record f { content_type = a } → OnOk r (Adds cose_labels F m v (parts_of (f, o)) (parts_of (g, o)))
 adds_content_type m v r f g a o h t e = adds_at labels.content_type m v r f g (record f { content_type = a }) o
     (TakesValue (optional content_type) v f.content_type a) h t e (λ p. ((refl, (refl, (p.0, p.1, refl))), refl))
 
 pub adds_key_id :
-    (m : Name) (v : Item) (r : Result (Unit {0}) CoseError) (f g : FieldsView) (a : List ℕ) (o : Versions (Option Item)) → m ≡ labels.kid
+    (m : LabelView) (v : Item) (r : Result (Unit {0}) CoseError) (f g : FieldsView) (a : List ℕ) (o : PerVersion (Option Item)) → m ≡ labels.kid
     → OnOk r (TakesValue (unless_empty nonempty_bstr) v f.key_id a)
-    → g ≡ record f { key_id = a } → OnOk r (Adds names F m v (parts_of (f, o)) (parts_of (g, o)))
+    → g ≡ record f { key_id = a } → OnOk r (Adds cose_labels F m v (parts_of (f, o)) (parts_of (g, o)))
 adds_key_id m v r f g a o h t e = adds_at labels.kid m v r f g (record f { key_id = a }) o (TakesValue (unless_empty nonempty_bstr) v f.key_id a) h t e
     (λ p. ((refl, (refl, (refl, (p.0, p.1, refl)))), refl))
 
 pub adds_iv :
-    (m : Name) (v : Item) (r : Result (Unit {0}) CoseError) (f g : FieldsView) (a : List ℕ) (o : Versions (Option Item)) → m ≡ labels.iv
+    (m : LabelView) (v : Item) (r : Result (Unit {0}) CoseError) (f g : FieldsView) (a : List ℕ) (o : PerVersion (Option Item)) → m ≡ labels.iv
     → OnOk r (TakesValue (unless_empty nonempty_bstr) v f.iv a)
-    → g ≡ record f { iv = a } → OnOk r (Adds names F m v (parts_of (f, o)) (parts_of (g, o)))
+    → g ≡ record f { iv = a } → OnOk r (Adds cose_labels F m v (parts_of (f, o)) (parts_of (g, o)))
 adds_iv m v r f g a o h t e = adds_at labels.iv m v r f g (record f { iv = a }) o (TakesValue (unless_empty nonempty_bstr) v f.iv a) h t e
     (λ p. ((refl, (refl, (refl, (refl, (p.0, p.1, refl))))), refl))
 
 pub adds_partial_iv :
-    (m : Name) (v : Item) (r : Result (Unit {0}) CoseError) (f g : FieldsView) (a : List ℕ) (o : Versions (Option Item)) → m ≡ labels.partial_iv
+    (m : LabelView) (v : Item) (r : Result (Unit {0}) CoseError) (f g : FieldsView) (a : List ℕ) (o : PerVersion (Option Item)) → m ≡ labels.partial_iv
     → OnOk r (TakesValue (unless_empty nonempty_bstr) v f.partial_iv a)
-    → g ≡ record f { partial_iv = a } → OnOk r (Adds names F m v (parts_of (f, o)) (parts_of (g, o)))
+    → g ≡ record f { partial_iv = a } → OnOk r (Adds cose_labels F m v (parts_of (f, o)) (parts_of (g, o)))
 adds_partial_iv m v r f g a o h t e = adds_at labels.partial_iv m v r f g (record f { partial_iv = a }) o
     (TakesValue (unless_empty nonempty_bstr) v f.partial_iv a) h t e (λ p. ((refl, (refl, (refl, (refl, (refl, (p.0, p.1, refl)))))), refl))
 
 pub adds_countersignature0_v2 :
-    (m : Name) (v : Item) (r : Result (Unit {0}) CoseError) (f g : FieldsView) (a : Option (List ℕ)) (o : Versions (Option Item))
+    (m : LabelView) (v : Item) (r : Result (Unit {0}) CoseError) (f g : FieldsView) (a : Option (List ℕ)) (o : PerVersion (Option Item))
     → m ≡ labels.countersignature0_v2 → OnOk r (TakesValue (optional bstr) v f.countersignature0_v2 a)
-    → g ≡ record f { countersignature0_v2 = a } → OnOk r (Adds names F m v (parts_of (f, o)) (parts_of (g, o)))
+    → g ≡ record f { countersignature0_v2 = a } → OnOk r (Adds cose_labels F m v (parts_of (f, o)) (parts_of (g, o)))
 adds_countersignature0_v2 m v r f g a o h t e =
     adds_at labels.countersignature0_v2 m v r f g (record f { countersignature0_v2 = a }) o (TakesValue (optional bstr) v f.countersignature0_v2 a) h t e
     (λ p. ((refl, (refl, (refl, (refl, (refl, (refl, (refl, (refl, (p.0, p.1, refl))))))))), refl))
 
 -- The reason that a field refuses its value.
 pub refuses_at :
-    (l m : Name) (v : Item) (r : Result (Unit {0}) CoseError) (x : FieldTuple (Option Item) × List (Name × Item)) (P : CoseError → Type 0)
+    (l m : LabelView) (v : Item) (r : Result (Unit {0}) CoseError) (x : FieldTuple (Option Item) × List (LabelView × Item)) (P : CoseError → Type 0)
     → m ≡ l
     → IfErr r (λ e. UnlessMemory e P)
-    → ((e : CoseError) → P e → Refuses names F l v x e ⊎ excludes m x e) → IfErr r (λ e. UnlessMemory e (λ f. Refuses names F m v x f ⊎ excludes m x f))
+    → ((e : CoseError) → P e → Refuses cose_labels F l v x e ⊎ excludes m x e)
+    → IfErr r (λ e. UnlessMemory e (λ f. Refuses cose_labels F m v x f ⊎ excludes m x f))
 refuses_at l m v (Ok u) x P h t because = t
 refuses_at l m v (Err e) x P h t because = λ n. elim (because e (t n))
-    [ inl g ↦ inl (subst (λ k. Refuses names F k v x e) (sym h) g) | inr g ↦ inr g ]
+    [ inl g ↦ inl (subst (λ k. Refuses cose_labels F k v x e) (sym h) g) | inr g ↦ inr g ]
 
 pub swapped : {A B : Type 0} → A ⊎ B → B ⊎ A
 swapped (inl x) = inr x

@@ -4,9 +4,9 @@ use Rattle.std.proofs.lemmas.Bool.{and_right}
 use Rattle.std.proofs.lemmas.Grind.{common_steps}
 use Rattle.std.specs.Prelude.{OnOk, Result, Ok, Err}
 use Rattle.std.specs.declared.alloc.AllocError.{AllocError}
-use Rattle.coset_core.specs.FieldViews.{counter_signatures_held, countersignatures_held, fields_level, fields_view}
+use Rattle.coset_core.specs.FieldViews.{counter_signature_list, countersignature_v2_list, fields_level, fields_view}
 use Rattle.coset_core.specs.Headers.{SignatureView, are_none, signatures_of, header_of}
-use Rattle.coset_core.specs.Held.{header_count, held_in, signatures_count, signatures_in}
+use Rattle.coset_core.specs.SignatureCounts.{header_count, count_in_lists, signatures_count, count_in_list}
 use Rattle.coset_core.specs.Same.{fields_eq, header_eq, signatures_eq}
 use Rattle.coset_core.specs.ViewLaws.{HeaderLevel, header-made, header-opened}
 use Rattle.coset_core.specs.Views.{countersignature_view, header_view, signature_view}
@@ -45,9 +45,9 @@ pub header_eq-opened :
     (h g : Header)
     → header_eq (header_view h) (header_view g)
     ≡ fields_eq (fields_view h) (fields_view g)
-    && (signatures_eq (signatures_of (map signature_view (counter_signatures_held h))) (signatures_of (map signature_view (counter_signatures_held g)))
-    && signatures_eq (signatures_of (map countersignature_view (countersignatures_held h)))
-    (signatures_of (map countersignature_view (countersignatures_held g))))
+    && (signatures_eq (signatures_of (map signature_view (counter_signature_list h))) (signatures_of (map signature_view (counter_signature_list g)))
+    && signatures_eq (signatures_of (map countersignature_view (countersignature_v2_list h)))
+    (signatures_of (map countersignature_view (countersignature_v2_list g))))
 header_eq-opened h g = λ i. header_eq (header-opened h i) (header-opened g i)
 
 -- ---- copies of headers
@@ -55,8 +55,8 @@ header_eq-opened h g = λ i. header_eq (header-opened h i) (header-opened g i)
 -- A copy with the fields and the counter signatures of a header has the same view.
 pub header_copied :
     (x : HeaderLevel) (h : Header) (r : Result (Unit {0}) AllocError) → fields_level x ≡ fields_view h
-    → map signature_view x.counter_signatures.items ≡ map signature_view (counter_signatures_held h)
-    → OnOk r (map countersignature_view x.countersignatures_v2.items ≡ map countersignature_view (countersignatures_held h))
+    → map signature_view x.counter_signatures.items ≡ map signature_view (counter_signature_list h)
+    → OnOk r (map countersignature_view x.countersignatures_v2.items ≡ map countersignature_view (countersignature_v2_list h))
     → OnOk r (header_view (roll-Header x) ≡ header_view h)
 header_copied x h (Ok u) f s t = header-made x ∙ ((λ i. header_of (f i) (signatures_of (s i)) (signatures_of (t i))) ∙ sym (header-opened h))
 header_copied x h (Err e) f s t = tt
@@ -65,7 +65,7 @@ header_copied x h (Err e) f s t = tt
 
 -- The number of signatures in a header, of both versions, with those nested in them.
 abbrev pub held_by : Header → ℕ
-held_by h = held_in (counter_signatures_held h) (countersignatures_held h)
+held_by h = count_in_lists (counter_signature_list h) (countersignature_v2_list h)
 
 pub opened : (h : Header) → header_count (header_view h) ≡ held_by h
 opened h = ap header_count (header-opened h)
@@ -83,16 +83,16 @@ last_counts view (x ∷ ss) s = let others = last_counts view ss s in omega (ari
 -- Fewer signatures are left without the last one of either version.
 pub first_taken :
     (old new : List CoseSignature) (v : List CoseCountersignature) (s : CoseSignature) → old ≡ new ++ s ∷ []
-    → within (signature_view s) + held_in new v < held_in old v
+    → within (signature_view s) + count_in_lists new v < count_in_lists old v
 first_taken old new v s o =
-    let count : signatures_in old ≡ signatures_in (new ++ s ∷ []) = ap signatures_in o in
+    let count : count_in_list old ≡ count_in_list (new ++ s ∷ []) = ap count_in_list o in
     let all = last_counts signature_view new s in
     omega (arith, count, all)
 
 pub second_taken :
     (a : List CoseSignature) (old new : List CoseCountersignature) (s : CoseCountersignature) → old ≡ new ++ s ∷ []
-    → within (countersignature_view s) + held_in a new < held_in a old
+    → within (countersignature_view s) + count_in_lists a new < count_in_lists a old
 second_taken a old new s o =
-    let count : held_in [] old ≡ held_in [] (new ++ s ∷ []) = ap (held_in []) o in
+    let count : count_in_lists [] old ≡ count_in_lists [] (new ++ s ∷ []) = ap (count_in_lists []) o in
     let all = last_counts countersignature_view new s in
     omega (arith, count, all)

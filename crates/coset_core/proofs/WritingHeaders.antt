@@ -15,13 +15,13 @@ use Rattle.coset_codec.specs.declared.error.CoseError.{CoseError}
 use Rattle.coset_codec.specs.declared.error.CoseError.TheVariants.{DuplicateMapKey}
 use Rattle.coset_codec.specs.Encoding.{AppendsItem, AppendsImage, AppendsField, AppendsAll, Encodes, HasNoImage}
 use Rattle.coset_codec.specs.Errors.{UnlessMemory}
-use Rattle.coset_codec.specs.Maps.{are_distinct, entries_image, field_shape_image, is_nonempty, may_write, named_image, optional}
+use Rattle.coset_codec.specs.Maps.{are_distinct, entries_image, field_shape_image, is_nonempty, may_write, labelled_image, optional}
 use Rattle.coset_codec.specs.RestLaws.{no-entries}
 use Rattle.coset_codec.specs.Shape.{any, both, bstr, nonempty_bstr, images, one_or_array, present_image, some_of}
 use Rattle.coset_codec.proofs.Encoding.{array-put as array-put-elements, place-put, nothing-put, and_items, images-append, images-missing}
 use Rattle.coset_codec.proofs.EncodingMaps.{AppendsFields, no-field, field-put, filled-view, filled-there, map-written, pair-added}
-use Rattle.coset_label.specs.Labels.{label, names, algorithm}
-use Rattle.coset_label.specs.Names.{Name, number, text_label, RegisteredName, assigned, private_use, text_name, same_name}
+use Rattle.coset_label.specs.Labels.{label, cose_labels, algorithm}
+use Rattle.coset_label.specs.LabelData.{LabelView, number, text_label, RegisteredLabelView, assigned, private_use, text_name, same_label}
 use Rattle.coset_label.specs.Views.{label_view, algorithm_view, entry_view}
 use Rattle.coset_label.specs.declared.label.Label.{Label}
 use Rattle.coset_core.specs.Fields.{FieldsView, fields, parts_of, partial_header, critical, content_type}
@@ -31,7 +31,7 @@ use Rattle.coset_core.specs.Headers.{header_image, protected_bytes}
 use Rattle.coset_core.specs.HeaderWrites.{images_signatures, signature_image_is}
 use Rattle.coset_core.specs.ViewLaws.{HeaderLevel, header_level}
 use Rattle.coset_core.specs.Views.{content_type_view, countersignature_view, critical_view, signature_view}
-use Rattle.coset_core.specs.Written.{AppendsItems, AppendsFirst, AppendsCounterSignatures, AppendsSignatures, are_there, count_pairs, signature_array}
+use Rattle.coset_core.specs.Written.{AppendsItems, AppendsFirst, AppendsCounterSignatures, AppendsSignatures, fields_present, count_pairs, signature_array}
 use Rattle.coset_core.proofs.Signatures.{are_none_of}
 use Rattle.coset_core.proofs.Writing.{items-push, array-put}
 
@@ -130,19 +130,19 @@ any-image None = refl
 
 -- ---- values that always have an image
 
-pub algorithm-has : (x : RegisteredName) → algorithm.image x ≡ None → ⊥
+pub algorithm-has : (x : RegisteredLabelView) → algorithm.image x ≡ None → ⊥
 unfolding algorithm
 algorithm-has (assigned i) e = absurd (cc)
 algorithm-has (private_use i) e = absurd (cc)
 algorithm-has (text_name s) e = absurd (cc)
 
-pub critical-has : (x : RegisteredName) → critical.image x ≡ None → ⊥
+pub critical-has : (x : RegisteredLabelView) → critical.image x ≡ None → ⊥
 unfolding critical
 critical-has (assigned i) e = absurd (cc)
 critical-has (private_use i) e = absurd (cc)
 critical-has (text_name s) e = absurd (cc)
 
-pub content_type-has : (x : Name) → content_type.image x ≡ None → ⊥
+pub content_type-has : (x : LabelView) → content_type.image x ≡ None → ⊥
 unfolding content_type
 content_type-has (number i) e = absurd (cc)
 content_type-has (text_label s) e = absurd (cc)
@@ -179,7 +179,7 @@ pub fields-there :
     → is_some x.alg ∷ not (length x.crit.items == 0) ∷ is_some x.content_type ∷ not (length x.key_id.items == 0) ∷ not (length x.iv.items == 0)
     ∷ not (length x.partial_iv.items == 0)
     ∷ not (length x.counter_signatures.items == 0) ∷ not (length x.countersignatures_v2.items == 0) ∷ is_some x.countersignature0_v2 ∷ []
-    ≡ are_there (header_level x)
+    ≡ fields_present (header_level x)
 fields-there x = sym (λ i.
     view-there algorithm_view x.alg i ∷ filled-view critical_view x.crit.items _ refl i ∷ view-there content_type_view x.content_type i
     ∷ filled-there x.key_id.items _ refl i
@@ -190,15 +190,15 @@ fields-there x = sym (λ i.
 pub map-put :
     {T : Type 0} (f : FieldsView) (ss ts : Signatures) (xs : List (Label × Value)) (old head mid s7 s11 s12 new : List ℕ) (r : Result T CoseError)
     → f.rest ≡ map entry_view xs
-    → are_distinct same_name (keys_of (map entry_view xs)) ≡ true
+    → are_distinct same_label (keys_of (map entry_view xs)) ≡ true
     → count_pairs (header_of f ss ts) < 2 ^ 64
     → head ≡ old ++ least_head 5 (count_pairs (header_of f ss ts))
     → AppendsFirst head mid f
     → AppendsCounterSignatures CounterSignature mid s7 ss
     → AppendsCounterSignatures CounterSignatureV2 s7 s11 ts
     → AppendsField (parameters.number CounterSignature0V2) ((optional bstr).image f.countersignature0_v2) s11 s12
-    → OnOk r (AppendsAll (named_image (λ l. label.image (label_view l)) (map (λ x. (x.0, value_item x.1)) xs)) s12 new)
-    → IfErr r (HasNoImage (named_image (λ l. label.image (label_view l)) (map (λ x. (x.0, value_item x.1)) xs)))
+    → OnOk r (AppendsAll (labelled_image (λ l. label.image (label_view l)) (map (λ x. (x.0, value_item x.1)) xs)) s12 new)
+    → IfErr r (HasNoImage (labelled_image (λ l. label.image (label_view l)) (map (λ x. (x.0, value_item x.1)) xs)))
     → Encodes (header_image (header_of f ss ts)) old new r
 unfolding partial_header
 map-put f ss ts xs old head mid s7 s11 s12 new r rest distinct small first six seven eleven twelve ok refused =
@@ -207,13 +207,13 @@ map-put f ss ts xs old head mid s7 s11 s12 new r rest distinct small first six s
     let there = is_some f.alg ∷ is_nonempty f.crit ∷ is_some f.content_type ∷ is_nonempty f.key_id ∷ is_nonempty f.iv ∷ is_nonempty f.partial_iv ∷ is_some o
     ∷ is_some p
     ∷ is_some f.countersignature0_v2 ∷ [] in
-    let told : are_there (header_of f ss ts) ≡ there = λ i.
+    let told : fields_present (header_of f ss ts) ≡ there = λ i.
     is_some f.alg ∷ is_nonempty f.crit ∷ is_some f.content_type ∷ is_nonempty f.key_id ∷ is_nonempty f.iv ∷ is_nonempty f.partial_iv
     ∷ sym (signatures-there ss (signatures_image ss) o seven.1) i ∷ sym (signatures-there ts (signatures_image ts) p eleven.1) i
     ∷ is_some f.countersignature0_v2 ∷ [] in
     let count : count_pairs (header_of f ss ts) ≡ length (filter (λ b. b) there) + length xs =
     λ i. length (filter (λ b. b) (told i)) + (ap length rest ∙ length-map xs entry_view) i in
-    let fields_appended : AppendsFields Name label.image ((fields (optional any) (optional any)).image (parts_of (f, (o, p))).0) there head s12 =
+    let fields_appended : AppendsFields LabelView label.image ((fields (optional any) (optional any)).image (parts_of (f, (o, p))).0) there head s12 =
     (field-put label.image (is_some f.alg) (present_image algorithm.image f.alg) refl six.alg
     (field-put label.image (is_nonempty f.crit) ((some_of critical).image f.crit) refl six.crit
     (field-put label.image (is_some f.content_type) (present_image content_type.image f.content_type) refl six.content_type
@@ -225,18 +225,20 @@ map-put f ss ts xs old head mid s7 s11 s12 new r rest distinct small first six s
     (field-put label.image (is_some f.countersignature0_v2) (present_image bstr.image f.countersignature0_v2) refl twelve
     (no-field label.image s12)))))))))) in
     subst (λ i. Encodes i old new r) (λ i. header_item f (sym seven.1 i) (sym eleven.1 i))
-    (subst (λ es. Encodes (entries_image names (may_write names true es) es ((fields (optional any) (optional any)).image (parts_of (f, (o, p))).0)) old new r)
+    (subst (λ es. Encodes (entries_image cose_labels (may_write cose_labels true es) es
+    ((fields (optional any) (optional any)).image (parts_of (f, (o, p))).0)) old new r)
     (sym rest)
-    (map-written names label_view value_item xs (may_write names true (map entry_view xs)) there old new r distinct (subst (λ k. k < 2 ^ 64) count small)
+    (map-written cose_labels label_view value_item xs (may_write cose_labels true (map entry_view xs)) there old new r distinct
+    (subst (λ k. k < 2 ^ 64) count small)
     (first ∙ ap (λ k. old ++ least_head 5 k) count) fields_appended ok refused))
 
 -- A header has no image if a label of its rest repeats, or if signatures of either version have no image.
-pub unwritten-rest : (h : HeaderView) → are_distinct same_name (keys_of (fields_in h).rest) ≡ false → header_image h ≡ None
+pub unwritten-rest : (h : HeaderView) → are_distinct same_label (keys_of (fields_in h).rest) ≡ false → header_image h ≡ None
 unfolding partial_header
 unwritten-rest (header_of f ss ts) e = by (counter_signatures_item ss (signatures_image ss)) (counter_signatures_item ts (signatures_image ts))
   where
     by : (o p : Option (Option Item)) → header_item f o p ≡ None
-    by (Some o) (Some p) = no-entries names f.rest _ e
+    by (Some o) (Some p) = no-entries cose_labels f.rest _ e
     by (Some o) None = refl
     by None p = refl
 

@@ -3,7 +3,7 @@
 use Rattle.std.specs.Ordering.{int_eq}
 use Rattle.std.specs.Prelude.{◌≡◌, ◌&&◌, ◌||◌, not, ℕ, ℤ, pos, int_lt, Bool, true, List, [], ◌∷◌, ◌++◌, Some}
 use Rattle.coset_value.specs.Item.{Item}
-use Rattle.coset_label.specs.Names.{Name, RegisteredName}
+use Rattle.coset_label.specs.LabelData.{LabelView, RegisteredLabelView}
 use Rattle.coset_core.specs.Fields.{FieldsView}
 use Rattle.coset_core.specs.Headers.{HeaderView, header_of, Signatures, no_signatures, signature_and, SignatureView, and_signatures}
 
@@ -12,15 +12,15 @@ abbrev pub with_fields : (FieldsView → FieldsView) → HeaderView → HeaderVi
 with_fields g (header_of f ss ts) = header_of (g f) ss ts
 
 -- The header with this algorithm, otherwise unchanged.
-abbrev pub with_algorithm : RegisteredName → HeaderView → HeaderView
+abbrev pub with_algorithm : RegisteredLabelView → HeaderView → HeaderView
 with_algorithm a = with_fields (λ f. record f { alg = Some a })
 
 -- The header with one more label at the end of `crit`, otherwise unchanged.
-abbrev pub and_critical : RegisteredName → HeaderView → HeaderView
-and_critical l = with_fields (λ f. record f { crit = f.crit ++ l ∷ [] })
+abbrev pub push_critical : RegisteredLabelView → HeaderView → HeaderView
+push_critical l = with_fields (λ f. record f { crit = f.crit ++ l ∷ [] })
 
 -- The header with this content type, otherwise unchanged.
-abbrev pub with_content_type : Name → HeaderView → HeaderView
+abbrev pub with_content_type : LabelView → HeaderView → HeaderView
 with_content_type t = with_fields (λ f. record f { content_type = Some t })
 
 -- The header with this key identifier, otherwise unchanged.
@@ -36,8 +36,8 @@ abbrev pub with_partial_iv : List ℕ → HeaderView → HeaderView
 with_partial_iv b = with_fields (λ f. record f { iv = []; partial_iv = b })
 
 -- The header with one more pair at the end of `rest`, otherwise unchanged.
-abbrev pub and_pair : Name → Item → HeaderView → HeaderView
-and_pair l v = with_fields (λ f. record f { rest = f.rest ++ (l, v) ∷ [] })
+abbrev pub push_pair : LabelView → Item → HeaderView → HeaderView
+push_pair l v = with_fields (λ f. record f { rest = f.rest ++ (l, v) ∷ [] })
 
 -- The signatures with one more at the end.
 abbrev pub and_last : SignatureView → Signatures → Signatures
@@ -45,12 +45,12 @@ and_last s no_signatures = and_signatures s no_signatures
 and_last s (signature_and o p u b more) = signature_and o p u b (and_last s more)
 
 -- The header with one more counter signature at the end, otherwise unchanged.
-abbrev pub and_counter_signature : SignatureView → HeaderView → HeaderView
-and_counter_signature s (header_of f ss ts) = header_of f (and_last s ss) ts
+abbrev pub push_counter_signature : SignatureView → HeaderView → HeaderView
+push_counter_signature s (header_of f ss ts) = header_of f (and_last s ss) ts
 
 -- The header with one more countersignature of version 2 at the end, otherwise unchanged.
-abbrev pub and_countersignature_v2 : SignatureView → HeaderView → HeaderView
-and_countersignature_v2 s (header_of f ss ts) = header_of f ss (and_last s ts)
+abbrev pub push_countersignature_v2 : SignatureView → HeaderView → HeaderView
+push_countersignature_v2 s (header_of f ss ts) = header_of f ss (and_last s ts)
 
 -- The header with this abbreviated countersignature of version 2, otherwise unchanged.
 abbrev pub with_countersignature0_v2 : List ℕ → HeaderView → HeaderView

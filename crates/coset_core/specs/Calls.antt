@@ -16,11 +16,11 @@ IsStructure o b = (v : Item) × (o ≡ Some v) × IsShortest b v
 
 -- The result is that of f, called with these bytes and the bytes of the structure. Otherwise there is no structure, or
 -- an allocation failed.
-abbrev pub AsksAbout : {F U E : Type 0} → Once F (Bor (List ℕ) × (Bor (List ℕ) × Unit {0})) (Result U E) → F → List ℕ → Option Item → Result U (CallError E)
+abbrev pub CallsWith : {F U E : Type 0} → Once F (Bor (List ℕ) × (Bor (List ℕ) × Unit {0})) (Result U E) → F → List ℕ → Option Item → Result U (CallError E)
     → Type 0
-AsksAbout g f s o (Ok u) = (b : List ℕ) × IsStructure o b × FnOnceReturnsAtPair g f s b (Ok u)
-AsksAbout g f s o (Err (Caller e)) = (b : List ℕ) × IsStructure o b × FnOnceReturnsAtPair g f s b (Err e)
-AsksAbout g f s o (Err (Coset e)) = HasNoImage o e
+CallsWith g f s o (Ok u) = (b : List ℕ) × IsStructure o b × FnOnceReturnsAtPair g f s b (Ok u)
+CallsWith g f s o (Err (Caller e)) = (b : List ℕ) × IsStructure o b × FnOnceReturnsAtPair g f s b (Err e)
+CallsWith g f s o (Err (Coset e)) = HasNoImage o e
 
 -- f made a value from the bytes of the structure, and `stores` relates that value to the result. Otherwise there is no
 -- structure, or an allocation failed.

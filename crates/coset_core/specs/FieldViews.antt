@@ -15,12 +15,12 @@ fields_level = fields_step
 abbrev pub fields_view : Header → FieldsView
 fields_view h = fields_level (out-Header h)
 
-abbrev pub counter_signatures_held : Header → List CoseSignature
-counter_signatures_held h = (out-Header h).counter_signatures.items
+abbrev pub counter_signature_list : Header → List CoseSignature
+counter_signature_list h = (out-Header h).counter_signatures.items
 
-abbrev pub countersignatures_held : Header → List CoseCountersignature
-countersignatures_held h = (out-Header h).countersignatures_v2.items
+abbrev pub countersignature_v2_list : Header → List CoseCountersignature
+countersignature_v2_list h = (out-Header h).countersignatures_v2.items
 
 -- A header's counter signatures of both versions.
-abbrev pub signatures_held : Header → List CoseSignature × List CoseCountersignature
-signatures_held h = (counter_signatures_held h, countersignatures_held h)
+abbrev pub signature_lists : Header → List CoseSignature × List CoseCountersignature
+signature_lists h = (counter_signature_list h, countersignature_v2_list h)

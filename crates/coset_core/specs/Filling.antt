@@ -8,42 +8,42 @@ use Rattle.coset_codec.specs.declared.read.decoder.ArrayElements.{ArrayElements}
 use Rattle.coset_codec.specs.declared.read.decoder.MapEntries.{MapEntries}
 use Rattle.coset_codec.specs.Errors.{UnlessMemory}
 use Rattle.coset_codec.specs.Inputs.{State, ItemAt, AreWithin, PairsWithin}
-use Rattle.coset_codec.specs.Maps.{Walks, RefusesKey, ExcludesKey, GatherFaults, are_distinct, is_core, optional}
+use Rattle.coset_codec.specs.Maps.{Walks, RefusesKey, ExcludesKey, VisitorFaults, are_distinct, is_core, optional}
 use Rattle.coset_codec.specs.Shape.{any}
-use Rattle.coset_label.specs.Labels.{label, names}
-use Rattle.coset_label.specs.Names.{Name, same_name}
+use Rattle.coset_label.specs.Labels.{label, cose_labels}
+use Rattle.coset_label.specs.LabelData.{LabelView, same_label}
 use Rattle.coset_core.specs.FieldLabels as labels
-use Rattle.coset_core.specs.Fields.{FieldsView, Versions, FieldTuple, fields, parts_of, excludes}
-use Rattle.coset_core.specs.FieldViews.{counter_signatures_held, countersignatures_held, fields_view}
+use Rattle.coset_core.specs.Fields.{FieldsView, PerVersion, FieldTuple, fields, parts_of, excludes}
+use Rattle.coset_core.specs.FieldViews.{counter_signature_list, countersignature_v2_list, fields_view}
 use Rattle.coset_core.specs.Headers.{SignatureView, layered_protected, layered_signature}
 use Rattle.coset_core.specs.Views.{countersignature_view, signature_view}
 use Rattle.coset_core.specs.declared.header.Header.{Header}
 use Rattle.coset_core.specs.declared.header.reading.Field.{Field}
 use Rattle.coset_core.specs.declared.header.reading.Field.TheVariants.{Alg, Crit, ContentType, KeyId, Iv, PartialIv, Signatures, Countersignature0V2, Rest}
-use Rattle.coset_core.specs.declared.header.reading.Version.{Version}
-use Rattle.coset_core.specs.declared.header.reading.Version.TheVariants.{V1, V2}
+use Rattle.coset_core.specs.declared.header.reading.CountersignatureVersion.{CountersignatureVersion}
+use Rattle.coset_core.specs.declared.header.reading.CountersignatureVersion.TheVariants.{V1, V2}
 
 -- ---- a header's pairs
 
 -- The label of a version of counter signatures.
-abbrev pub label_of : Version → Name
+abbrev pub label_of : CountersignatureVersion → LabelView
 label_of V1 = labels.counter_signature
 label_of V2 = labels.countersignature_v2
 
-abbrev pub at_version : {A : Type 0} → Version → Versions A → A
+abbrev pub at_version : {A : Type 0} → CountersignatureVersion → PerVersion A → A
 at_version V1 x = x.0
 at_version V2 x = x.1
 
-abbrev pub with_version : {A : Type 0} → Version → A → Versions A → Versions A
+abbrev pub with_version : {A : Type 0} → CountersignatureVersion → A → PerVersion A → PerVersion A
 with_version V1 a x = (a, x.1)
 with_version V2 a x = (x.0, a)
 
 -- The label is that of no version: neither 7 nor 11.
-abbrev pub NamesNoVersion : Name → Type 0
-NamesNoVersion m = (same_name labels.counter_signature m ≡ false) × (same_name labels.countersignature_v2 m ≡ false)
+abbrev pub NamesNoVersion : LabelView → Type 0
+NamesNoVersion m = (same_label labels.counter_signature m ≡ false) × (same_label labels.countersignature_v2 m ≡ false)
 
 -- A pair with the label m goes to this field.
-abbrev pub GoesTo : Name → Field → Type 0
+abbrev pub GoesTo : LabelView → Field → Type 0
 GoesTo m Alg = m ≡ labels.alg
 GoesTo m Crit = m ≡ labels.crit
 GoesTo m ContentType = m ≡ labels.content_type
@@ -52,68 +52,69 @@ GoesTo m Iv = m ≡ labels.iv
 GoesTo m PartialIv = m ≡ labels.partial_iv
 GoesTo m (Signatures version) = m ≡ label_of version
 GoesTo m Countersignature0V2 = m ≡ labels.countersignature0_v2
-GoesTo m Rest = is_core names (fields (optional any) (optional any)).labels m ≡ false
+GoesTo m Rest = is_core cose_labels (fields (optional any) (optional any)).labels m ≡ false
 
 -- The pairs of a map before ps make the fields f, and o are their values of labels 7 and 11.
-abbrev pub WalksTo : Pairs → FieldsView → Versions (Option Item) → Pairs → Type 0
-WalksTo all f o ps = Walks Name (FieldTuple (Option Item)) names (fields (optional any) (optional any)) all (parts_of (f, o)) ps
+abbrev pub WalksTo : Pairs → FieldsView → PerVersion (Option Item) → Pairs → Type 0
+WalksTo all f o ps = Walks LabelView (FieldTuple (Option Item)) cose_labels (fields (optional any) (optional any)) all (parts_of (f, o)) ps
 
 -- The input t is at the value of a pair with counter signatures of this version.
-pub record AtHeld (version : Version) (all : Pairs) (o : Versions (Option Item)) (f : FieldsView) (t z : State) (m : MapEntries) : Type 0 where
+pub record AtCounterSignatures (version : CountersignatureVersion) (all : Pairs) (o : PerVersion (Option Item)) (f : FieldsView) (t z : State) (m : MapEntries)
+    : Type 0 where
   pub key : Item
   pub value : Item
   pub others : Pairs
   pub mid : State
   pub walks : WalksTo all f o (pair key value others)
-  pub held : label.describes key (label_of version)
+  pub is_label : label.describes key (label_of version)
   pub stands : ItemAt value t mid
   pub within : PairsWithin m others mid z
 
 -- All pairs were read.
-pub record AtEnd (all : Pairs) (o : Versions (Option Item)) (f : FieldsView) (t z : State) (m : MapEntries) : Type 0 where
+pub record AtEnd (all : Pairs) (o : PerVersion (Option Item)) (f : FieldsView) (t z : State) (m : MapEntries) : Type 0 where
   pub walks : WalksTo all f o no_pairs
   pub within : PairsWithin m no_pairs t z
 
 -- A pair has a fault and was skipped.
-pub record AtFault (all : Pairs) (o : Versions (Option Item)) (f : FieldsView) (t z : State) (m : MapEntries) (e : CoseError) : Type 0 where
+pub record AtFault (all : Pairs) (o : PerVersion (Option Item)) (f : FieldsView) (t z : State) (m : MapEntries) (e : CoseError) : Type 0 where
   pub key : Item
   pub value : Item
   pub others : Pairs
   pub walks : WalksTo all f o (pair key value others)
   pub within : PairsWithin m others t z
-  pub faulty : UnlessMemory e (λ g. RefusesKey names (fields (optional any) (optional any)) key value (parts_of (f, o)) g
-      ⊎ ExcludesKey names excludes key (parts_of (f, o)) g)
+  pub faulty : UnlessMemory e (λ g. RefusesKey cose_labels (fields (optional any) (optional any)) key value (parts_of (f, o)) g
+      ⊎ ExcludesKey cose_labels excludes key (parts_of (f, o)) g)
 
 -- The result of reading pairs one after the other, until reading stops.
-abbrev pub FillsSome : Pairs → Versions (Option Item) → State → FieldsView → State → MapEntries → Result (Option Version) CoseError → Type 0
-FillsSome all o z f t m (Ok (Some version)) = AtHeld version all o f t z m
+abbrev pub FillsSome : Pairs → PerVersion (Option Item) → State → FieldsView → State → MapEntries → Result (Option CountersignatureVersion) CoseError → Type 0
+FillsSome all o z f t m (Ok (Some version)) = AtCounterSignatures version all o f t z m
 FillsSome all o z f t m (Ok None) = AtEnd all o f t z m
 FillsSome all o z f t m (Err e) = AtFault all o f t z m e
 
 -- No label of the rest repeats.
 abbrev pub IsDistinctRest : FieldsView → Type 0
-IsDistinctRest f = are_distinct same_name (keys_of f.rest) ≡ true
+IsDistinctRest f = are_distinct same_label (keys_of f.rest) ≡ true
 
 -- The same, but labels of the rest that repeat are a fault.
-abbrev pub FillsFields : Pairs → Versions (Option Item) → State → FieldsView → State → MapEntries → Result (Option Version) CoseError → Type 0
-FillsFields all o z f t m (Ok (Some version)) = AtHeld version all o f t z m × IsDistinctRest f
+abbrev pub FillsFields : Pairs → PerVersion (Option Item) → State → FieldsView → State → MapEntries → Result (Option CountersignatureVersion) CoseError → Type 0
+FillsFields all o z f t m (Ok (Some version)) = AtCounterSignatures version all o f t z m × IsDistinctRest f
 FillsFields all o z f t m (Ok None) = AtEnd all o f t z m × IsDistinctRest f
 FillsFields all o z f t m (Err e) = (left : Pairs) × PairsWithin m left t z
-    × UnlessMemory e (GatherFaults names (fields (optional any) (optional any)) excludes (dict all))
+    × UnlessMemory e (VisitorFaults cose_labels (fields (optional any) (optional any)) excludes (dict all))
 
 -- ---- signatures
 
 -- A header's counter signatures of both versions.
-abbrev pub held : Header → Versions (List SignatureView)
-held h = (map signature_view (counter_signatures_held h), map countersignature_view (countersignatures_held h))
+abbrev pub signature_views : Header → PerVersion (List SignatureView)
+signature_views h = (map signature_view (counter_signature_list h), map countersignature_view (countersignature_v2_list h))
 
-abbrev pub held_of : Version → Header → List SignatureView
-held_of version h = at_version version (held h)
+abbrev pub signatures_of_version : CountersignatureVersion → Header → List SignatureView
+signatures_of_version version h = at_version version (signature_views h)
 
 -- The header has these counter signatures of this version, and is otherwise unchanged.
-pub record Keeps (version : Version) (xs : List SignatureView) (old new : Header) : Type 0 where
+pub record Keeps (version : CountersignatureVersion) (xs : List SignatureView) (old new : Header) : Type 0 where
   pub fields : fields_view new ≡ fields_view old
-  pub signatures : held new ≡ with_version version xs (held old)
+  pub signatures : signature_views new ≡ with_version version xs (signature_views old)
 
 -- ---- a signature's elements
 

@@ -8,22 +8,22 @@ use Rattle.coset_codec.specs.ShapeLaws.{Again, AgainElements, Lawful, LawfulElem
 use Rattle.coset_codec.specs.ShapeLaws.{one_or_many_laws}
 use Rattle.coset_codec.specs.Maps.{FieldShape}
 use Rattle.coset_codec.specs.MapLaws.{AgainFieldShape, LawfulFieldShape, Within}
-use Rattle.coset_core.specs.Fields.{FieldsView, Versions, map_with}
+use Rattle.coset_core.specs.Fields.{FieldsView, PerVersion, map_with}
 use Rattle.coset_core.specs.FieldLaws.{map_with_laws, split, join, image_with}
 use Rattle.coset_core.specs.Headers.{HeaderView, header_of, Signatures, no_signatures, signature_and, CounterSignaturesAre, IsHeader, AreSignatures}
 use Rattle.coset_core.specs.Headers.{signed_array, described_by, counter_signatures_item, header_item, protected_item, signatures_image, header_image}
 use Rattle.coset_core.specs.HeaderReads.{ProtectedOf}
 
 -- The shape of a single value, from the items that describe it and its image.
-abbrev pub told_as : (Item → Type 0) → Option Item → Shape (Unit {0})
-told_as P o = fixed P o (λ v e. ⊥)
+abbrev pub described_as : (Item → Type 0) → Option Item → Shape (Unit {0})
+described_as P o = fixed P o (λ v e. ⊥)
 
 abbrev pub known_elements : ℕ → Signatures → Elements (Unit {0})
 known_elements k ss = record { describes = λ vs x. AreSignatures ss k vs; image = λ x. signatures_image ss; wrong_length = λ vs. ⊥; faults = λ vs e. ⊥ }
 
 -- If an item describes the header, the image of the header also does and is no deeper.
 abbrev pub IsAgain : ℕ → HeaderView → Type 0
-IsAgain k h = (v : Item) → IsHeader h k v → Again (Unit {0}) (told_as (IsHeader h k) (header_image h)) v tt
+IsAgain k h = (v : Item) → IsHeader h k v → Again (Unit {0}) (described_as (IsHeader h k) (header_image h)) v tt
 
 abbrev pub AreAgain : ℕ → Signatures → Type 0
 AreAgain k ss = (vs : Items) → AreSignatures ss k vs → AgainElements (Unit {0}) (known_elements k ss) vs tt
@@ -136,8 +136,8 @@ within None = (0, tt)
 -- If the images of a header's signatures describe these again, the image of the header does so too.
 map_again : (f : FieldsView) (ss ts : Signatures) (k : ℕ) → AreAgain k ss → AreAgain k ts → IsAgain k (header_of f ss ts)
 map_again f ss ts k again again_v2 v h =
-    let two : Versions (Unit {0}) = (tt, tt) in
-    let a : Again (FieldsView × Versions (Unit {0})) (map_with (known k ss) (known k ts)) v (f, two) =
+    let two : PerVersion (Unit {0}) = (tt, tt) in
+    let a : Again (FieldsView × PerVersion (Unit {0})) (map_with (known k ss) (known k ts)) v (f, two) =
     (map_with_laws (known k ss) (known k ts) (known_laws k ss again) (known_laws k ts again_v2)).again v (f, two)
     (join (known k ss) (known k ts) v f h.0 two h.1 h.2 h.3) in
     let d = within h.0.0 in
@@ -156,7 +156,7 @@ map_again f ss ts k again again_v2 v h =
 
 -- The image of a protected header is the byte string that it was decoded from.
 pub protected_again : (k : ℕ) (o : Option (List ℕ)) (h : HeaderView) (v : Item) → ProtectedOf o h k v
-    → Again (Unit {0}) (told_as (ProtectedOf o h k) (protected_item o h (header_image h))) v tt
+    → Again (Unit {0}) (described_as (ProtectedOf o h k) (protected_item o h (header_image h))) v tt
 protected_again k o h v p =
     let b = protected_is_bytes o h k v p in
     record { image = v; is_image = ap (λ q. protected_item q h (header_image h)) b.2 ∙ ap Some (sym b.1); described = p; shallow = omega arith }
@@ -164,7 +164,7 @@ protected_again k o h v p =
 -- The laws of the shape of a single value, from its image and its faults. `signed_laws` are those of an array of three,
 -- from its elements.
 pub fixed_laws :
-    (P : Item → Type 0) (o : Option Item) (F : Item → CoseError → Type 0) → ((v : Item) → P v → Again (Unit {0}) (told_as P o) v tt)
+    (P : Item → Type 0) (o : Option Item) (F : Item → CoseError → Type 0) → ((v : Item) → P v → Again (Unit {0}) (described_as P o) v tt)
     → ((v : Item) (e : CoseError) → P v → F v e → ⊥)
     → Lawful (Unit {0}) (fixed P o F)
 fixed_laws P o F again sound =

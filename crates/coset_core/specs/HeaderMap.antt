@@ -3,7 +3,7 @@
 use Rattle.std.specs.Prelude.{List, [], ◌∷◌}
 use Rattle.coset_codec.specs.Shape.{Shape, mapped}
 use Rattle.coset_codec.specs.Maps.{unless_empty}
-use Rattle.coset_core.specs.Fields.{FieldsView, Versions, map_with}
+use Rattle.coset_core.specs.Fields.{FieldsView, PerVersion, map_with}
 use Rattle.coset_core.specs.Headers.{HeaderView, header_of, fields_in, counter_signatures_in, countersignatures_in, Signatures, no_signatures, signature_and}
 use Rattle.coset_core.specs.Headers.{SignatureView, signatures_of}
 
@@ -13,10 +13,10 @@ each_of no_signatures = []
 each_of (signature_and o p u s more) = record { protected = record { original = o; header = p }; unprotected = u; signature = s } ∷ each_of more
 
 -- Makes a header of its fields and its signatures of both versions. `header_parts` is the inverse.
-abbrev pub header_with : FieldsView × Versions (List SignatureView) → HeaderView
+abbrev pub header_with : FieldsView × PerVersion (List SignatureView) → HeaderView
 header_with x = header_of x.0 (signatures_of x.1.0) (signatures_of x.1.1)
 
-abbrev pub header_parts : HeaderView → FieldsView × Versions (List SignatureView)
+abbrev pub header_parts : HeaderView → FieldsView × PerVersion (List SignatureView)
 header_parts h = (fields_in h, (each_of (counter_signatures_in h), each_of (countersignatures_in h)))
 
 -- The map of a header's fields. s is the shape of its signatures: ? 7 => s and ? 11 => s. Each is left out if there are

@@ -7,7 +7,7 @@ use Rattle.coset_codec.specs.Shape.{Shape, Each, EachFaults, fixed, bstr, ◌the
 use Rattle.coset_codec.specs.Serialized.{ContentDescribes, ContentFaults}
 use Rattle.coset_codec.specs.declared.error.CoseError.{CoseError}
 use Rattle.coset_codec.specs.Maps.{unless_empty, SomePair}
-use Rattle.coset_core.specs.Fields.{FieldsView, Versions, map_with, partial_header, SomeCounterSignatures}
+use Rattle.coset_core.specs.Fields.{FieldsView, PerVersion, map_with, partial_header, SomeCounterSignatures}
 use Rattle.coset_core.specs.FieldLaws.{split}
 use Rattle.coset_core.specs.Headers.{HeaderView, header_of, Signatures, no_signatures, ProtectedView, SignatureView, signatures_of, empty_header}
 use Rattle.coset_core.specs.Headers.{CounterSignaturesAre, DescribesContent, DescribesProtected, IsHeader}
@@ -71,7 +71,7 @@ counter_signatures_read k w xs h = (h.0, h.1, signatures_read k h.0 xs h.2)
 
 -- A map describes a header if it describes the fields, and its values of labels 7 and 11 describe the signatures.
 pub header_read :
-    (k : ℕ) (v : Item) (f : FieldsView) (o : Versions (Option Item)) (ss ts : Signatures) → partial_header.describes v (f, o)
+    (k : ℕ) (v : Item) (f : FieldsView) (o : PerVersion (Option Item)) (ss ts : Signatures) → partial_header.describes v (f, o)
     → CounterSignaturesAre (AreSignatures ss k) (ss ≡ no_signatures) o.0
     → CounterSignaturesAre (AreSignatures ts k) (ts ≡ no_signatures) o.1 → (layered_header k).describes v (header_of f ss ts)
 unfolding layered_header

@@ -4,7 +4,7 @@ use Rattle.coset_value.specs.Item.{Item, Items, no_items, item}
 use Rattle.coset_cbor.proofs.Again.{encodings_differ}
 use Rattle.coset_codec.specs.Shape.{one_or_more, bstr, ◌then◌, end}
 use Rattle.coset_codec.specs.ShapeLaws.{some-one, some-none}
-use Rattle.coset_core.specs.Fields.{FieldsView, Versions}
+use Rattle.coset_core.specs.Fields.{FieldsView, PerVersion}
 use Rattle.coset_core.specs.FieldLaws.{partial_header_laws}
 use Rattle.coset_core.specs.Headers.{HeaderView, header_of, Signatures, no_signatures, signature_and}
 use Rattle.coset_core.specs.Headers.{empty_header, CounterSignaturesAre, DescribesContent, IsHeader}
@@ -32,7 +32,7 @@ counter_signatures_same k ss ts same (Some v) (Some w) e a b =
 -- A map describes at most one header, and so does the content of a byte string.
 map_same : (f g : FieldsView) (ss ts us ws : Signatures) → SameSignatures ss us → SameSignatures ts ws → SameHeader (header_of f ss ts) (header_of g us ws)
 map_same f g ss ts us ws same same_v2 k v a b =
-    let e : ◌≡◌ {A = FieldsView × Versions (Option Item)} (f, a.0) (g, b.0) = partial_header_laws.unique v (f, a.0) (g, b.0) a.1 b.1 in
+    let e : ◌≡◌ {A = FieldsView × PerVersion (Option Item)} (f, a.0) (g, b.0) = partial_header_laws.unique v (f, a.0) (g, b.0) a.1 b.1 in
     let first : f ≡ g = ap (λ x. x.0) e in
     let second : ss ≡ us = counter_signatures_same k ss us same a.0.0 b.0.0 (ap (λ x. x.1.0) e) a.2 b.2 in
     let last : ts ≡ ws = counter_signatures_same k ts ws same_v2 a.0.1 b.0.1 (ap (λ x. x.1.1) e) a.3 b.3 in

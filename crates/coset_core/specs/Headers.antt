@@ -11,7 +11,7 @@ use Rattle.coset_codec.specs.Serialized.{ContentFaults, content_bytes, serialize
 use Rattle.coset_codec.specs.Shape.{Shape, both, fixed, mapped, array_of, ◌then◌, end, any_number, bstr, one_or_more, one_or_array, one_or_many}
 use Rattle.coset_codec.specs.declared.error.CoseError.{CoseError}
 use Rattle.coset_codec.specs.declared.error.CoseError.TheVariants.{DecodeFailed}
-use Rattle.coset_core.specs.Fields.{FieldsView, Versions, empty_fields, partial_header, SomeCounterSignatures}
+use Rattle.coset_core.specs.Fields.{FieldsView, PerVersion, empty_fields, partial_header, SomeCounterSignatures}
 
 -- ---- views of headers
 
@@ -80,7 +80,7 @@ CounterSignaturesAre Are is_none (Some w) = (vs : Items) × (one_or_more w ≡ S
 
 -- The item is a map of these fields, and its values of labels 7 and 11 describe the signatures of both versions.
 abbrev pub DescribesHeader : (Option Item → Type 0) → (Option Item → Type 0) → FieldsView → Item → Type 0
-DescribesHeader First Second f v = (o : Versions (Option Item)) × partial_header.describes v (f, o) × First o.0 × Second o.1
+DescribesHeader First Second f v = (o : PerVersion (Option Item)) × partial_header.describes v (f, o) × First o.0 × Second o.1
 
 -- The content of a byte string describes a header. Empty content describes the empty header, and other content is one
 -- item for which P holds.

@@ -5,7 +5,7 @@ use Rattle.std.specs.Map.{lookup}
 use Rattle.coset_value.specs.Item.{Item, Items, no_items, item}
 use Rattle.coset_value.specs.Parts.{as_array, as_bytes}
 use Rattle.coset_codec.specs.Lists.{EachHas, EachWith}
-use Rattle.coset_label.specs.Names.{Name, same_name}
+use Rattle.coset_label.specs.LabelData.{LabelView, same_label}
 use Rattle.coset_core.specs.FieldLabels as labels
 use Rattle.coset_core.specs.HeaderMap.{each_of}
 use Rattle.coset_core.specs.Headers.{HeaderView, ProtectedView, SignatureView, counter_signatures_in, countersignatures_in, fields_in, protected_bytes}
@@ -42,8 +42,8 @@ KeepsSignature s t = (protected_bytes t.protected ≡ protected_bytes s.protecte
 
 -- The signatures ss were written under the label l, next to this rest, and the signatures ts were read. They are
 -- equally many, and R relates them in order. If ss is empty, so is ts, unless the rest has the label l.
-abbrev pub EachReadAs : (SignatureView → SignatureView → Type 0) → Name → List (Name × Item) → List SignatureView → List SignatureView → Type 0
-EachReadAs R l rest [] ts = lookup (same_name l) rest ≡ None → ts ≡ []
+abbrev pub EachReadAs : (SignatureView → SignatureView → Type 0) → LabelView → List (LabelView × Item) → List SignatureView → List SignatureView → Type 0
+EachReadAs R l rest [] ts = lookup (same_label l) rest ≡ None → ts ≡ []
 EachReadAs R l rest (s ∷ ss) ts = EachWith R (s ∷ ss) ts
 
 -- R relates the signatures written in the header h to those read in g, under label 7 and under label 11.

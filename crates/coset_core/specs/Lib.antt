@@ -6,7 +6,7 @@ pub mod Built
 pub mod Contents
 pub mod ProtectedMap
 pub mod Headers
-pub mod Held
+pub mod SignatureCounts
 pub mod HeaderReads
 pub mod HeaderUnique
 pub mod HeaderSound

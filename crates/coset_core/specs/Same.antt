@@ -3,18 +3,18 @@ use Rattle.std.specs.Prelude.{Bool, true, false, ◌&&◌, ◌==◌}
 use Rattle.std.specs.Option.{option_eq}
 use Rattle.std.specs.Ordering.{is_eq}
 use Rattle.std.specs.Cmp.Lexicographic.{pointwise}
-use Rattle.coset_label.specs.Names.{Name, RegisteredName, registered_cmp, same_name}
+use Rattle.coset_label.specs.LabelData.{LabelView, RegisteredLabelView, registered_cmp, same_label}
 use Rattle.coset_label.specs.Same.{algorithm_eq, entry_eq}
 use Rattle.coset_core.specs.Fields.{FieldsView}
 use Rattle.coset_core.specs.Headers.{HeaderView, header_of, Signatures, no_signatures, signature_and, ProtectedView, SignatureView}
 
 -- Returns true if the two entries of `crit` are equal.
-abbrev pub critical_eq : RegisteredName → RegisteredName → Bool
+abbrev pub critical_eq : RegisteredLabelView → RegisteredLabelView → Bool
 critical_eq a b = is_eq (registered_cmp a b)
 
 -- Returns true if the two content types are equal.
-abbrev pub content_type_eq : Name → Name → Bool
-content_type_eq = same_name
+abbrev pub content_type_eq : LabelView → LabelView → Bool
+content_type_eq = same_label
 
 -- Returns true if all fields are equal. Lists are compared element by element.
 abbrev pub fields_eq : FieldsView → FieldsView → Bool

@@ -8,7 +8,7 @@ use Rattle.std.proofs.lemmas.Bool.{and_parts}
 use Rattle.std.proofs.lemmas.Bool.Decides.{Decides-like, Decides-and}
 use Rattle.coset_label.specs.NameOrder.{registered_cmp-apart}
 use Rattle.coset_label.specs.Same.{IsEquality, algorithm_eq, entry_eq}
-use Rattle.coset_label.specs.SameLaws.{algorithm_eq-decides, entry_eq-decides, same_name-decides}
+use Rattle.coset_label.specs.SameLaws.{algorithm_eq-decides, entry_eq-decides, same_label-decides}
 use Rattle.coset_core.specs.Headers.{HeaderView, header_of, Signatures, no_signatures, signature_and}
 use Rattle.coset_core.specs.Same.{critical_eq, content_type_eq, fields_eq, signatures_eq, header_eq, protected_eq, signature_eq}
 
@@ -60,7 +60,8 @@ fields_eq-decides f g =
     ))
     (Decides-and (option_eq algorithm_eq f.alg g.alg) _ (option_eq-decides algorithm_eq algorithm_eq-decides f.alg g.alg)
     (Decides-and (pointwise critical_eq f.crit g.crit) _ (pointwise_decides critical_eq-decides f.crit g.crit)
-    (Decides-and (option_eq content_type_eq f.content_type g.content_type) _ (option_eq-decides content_type_eq same_name-decides f.content_type g.content_type)
+    (Decides-and (option_eq content_type_eq f.content_type g.content_type) _
+    (option_eq-decides content_type_eq same_label-decides f.content_type g.content_type)
     (Decides-and (pointwise ◌==◌ f.key_id g.key_id) _ (bytes_decides f.key_id g.key_id)
     (Decides-and (pointwise ◌==◌ f.iv g.iv) _ (bytes_decides f.iv g.iv)
     (Decides-and (pointwise ◌==◌ f.partial_iv g.partial_iv) _ (bytes_decides f.partial_iv g.partial_iv)

@@ -4,7 +4,7 @@ use Rattle.coset_iana.specs.CoapContentFormat as content_formats
 use Rattle.coset_iana.specs.HeaderParameter as parameters
 use Rattle.coset_iana.specs.declared.content_formats.CoapContentFormat.{CoapContentFormat}
 use Rattle.coset_iana.specs.declared.headers.HeaderParameter.{HeaderParameter}
-use Rattle.coset_label.specs.Names.{Name, RegisteredName}
+use Rattle.coset_label.specs.LabelData.{LabelView, RegisteredLabelView}
 use Rattle.coset_label.specs.Views.{algorithm_view, entry_view, registered_view, registered_or_private_view}
 use Rattle.coset_label.specs.declared.registered.RegisteredLabel.{RegisteredLabel}
 use Rattle.coset_label.specs.declared.registered.RegisteredLabelWithPrivate.{RegisteredLabelWithPrivate}
@@ -15,10 +15,10 @@ use Rattle.coset_core.specs.declared.header.Header.{Header, Header-F, fold-Heade
 use Rattle.coset_core.specs.declared.protected.ProtectedHeader.{ProtectedHeader, ProtectedHeader-F, fold-ProtectedHeader}
 use Rattle.coset_core.specs.declared.signature.CoseSignature.{CoseSignature, CoseSignature-F, fold-CoseSignature}
 
-abbrev pub critical_view : RegisteredLabelWithPrivate HeaderParameter → RegisteredName
+abbrev pub critical_view : RegisteredLabelWithPrivate HeaderParameter → RegisteredLabelView
 critical_view = registered_or_private_view parameters.number
 
-abbrev pub content_type_view : RegisteredLabel CoapContentFormat → Name
+abbrev pub content_type_view : RegisteredLabel CoapContentFormat → LabelView
 content_type_view = registered_view content_formats.number
 
 -- The view of one level of a header, without its counter signatures.

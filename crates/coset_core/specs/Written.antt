@@ -40,14 +40,14 @@ pub record AppendsFirst (old new : List ℕ) (f : FieldsView) : Type 0 where
   pub partial_iv : AppendsField (parameters.number PartialIv) ((unless_empty nonempty_bstr).image f.partial_iv) behind_iv new
 
 -- Whether each field of a header is set, in the order of their labels.
-abbrev pub are_there : HeaderView → List Bool
-are_there (header_of f ss ts) =
+abbrev pub fields_present : HeaderView → List Bool
+fields_present (header_of f ss ts) =
     is_some f.alg ∷ is_nonempty f.crit ∷ is_some f.content_type ∷ is_nonempty f.key_id ∷ is_nonempty f.iv ∷ is_nonempty f.partial_iv
     ∷ not (are_none ss) ∷ not (are_none ts) ∷ is_some f.countersignature0_v2 ∷ []
 
 -- The number of pairs in a header's map.
 abbrev pub count_pairs : HeaderView → ℕ
-count_pairs h = length (filter (λ b. b) (are_there h)) + length (fields_in h).rest
+count_pairs h = length (filter (λ b. b) (fields_present h)) + length (fields_in h).rest
 
 -- ---- headers and signatures
 

@@ -2,8 +2,8 @@
 
 ghost use Rattle.std.specs.Prelude.{◌≡◌, Option};
 ghost use Rattle.coset_value.specs.Item.{Item};
-ghost use Rattle.coset_codec.specs.Answers.{Writes};
-ghost use Rattle.coset_core.specs.Calls.{AsksAbout, TriesToCreate};
+ghost use Rattle.coset_codec.specs.Results.{Writes};
+ghost use Rattle.coset_core.specs.Calls.{CallsWith, TriesToCreate};
 
 use coset_codec::{CallError, Result};
 
@@ -13,17 +13,13 @@ use coset_codec::{CallError, Result};
 /// # Errors
 /// - The error in `structure`.
 /// - `Caller` with the error that `f` returns.
-pub fn verify_with<F, U, E>(
-    bytes: &[u8],
-    structure: Result<Vec<u8>>,
-    f: F,
-) -> Result<U, CallError<E>>
+pub fn call_with<F, U, E>(bytes: &[u8], structure: Result<Vec<u8>>, f: F) -> Result<U, CallError<E>>
 where
     F: FnOnce(&[u8], &[u8]) -> Result<U, E> + Drop,
     E: Drop,
     requires { F.IsAlwaysCallable f }
     ensures { (o : Option Item) → Writes o (λ b. b.items) structure
-        → AsksAbout F.FnOnce f bytes.now o result }
+        → CallsWith F.FnOnce f bytes.now o result }
 {
     let structure = structure?;
     match f(bytes, &structure) {

@@ -2,7 +2,7 @@
 
 ghost use Rattle.std.specs.Prelude.{◌≡◌, ◌≤◌, option_map, OnOk, IfOk, IfErr, filter, length, ◌==◌, OnErr};
 ghost use Rattle.coset_core.specs.Views.{content_type_view};
-ghost use Rattle.coset_codec.specs.Answers.{Reads};
+ghost use Rattle.coset_codec.specs.Results.{Reads};
 ghost use Rattle.coset_codec.specs.Errors.{IsUnexpected, UnlessMemory};
 ghost use Rattle.coset_codec.specs.Inputs.{state, ReadsAt, length_left};
 ghost use Rattle.coset_core.specs.Fields.{IsMediaType, content_type};
@@ -28,7 +28,7 @@ fn slashes(text: &str) -> usize
 /// # Errors
 /// `UnexpectedItem` if the text is empty, begins or ends with white space, or does not have exactly
 /// one `/`.
-fn ask_media_type(text: &str) -> Result<()>
+fn check_media_type(text: &str) -> Result<()>
     ensures ok { IfOk result (λ _. IsMediaType text.now) }
     ensures refused { IfErr result (λ e. IsUnexpected e × (IsMediaType text.now → ⊥)) }
 {
@@ -56,7 +56,7 @@ fn read_content_type(alloc: Global, input: &mut Decoder<'_>) -> Result<ContentTy
 {
     let content_type = ContentType::from_input(alloc, input)?;
     if let RegisteredLabel::Text(text) = &content_type {
-        ask_media_type(text)?;
+        check_media_type(text)?;
     }
     Ok(content_type)
 }

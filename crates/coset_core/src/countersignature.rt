@@ -14,7 +14,7 @@ ghost use Rattle.std.specs.Ordering.{on};
 ghost use Rattle.std.specs.Cmp.{on_equiv, on_per, partial_equiv_from_equiv};
 ghost use Rattle.coset_core.specs.Same.{signature_eq, signatures_eq};
 ghost use Rattle.coset_core.specs.SameLaws.{signature_eq_equiv};
-ghost use Rattle.coset_core.specs.Held.{held_in};
+ghost use Rattle.coset_core.specs.SignatureCounts.{count_in_lists};
 
 use crate::header::writing::write_header;
 use crate::header::{Header, copy_header, same_header};
@@ -22,7 +22,7 @@ use crate::protected::{
     ProtectedHeader, ProtectedRef, copy_protected, protected_from_header, same_protected,
     write_protected,
 };
-use crate::signature::{CoseSignature, Held, copy_into, held_by};
+use crate::signature::{CoseSignature, CounterSignatures, copy_into, take_counter_signatures};
 use coset_cbor::ser::{write_array_head, write_bytes};
 use coset_codec::read::{Decoder, InPlace, make_room, push_empty};
 use coset_codec::write::Encode;
@@ -286,17 +286,18 @@ fn same_countersignature(a: &CoseCountersignature, b: &CoseCountersignature) -> 
 #[inline(never)]
 pub(crate) fn take_last_countersignature(
     all: &mut Vec<CoseCountersignature>,
-) -> Option<(Held, Held)>
+) -> Option<(CounterSignatures, CounterSignatures)>
     ensures none { result ≡ None → all.old.items ≡ [] }
-    ensures fewer { IfSome result (λ x. held_in x.0.0.items x.0.1.items + held_in x.1.0.items
-        x.1.1.items + held_in [] all.new.items < held_in [] all.old.items) }
+    ensures fewer { IfSome result (λ x. count_in_lists x.0.0.items x.0.1.items + count_in_lists
+        x.1.0.items
+        x.1.1.items + count_in_lists [] all.new.items < count_in_lists [] all.old.items) }
 {
     let CoseCountersignature {
         protected,
         unprotected,
         signature: _,
     } = all.pop()?;
-    Some(held_by(protected, unprotected))
+    Some(take_counter_signatures(protected, unprotected))
 }
 
 /// Builds a [`CoseCountersignature`] field by field. Contracts see the builder as the

@@ -2,7 +2,7 @@
 
 ghost use Rattle.std.specs.Prelude.{◌≡◌, ◌≤◌, map, OnOk, IfOk, IfErr, OnErr};
 ghost use Rattle.coset_core.specs.Views.{critical_view};
-ghost use Rattle.coset_codec.specs.Answers.{Reads};
+ghost use Rattle.coset_codec.specs.Results.{Reads};
 ghost use Rattle.coset_codec.specs.Errors.{UnlessMemory};
 ghost use Rattle.coset_codec.specs.Inputs.{state, ReadsAt, length_left};
 ghost use Rattle.coset_core.specs.Fields.{critical};

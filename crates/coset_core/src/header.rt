@@ -5,8 +5,8 @@ ghost use Rattle.std.specs.Map.{lookup};
 ghost use Rattle.coset_value.specs.View.{value_item};
 ghost use Rattle.coset_codec.specs.declared.error.CoseError.TheVariants as errors;
 ghost use Rattle.coset_label.specs.Views.{algorithm_view, entry_view, label_view};
-ghost use Rattle.coset_label.specs.Names.{same_name};
-ghost use Rattle.coset_core.specs.FieldViews.{fields_view, signatures_held};
+ghost use Rattle.coset_label.specs.LabelData.{same_label};
+ghost use Rattle.coset_core.specs.FieldViews.{fields_view, signature_lists};
 ghost use Rattle.coset_core.specs.Views.{header_view};
 ghost use Rattle.coset_core.specs.Headers.{empty_header, fields_in, is_empty_header, layered_header, header as header_shape};
 ghost use Rattle.std.specs.Option.{option_eq};
@@ -24,7 +24,9 @@ use crate::countersignature::{
 use crate::critical::same_critical;
 use crate::header::reading::fill_header;
 use crate::header::writing::write_header;
-use crate::signature::{CoseSignature, Held, copy_signatures, drop_held, same_signatures};
+use crate::signature::{
+    CoseSignature, CounterSignatures, copy_signatures, drop_counter_signatures, same_signatures,
+};
 use coset_cbor::value::Value;
 use coset_codec::error::ErrorStored;
 use coset_codec::read::{Decoder, drop_refused};
@@ -95,15 +97,15 @@ pub struct Header {
 /// deep headers nest in them.
 impl Drop for Header {
     fn drop(self) {
-        drop_held(self.into_signatures());
+        drop_counter_signatures(self.into_counter_signatures());
     }
 }
 
 impl Header {
     /// Returns the counter signatures of both versions, and drops the other fields.
     #[inline(always)]
-    pub(crate) fn into_signatures(self) -> Held
-        ensures { (result.0.items, result.1.items) ≡ signatures_held self }
+    pub(crate) fn into_counter_signatures(self) -> CounterSignatures
+        ensures { (result.0.items, result.1.items) ≡ signature_lists self }
     {
         let Header {
             alg: _,
@@ -159,7 +161,7 @@ impl Header {
     /// In a decoded header, `rest` has no label of a field (1 to 7, 11 and 12; RFC 8152, section
     /// 3).
     pub fn get(&self, label: &Label) -> Option<&Value>
-        ensures { option_map (λ v. value_item v.now) result ≡ lookup (same_name
+        ensures { option_map (λ v. value_item v.now) result ≡ lookup (same_label
             (label_view label.now))
             (fields_in (header_view self.now)).rest }
     {
@@ -254,7 +256,7 @@ impl Codec for Header {
 #[inline(never)]
 fn copy_fields(header: &Header, copy: &mut Header) -> Result<(), AllocError>
     ensures copy { OnOk result (fields_view copy.new ≡ fields_view header.now) }
-    ensures others { signatures_held copy.new ≡ signatures_held copy.old }
+    ensures others { signature_lists copy.new ≡ signature_lists copy.old }
 {
     copy.alg = header.alg.clone()?;
     copy.crit = header.crit.clone()?;

@@ -8,7 +8,7 @@ ghost use Rattle.std.specs.Prelude.{◌≡◌, ◌≤◌};
 ghost use Rattle.coset_core.specs.Headers.{empty_header, header as header_shape, protected as protected_shape};
 ghost use Rattle.coset_core.specs.Views.{header_view, protected_view};
 ghost use Rattle.coset_codec.specs.InPlace.{Fills};
-ghost use Rattle.coset_codec.specs.Answers.{Reads};
+ghost use Rattle.coset_codec.specs.Results.{Reads};
 ghost use Rattle.coset_codec.specs.Inputs.{ReadsAt, length_left, state, ReadsForward};
 ghost use Rattle.coset_core.specs.Messages.{with_headers};
 
@@ -92,7 +92,7 @@ impl Decode for BstrOrNil {
 /// - `UnexpectedItem` if the item is not an array.
 /// - `UnexpectedItem` with `want` if the array has a wrong number of elements.
 /// - The fault of the last element that has one.
-pub fn read_headed<P: DecodeElements + Drop>(
+pub fn read_with_headers<P: DecodeElements + Drop>(
     protected: &mut ProtectedHeader,
     unprotected: &mut Header,
     alloc: Global,

@@ -25,7 +25,7 @@ pub use coset_label::{
 };
 pub use countersignature::{CoseCountersignature, CoseCountersignatureBuilder};
 pub use header::{Header, HeaderBuilder, copy_header};
-pub use headers::{BstrOrNil, fill_protected_header, fill_unprotected_header, read_headed};
+pub use headers::{BstrOrNil, fill_protected_header, fill_unprotected_header, read_with_headers};
 pub use protected::{ProtectedHeader, ProtectedRef, copy_protected};
 pub use protected_bstr::ProtectedBstr;
 pub use signature::{CoseSignature, CoseSignatureBuilder, read_signatures};

@@ -17,7 +17,7 @@ use coset_codec::{CoseError, Result};
 use std::mem;
 
 /// Returns the error for an empty array.
-fn no_one_or_more() -> CoseError
+fn empty_array_error() -> CoseError
     ensures { IsUnexpected result × SaysFirst no_items result }
 {
     CoseError::UnexpectedItem("empty sig array", "non-empty sig array")
@@ -28,7 +28,7 @@ fn tree_is_one(elements: &Vec<Value>) -> Result<bool>
     ensures { BeginsSo (value_items elements.now.items) result }
 {
     let Some(first) = elements.first() else {
-        return Err(no_one_or_more());
+        return Err(empty_array_error());
     };
     if first.as_bytes().is_some() {
         Ok(true)
@@ -56,14 +56,14 @@ fn tree_one_or_more(value: Value) -> Result<(bool, ArrayElements)>
 }
 
 /// Returns true if the next element is a byte string, and false if it is an array.
-fn is_one_lent(elements: Remaining, cursor: Cursor<'_>) -> Result<bool>
+fn is_one_borrowed(elements: Remaining, cursor: Cursor<'_>) -> Result<bool>
     ensures { (vs : Items) (a : List ℕ) → lent_within elements vs (bytes_left cursor.entry) a
         → BeginsSo vs result }
 {
     let mut elements = elements;
     let mut cursor = cursor;
     if !elements.next(&cursor) {
-        return Err(no_one_or_more());
+        return Err(empty_array_error());
     }
     if cursor.is_bytes() {
         return Ok(true);
@@ -90,12 +90,12 @@ pub(crate) fn enter_one_or_more(input: &mut Decoder<'_>) -> Result<(bool, ArrayE
 {
     match input {
         Decoder::Tree(value) => tree_one_or_more(mem::replace(value, Value::Null)),
-        Decoder::Lent(cursor) => {
+        Decoder::Borrowed(cursor) => {
             let Some(elements) = cursor.array() else {
                 return Err(pull_type_error(cursor.take()?, "array"));
             };
-            match is_one_lent(elements, *cursor) {
-                Ok(one) => Ok((one, ArrayElements::Lent(elements))),
+            match is_one_borrowed(elements, *cursor) {
+                Ok(one) => Ok((one, ArrayElements::Borrowed(elements))),
                 Err(error) => {
                     elements.finish(cursor);
                     Err(error)

@@ -5,9 +5,9 @@ ghost use Rattle.coset_codec.specs.declared.error.CoseError.TheVariants.{OutOfMe
 ghost use Rattle.coset_core.specs.Contents.{FillsContent};
 ghost use Rattle.coset_codec.specs.InPlace.{Fills};
 ghost use Rattle.coset_core.specs.Views.{header_view, protected_view};
-ghost use Rattle.coset_codec.specs.Answers.{Reads, Images, RefusesItem};
+ghost use Rattle.coset_codec.specs.Results.{Reads, Images, RefusesItem};
 ghost use Rattle.coset_codec.specs.Errors.{stored};
-ghost use Rattle.coset_codec.specs.Inputs.{state, GoesBehind, ReadsAt, length_left, ReadsForward};
+ghost use Rattle.coset_codec.specs.Inputs.{state, MovesForward, ReadsAt, length_left, ReadsForward};
 ghost use Rattle.coset_codec.specs.Sources.{source_item};
 ghost use Rattle.coset_value.specs.Item.{bytes};
 ghost use Rattle.coset_codec.specs.Shape.{bstr};
@@ -98,7 +98,7 @@ impl ProtectedHeader {
         ensures read { Reads protected_shape protected_view (pull_item pull.entry) result }
         ensures refused { RefusesItem protected_shape (pull_item pull.entry) result }
     {
-        ProtectedHeader::from_source_bstr(alloc, ItemSource::Lent(pull))
+        ProtectedHeader::from_source_bstr(alloc, ItemSource::Borrowed(pull))
     }
 
     /// Decodes a protected header from its byte string, given in either form, and keeps the bytes.
@@ -328,7 +328,7 @@ fn fill_content(
         return Ok(());
     }
     let item = store_error(whole_item(content), error)?;
-    let mut input = Decoder::new(ItemSource::Lent(item));
+    let mut input = Decoder::new(ItemSource::Borrowed(item));
     fill_header(header, alloc, &mut input, layers, error)
 }
 
@@ -341,7 +341,7 @@ pub(crate) fn fill_bstr(
 ) -> Result<(), ErrorStored>
     requires empty { (protected_view protected.old).header ≡ empty_header }
     ensures shrinks { length_left (state input.new) ≤ length_left (state input.old) }
-    ensures strictly { OnOk result (GoesBehind (state input.old) (state input.new)) }
+    ensures strictly { OnOk result (MovesForward (state input.old) (state input.new)) }
     ensures fills { ReadsAt (state input.old) (state input.new)
         (λ v. Fills protected_shape v (protected_view protected.new) (stored error.new result)) }
 {

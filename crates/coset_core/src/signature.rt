@@ -8,10 +8,10 @@ ghost use Rattle.coset_core.specs.Views.{header_view, protected_view, signature_
 ghost use Rattle.coset_codec.specs.Errors.{IsUnexpected, UnlessMemory, stored, made_in_place};
 ghost use Rattle.coset_value.specs.Item.{Item, array, Items, no_items, item};
 ghost use Rattle.coset_value.specs.Parts.{as_array};
-ghost use Rattle.coset_codec.specs.Answers.{Reads};
+ghost use Rattle.coset_codec.specs.Results.{Reads};
 ghost use Rattle.coset_codec.specs.Kinds.{Says, kind};
 ghost use Rattle.coset_codec.specs.Shape.{list_of, masked};
-ghost use Rattle.coset_codec.specs.Inputs.{State, state, length_left, input_size, items_size, ItemAt, GoesBehind, AreWithin, EntersArray, ReadsAt};
+ghost use Rattle.coset_codec.specs.Inputs.{State, state, length_left, input_size, items_size, ItemAt, MovesForward, AreWithin, EntersArray, ReadsAt};
 ghost use Rattle.coset_core.specs.Filling.{BeginsElements, EndsElements};
 ghost use Rattle.coset_core.specs.Headers.{empty_header, layered_signature, signature as signature_shape, signatures_of, signatures_image};
 ghost use Rattle.coset_core.specs.Written.{AppendsSignatures, signature_array};
@@ -21,7 +21,7 @@ ghost use Rattle.std.specs.Ordering.{on};
 ghost use Rattle.std.specs.Cmp.{on_equiv, on_per, partial_equiv_from_equiv};
 ghost use Rattle.coset_core.specs.Same.{signature_eq, signatures_eq};
 ghost use Rattle.coset_core.specs.SameLaws.{signature_eq_equiv};
-ghost use Rattle.coset_core.specs.Held.{header_count, held_in, signatures_in};
+ghost use Rattle.coset_core.specs.SignatureCounts.{header_count, count_in_lists, count_in_list};
 
 use crate::countersignature::{CoseCountersignature, take_last_countersignature};
 use crate::header::reading::fill_header;
@@ -60,7 +60,7 @@ pub struct CoseSignature {
 }
 
 /// The expected item, as the error for a wrong number of elements names it.
-const PLACES: &str = "array with 3 items";
+const EXPECTED_ARRAY: &str = "array with 3 items";
 
 impl CoseSignature {
     /// Returns a signature without bytes and with empty headers. Allocates nothing.
@@ -169,15 +169,15 @@ impl InPlace for CoseSignature {
 }
 
 /// Reads the first element of a signature's array into `kept`, and goes to the second. Returns
-/// false if the first could not be read as a byte string. Its error is then in `why`: a fault of a
-/// later element has priority over it.
+/// false if the first could not be read as a byte string. Its error is then in `first_error`: a
+/// fault of a later element has priority over it.
 ///
 /// # Errors
 /// `UnexpectedItem` if the array has fewer than two elements.
 #[inline(never)]
 fn begin_elements(
     kept: &mut Option<Vec<u8>>,
-    why: &mut CoseError,
+    first_error: &mut CoseError,
     alloc: Global,
     elements: &mut ArrayElements,
     input: &mut Decoder<'_>,
@@ -190,15 +190,15 @@ fn begin_elements(
         (input_size (state input.new) ≤ items_size elements.old (state input.old)) }
     ensures begins { (vs : Items) (z : State) → AreWithin elements.old vs (state input.old) z
         → BeginsElements vs (state input.new) z elements.new (option_map (λ b. b.items) kept.new)
-        why.new (stored error.new result) }
+        first_error.new (stored error.new result) }
 {
     if !elements.next(input) {
-        *error = wrong_length(PLACES);
+        *error = wrong_length(EXPECTED_ARRAY);
         return Err(ErrorStored);
     }
-    let first = string_bytes(alloc, input, why);
+    let first = string_bytes(alloc, input, first_error);
     if !elements.next(input) {
-        *error = wrong_length(PLACES);
+        *error = wrong_length(EXPECTED_ARRAY);
         return Err(ErrorStored);
     }
     match first {
@@ -230,13 +230,13 @@ fn end_elements(
     ensures kept { OnOk result (error.new ≡ error.old) }
 {
     if !elements.next(input) {
-        *error = wrong_length(PLACES);
+        *error = wrong_length(EXPECTED_ARRAY);
         return Err(ErrorStored);
     }
     let last = string_bytes(alloc, input, error);
     if elements.next(input) {
         input.skip();
-        *error = wrong_length(PLACES);
+        *error = wrong_length(EXPECTED_ARRAY);
         return Err(ErrorStored);
     }
     *signature = last?;
@@ -248,7 +248,7 @@ fn end_elements(
 /// # Errors
 /// The same as [`fill_elements`].
 #[cycle(read)]
-pub(crate) fn fill_bare(
+pub(crate) fn fill_single_signature(
     all: &mut Vec<CoseSignature>,
     alloc: Global,
     elements: &mut ArrayElements,
@@ -278,7 +278,7 @@ pub(crate) fn fill_bare(
 /// - `OutOfMemory` if an allocation fails.
 /// - The fault of the first signature that has one.
 #[cycle(read)]
-pub(crate) fn fill_listed(
+pub(crate) fn fill_signature_list(
     all: &mut Vec<CoseSignature>,
     alloc: Global,
     elements: &mut ArrayElements,
@@ -305,11 +305,11 @@ pub(crate) fn fill_listed(
 /// # Errors
 /// - `OutOfMemory` if an allocation fails.
 /// - `UnexpectedItem`, with an array as the expectation, if the item is not an array.
-/// - `UnexpectedItem` with the two texts of `blame`, for any fault in a signature.
+/// - `UnexpectedItem` with the two texts of `error_names`, for any fault in a signature.
 pub fn read_signatures(
     alloc: Global,
     input: &mut Decoder<'_>,
-    blame: (&'static str, &'static str),
+    error_names: (&'static str, &'static str),
 ) -> Result<Vec<CoseSignature>>
     ensures shrinks { length_left (state input.new) ≤ length_left (state input.old) }
     ensures reads { ReadsAt (state input.old) (state input.new)
@@ -319,28 +319,28 @@ pub fn read_signatures(
         (λ v. IfErr result (λ e. as_array v ≡ None → Says (kind v) (codes "array") e)) }
     ensures blames { ReadsAt (state input.old) (state input.new)
         (λ v. IfErr result (λ e. as_array v ≢ None
-        → UnlessMemory e (Says blame.entry.0.now blame.entry.1.now))) }
+        → UnlessMemory e (Says error_names.entry.0.now error_names.entry.1.now))) }
 {
     let mut elements = input.enter_array("array")?;
     let mut all = Vec::new(alloc);
     let mut error = CoseError::OutOfMemory;
-    let filled = fill_listed(&mut all, alloc, &mut elements, input, LAYERS, &mut error);
+    let filled = fill_signature_list(&mut all, alloc, &mut elements, input, LAYERS, &mut error);
     elements.finish(input);
     match filled {
         Ok(()) => Ok(all),
-        Err(ErrorStored) => Err(masked_error(error, blame)),
+        Err(ErrorStored) => Err(masked_error(error, error_names)),
     }
 }
 
 /// Returns `UnexpectedItem` with these two texts in place of `error`, unless that is `OutOfMemory`.
-fn masked_error(error: CoseError, blame: (&'static str, &'static str)) -> CoseError
+fn masked_error(error: CoseError, error_names: (&'static str, &'static str)) -> CoseError
     ensures memory { error ≡ OutOfMemory → result ≡ OutOfMemory }
     ensures blames { UnlessMemory error (λ e. IsUnexpected result
-        × Says blame.entry.0.now blame.entry.1.now result) }
+        × Says error_names.entry.0.now error_names.entry.1.now result) }
 {
     match error {
         CoseError::OutOfMemory => CoseError::OutOfMemory,
-        _ => CoseError::UnexpectedItem(blame.0, blame.1),
+        _ => CoseError::UnexpectedItem(error_names.0, error_names.1),
     }
 }
 
@@ -355,7 +355,7 @@ fn begin_items(
     error: &mut CoseError,
 ) -> Result<(), ErrorStored>
     ensures shrinks { length_left (state input.new) ≤ length_left (state input.old) }
-    ensures strictly { OnOk result (GoesBehind (state input.old) (state input.new)) }
+    ensures strictly { OnOk result (MovesForward (state input.old) (state input.new)) }
     ensures deeper { OnOk result
         (items_size elements.new (state input.new) < input_size (state input.old)) }
     ensures enters { (v : Item) (z : State) → ItemAt v (state input.old) z
@@ -381,7 +381,7 @@ fn fill_signature(
 ) -> Result<(), ErrorStored>
     requires empty { signature_view signed.old ≡ empty_signature }
     ensures shrinks { length_left (state input.new) ≤ length_left (state input.old) }
-    ensures strictly { OnOk result (GoesBehind (state input.old) (state input.new)) }
+    ensures strictly { OnOk result (MovesForward (state input.old) (state input.new)) }
     ensures fills { (v : Item) (z : State) → ItemAt v (state input.old) z → (state input.new ≡ z)
         × Fills (layered_signature layers) v (signature_view signed.new)
         (stored error.new result) }
@@ -416,14 +416,14 @@ fn fill_elements(
         × Fills (layered_signature layers) (array vs) (signature_view signed.new)
         (stored error.new result) }
 {
-    let mut why = CoseError::OutOfMemory;
+    let mut first_error = CoseError::OutOfMemory;
     let kept = &mut signed.protected.original_data;
-    let is_string = begin_elements(kept, &mut why, alloc, elements, input, error)?;
+    let is_string = begin_elements(kept, &mut first_error, alloc, elements, input, error)?;
     let unprotected = fill_header(&mut signed.unprotected, alloc, input, layers, error);
     end_elements(&mut signed.signature, alloc, elements, input, error)?;
     unprotected?;
     if !is_string {
-        *error = why;
+        *error = first_error;
         return Err(ErrorStored);
     }
     fill_protected(&mut signed.protected, alloc, layers, error)
@@ -524,35 +524,45 @@ fn same_signature(a: &CoseSignature, b: &CoseSignature) -> bool
 }
 
 /// Counter signatures of both versions.
-pub(crate) type Held = (Vec<CoseSignature>, Vec<CoseCountersignature>);
+pub(crate) type CounterSignatures = (Vec<CoseSignature>, Vec<CoseCountersignature>);
 
 /// Returns the counter signatures of the two headers, and drops everything else in them.
 #[inline(always)]
-pub(crate) fn held_by(protected: ProtectedHeader, unprotected: Header) -> (Held, Held)
-    ensures { held_in result.0.0.items result.0.1.items + held_in result.1.0.items result.1.1.items
+pub(crate) fn take_counter_signatures(
+    protected: ProtectedHeader,
+    unprotected: Header,
+) -> (CounterSignatures, CounterSignatures)
+    ensures { count_in_lists result.0.0.items result.0.1.items + count_in_lists result.1.0.items
+        result.1.1.items
         ≡ header_count (protected_view protected).header + header_count (header_view unprotected) }
 {
     let ProtectedHeader {
         original_data: _,
         header,
     } = protected;
-    (header.into_signatures(), unprotected.into_signatures())
+    (
+        header.into_counter_signatures(),
+        unprotected.into_counter_signatures(),
+    )
 }
 
 /// Removes the last signature and returns the counter signatures of its two headers. Drops
 /// everything else in it.
 #[inline(never)]
-fn take_last_signature(all: &mut Vec<CoseSignature>) -> Option<(Held, Held)>
+fn take_last_signature(
+    all: &mut Vec<CoseSignature>,
+) -> Option<(CounterSignatures, CounterSignatures)>
     ensures none { result ≡ None → all.old.items ≡ [] }
-    ensures fewer { IfSome result (λ x. held_in x.0.0.items x.0.1.items + held_in x.1.0.items
-        x.1.1.items + signatures_in all.new.items < signatures_in all.old.items) }
+    ensures fewer { IfSome result (λ x. count_in_lists x.0.0.items x.0.1.items + count_in_lists
+        x.1.0.items
+        x.1.1.items + count_in_list all.new.items < count_in_list all.old.items) }
 {
     let CoseSignature {
         protected,
         unprotected,
         signature: _,
     } = all.pop()?;
-    Some(held_by(protected, unprotected))
+    Some(take_counter_signatures(protected, unprotected))
 }
 
 /// Removes the last signature of `all`, or else the last of `version_2`. Returns the counter
@@ -561,11 +571,12 @@ fn take_last_signature(all: &mut Vec<CoseSignature>) -> Option<(Held, Held)>
 fn take_last(
     all: &mut Vec<CoseSignature>,
     version_2: &mut Vec<CoseCountersignature>,
-) -> Option<(Held, Held)>
+) -> Option<(CounterSignatures, CounterSignatures)>
     ensures none { result ≡ None → (all.new.items ≡ []) × (version_2.new.items ≡ []) }
-    ensures fewer { IfSome result (λ x. held_in x.0.0.items x.0.1.items + held_in x.1.0.items
-        x.1.1.items + held_in all.new.items version_2.new.items
-        < held_in all.old.items version_2.old.items) }
+    ensures fewer { IfSome result (λ x. count_in_lists x.0.0.items x.0.1.items + count_in_lists
+        x.1.0.items
+        x.1.1.items + count_in_lists all.new.items version_2.new.items
+        < count_in_lists all.old.items version_2.old.items) }
 {
     if !all.is_empty() {
         return take_last_signature(all);
@@ -579,7 +590,7 @@ fn take_last(
 /// Drops the counter signatures of a header. Most headers have none.
 #[cycle(drop_nested)]
 #[inline(always)]
-pub(crate) fn drop_held(held: Held) {
+pub(crate) fn drop_counter_signatures(held: CounterSignatures) {
     let (all, version_2) = held;
     if all.is_empty() && version_2.is_empty() {
         all.destroy_empty();
@@ -596,8 +607,8 @@ pub(crate) fn drop_nested(all: Vec<CoseSignature>, version_2: Vec<CoseCountersig
     let mut all = all;
     let mut version_2 = version_2;
     while let Some((protected, unprotected)) = take_last(&mut all, &mut version_2) {
-        drop_held(protected);
-        drop_held(unprotected);
+        drop_counter_signatures(protected);
+        drop_counter_signatures(unprotected);
     }
     all.destroy_empty();
     version_2.destroy_empty();

@@ -30,8 +30,8 @@ pub fn structure_bytes(alloc: Global, context: &str, parts: &[&[u8]]) -> Result<
 }
 
 /// Returns the beginning of the shortest encoding of a structure: its head, the context and these
-/// byte strings. The head also counts `elements` further elements (0 or 1), which the caller
-/// appends. The vector has room for `more` further bytes.
+/// byte strings. The head also counts `further_elements` further elements (0 or 1), which the
+/// caller appends. The vector has room for `extra_capacity` further bytes.
 ///
 /// # Errors
 /// `OutOfMemory` if an allocation fails.
@@ -40,17 +40,17 @@ pub fn begin_structure(
     alloc: Global,
     context: &str,
     parts: &[&[u8]],
-    elements: usize,
-    more: usize,
+    further_elements: usize,
+    extra_capacity: usize,
 ) -> Result<Vec<u8>>
-    requires { elements ≤ 1 }
+    requires { further_elements ≤ 1 }
     ensures begins { IfOk result (λ b. BeginsStructure b.items context.now
-        (map (λ part. part.now) parts.now) elements) }
+        (map (λ part. part.now) parts.now) further_elements) }
     ensures memory { IfErr result (λ e. e ≡ OutOfMemory) }
 {
-    let room = room_for(context, parts).saturating_add(more);
+    let room = max_structure_size(context, parts).saturating_add(extra_capacity);
     let mut out = Vec::with_capacity(alloc, room)?;
-    write_array_head(parts.len() + 1 + elements, &mut out)?;
+    write_array_head(parts.len() + 1 + further_elements, &mut out)?;
     write_text(context, &mut out)?;
     for part in parts {
         write_bytes(part, &mut out)?;
@@ -59,7 +59,7 @@ pub fn begin_structure(
 }
 
 /// Returns the maximum encoded size of an array of these byte strings.
-pub fn byte_strings_room(parts: &[Vec<u8>]) -> usize {
+pub fn max_byte_strings_size(parts: &[Vec<u8>]) -> usize {
     let mut room = LONGEST_HEAD;
     for part in parts {
         room = room.saturating_add(LONGEST_HEAD).saturating_add(part.len());
@@ -68,7 +68,7 @@ pub fn byte_strings_room(parts: &[Vec<u8>]) -> usize {
 }
 
 /// Returns the maximum encoded size of an array of the context and these byte strings.
-fn room_for(context: &str, parts: &[&[u8]]) -> usize {
+fn max_structure_size(context: &str, parts: &[&[u8]]) -> usize {
     let mut room = LONGEST_HEAD
         .saturating_add(LONGEST_HEAD)
         .saturating_add(context.len());

@@ -10,28 +10,28 @@ use Rattle.std.proofs.lemmas.List.Elements.{All-from_recursion, recursion_from_A
 use Rattle.std.proofs.lemmas.List.Sorted.{All-permutation, Contains-permutation}
 use Rattle.coset_value.specs.Item.{Item, dict, Pairs, pair, no_pairs}
 use Rattle.coset_codec.specs.MapLaws.{IsRest, rest_apart}
-use Rattle.coset_codec.specs.Maps.{Named, entries_image, may_write, named_image, put_field}
+use Rattle.coset_codec.specs.Maps.{AreLabelled, entries_image, may_write, labelled_image, put_field}
 use Rattle.coset_codec.specs.Shape.{both}
 use Rattle.coset_codec.specs.ShapeLaws.{some-one}
-use Rattle.coset_label.specs.Labels.{label, names}
-use Rattle.coset_label.specs.Names.{Name, number, text_label, argument, encoded_length, head_length, name_cmp, name_item}
-use Rattle.coset_label.specs.Orderings.{name_cmp_by}
+use Rattle.coset_label.specs.Labels.{label, cose_labels}
+use Rattle.coset_label.specs.LabelData.{LabelView, number, text_label, argument, encoded_length, head_length, label_cmp, label_item}
+use Rattle.coset_label.specs.Orderings.{label_cmp_by}
 use Rattle.coset_label.specs.SortedLaws.{strictly, above, in-cases}
 use Rattle.coset_label.specs.declared.ordering.CborOrdering.{CborOrdering}
 use Rattle.coset_label.specs.declared.ordering.CborOrdering.TheVariants.{Lexicographic, LengthFirstLexicographic}
-use Rattle.coset_key.specs.Canonical.{IsCanonicalOf, LabelsAscend, ZeroBehindFields, is_field}
+use Rattle.coset_key.specs.Canonical.{IsCanonicalOf, LabelsAscend, ZeroAfterFields, is_field}
 use Rattle.coset_key.specs.Keys.{KeyView, FieldTuple, key, fields, parts_of}
 use Rattle.coset_key.proofs.CanonicalKeys.{canonical_differ, total_by}
 
 -- ---- the labels that are written
 
-label_of_item : (a b : Name) → label.describes (name_item a) b → b ≡ a
+label_of_item : (a b : LabelView) → label.describes (label_item a) b → b ≡ a
 label_of_item (number i) (number j) d = ap number (sym (some-one refl d.1.0))
 label_of_item (number i) (text_label s) d = absurd (true≢false d.0)
 label_of_item (text_label s) (number j) d = absurd (true≢false (sym d.0))
 label_of_item (text_label s) (text_label t) d = ap text_label (sym (some-one refl d.1))
 
-label_image : (a : Name) → label.image a ≡ Some (name_item a)
+label_image : (a : LabelView) → label.image a ≡ Some (label_item a)
 label_image (number i) = refl
 label_image (text_label s) = refl
 
@@ -42,29 +42,31 @@ both-parts f (Some a) None c h = absurd (cc)
 both-parts f None q c h = absurd (cc)
 
 -- The pairs of an image have the labels from which they were written.
-none_written : (es : List (Name × Item)) → Named label.describes no_pairs es → es ≡ []
+none_written : (es : List (LabelView × Item)) → AreLabelled label.describes no_pairs es → es ≡ []
 none_written [] n = refl
 none_written (e ∷ es) n = absurd n
 
 first_written :
-    (f : Name × Item) (fs : List (Name × Item)) (k : Item) (qs : Pairs) (es : List (Name × Item)) → k ≡ name_item f.0
-    → ((ds : List (Name × Item)) → Named label.describes qs ds → ds ≡ fs)
-    → Named label.describes (pair k f.1 qs) es → es ≡ f ∷ fs
+    (f : LabelView × Item) (fs : List (LabelView × Item)) (k : Item) (qs : Pairs) (es : List (LabelView × Item)) → k ≡ label_item f.0
+    → ((ds : List (LabelView × Item)) → AreLabelled label.describes qs ds → ds ≡ fs)
+    → AreLabelled label.describes (pair k f.1 qs) es → es ≡ f ∷ fs
 first_written f fs k qs [] same later n = absurd n
 first_written f fs k qs (e ∷ es) same later n =
     let l : e.0 ≡ f.0 = label_of_item f.0 e.0 (subst (λ j. label.describes j e.0) same n.0) in
     λ i. (l i, sym n.1 i) ∷ later es n.2 i
 
-labels_written : (fs : List (Name × Item)) (ps : Pairs) (es : List (Name × Item)) → named_image label.image fs ≡ Some ps → Named label.describes ps es → es ≡ fs
-labels_written [] ps es h p = none_written es (subst (λ qs. Named label.describes qs es) (sym (some-one refl h)) p)
+labels_written : (fs : List (LabelView × Item)) (ps : Pairs) (es : List (LabelView × Item)) → labelled_image label.image fs ≡ Some ps
+    → AreLabelled label.describes ps es → es ≡ fs
+labels_written [] ps es h p = none_written es (subst (λ qs. AreLabelled label.describes qs es) (sym (some-one refl h)) p)
 labels_written (f ∷ fs) ps es h p =
-    let b = both-parts (λ k qs. pair k f.1 qs) (label.image f.0) (named_image label.image fs) ps h in
+    let b = both-parts (λ k qs. pair k f.1 qs) (label.image f.0) (labelled_image label.image fs) ps h in
     first_written f fs b.0 b.1 es (some-one b.2 (label_image f.0)) (λ ds n. labels_written fs b.1 ds b.3 n)
-    (subst (λ qs. Named label.describes qs es) (sym b.4) p)
+    (subst (λ qs. AreLabelled label.describes qs es) (sym b.4) p)
 
-image_parts : (b : Bool) (rest : List (Name × Item)) (m : Option (List (Name × Item))) (ps : Pairs) → entries_image names b rest m ≡ Some (dict ps)
-    → (cs : List (Name × Item)) × (m ≡ Some cs) × (named_image label.image (cs ++ rest) ≡ Some ps)
-image_parts true rest (Some cs) ps h = (cs, refl, go (named_image label.image (cs ++ rest)) h)
+image_parts : (b : Bool) (rest : List (LabelView × Item)) (m : Option (List (LabelView × Item))) (ps : Pairs) → entries_image cose_labels b rest m
+    ≡ Some (dict ps)
+    → (cs : List (LabelView × Item)) × (m ≡ Some cs) × (labelled_image label.image (cs ++ rest) ≡ Some ps)
+image_parts true rest (Some cs) ps h = (cs, refl, go (labelled_image label.image (cs ++ rest)) h)
   where
     go : (o : Option Pairs) → option_map dict o ≡ Some (dict ps) → o ≡ Some ps
     go None k = absurd (cc)
@@ -73,11 +75,11 @@ image_parts true rest None ps h = absurd (cc)
 image_parts false rest m ps h = absurd (cc)
 
 -- The pairs of an image are the fields of the key, followed by its params.
-pub fields_and_params : (x : KeyView) (ps : Pairs) (es : List (Name × Item)) → key.image x ≡ Some (dict ps) → Named label.describes ps es
-    → (cs : List (Name × Item)) × (fields.image (parts_of x).0 ≡ Some cs) × (es ≡ cs ++ x.params)
+pub fields_and_params : (x : KeyView) (ps : Pairs) (es : List (LabelView × Item)) → key.image x ≡ Some (dict ps) → AreLabelled label.describes ps es
+    → (cs : List (LabelView × Item)) × (fields.image (parts_of x).0 ≡ Some cs) × (es ≡ cs ++ x.params)
 unfolding key
 fields_and_params x ps es h p =
-    let i = image_parts (may_write names true x.params) x.params (fields.image (parts_of x).0) ps h in
+    let i = image_parts (may_write cose_labels true x.params) x.params (fields.image (parts_of x).0) ps h in
     (i.0, i.1, labels_written (i.0 ++ x.params) ps es i.2 p)
 
 -- ---- the order of two labels
@@ -88,7 +90,7 @@ less m n h = grind arith
 head-filled : (n : ℕ) → 1 ≤ head_length n
 head-filled n = grind arith
 
-filled : (b : Name) → 1 ≤ encoded_length b
+filled : (b : LabelView) → 1 ≤ encoded_length b
 filled b = omega (arith, head-filled (argument b))
 
 head-one : (n : ℕ) → n < 24 → head_length n ≡ 1
@@ -101,19 +103,19 @@ then-not-less : (n : ℕ) (p : Ordering) → 1 ≤ n → is_lt p ≡ false → i
 then-not-less n p h q = grind arith
 
 -- If a one-byte number is less in one order, it is less in the other, because no encoding is shorter than one byte.
-less-by : (o : CborOrdering) (c : ℕ) (b : Name) → c < 24 → name_cmp (number (pos c)) b ≡ Less → name_cmp_by o (number (pos c)) b ≡ Less
+less-by : (o : CborOrdering) (c : ℕ) (b : LabelView) → c < 24 → label_cmp (number (pos c)) b ≡ Less → label_cmp_by o (number (pos c)) b ≡ Less
 less-by Lexicographic c b k h = h
 less-by LengthFirstLexicographic c b k h =
     let e : encoded_length (number (pos c)) ≡ 1 = omega (arith, head-one c k) in
-    (λ i. ordering_then (nat_cmp (e i) (encoded_length b)) (name_cmp (number (pos c)) b))
-    ∙ then-less (encoded_length b) (name_cmp (number (pos c)) b) (filled b) h
+    (λ i. ordering_then (nat_cmp (e i) (encoded_length b)) (label_cmp (number (pos c)) b))
+    ∙ then-less (encoded_length b) (label_cmp (number (pos c)) b) (filled b) h
 
 -- The labels of the fields ascend.
-ascends : (o : CborOrdering) (m n : ℕ) → m < n → n ≤ 5 → name_cmp_by o (number (pos m)) (number (pos n)) ≡ Less
+ascends : (o : CborOrdering) (m n : ℕ) → m < n → n ≤ 5 → label_cmp_by o (number (pos m)) (number (pos n)) ≡ Less
 ascends o m n h k = less-by o m (number (pos n)) (omega arith) (rw (less m n h) refl)
 
 -- A label that is neither a field's nor 0.
-abbrev IsOther : Name → Type 0
+abbrev IsOther : LabelView → Type 0
 IsOther l = (is_field l ≡ false) × (l ≢ number (pos 0))
 
 beyond : (n : ℕ) → IsOther (number (pos n)) → 5 < n
@@ -135,34 +137,34 @@ is_field-number (suc (suc (suc (suc (suc zero))))) h k = refl
 is_field-number (suc (suc (suc (suc (suc (suc n)))))) h k = absurd (omega (arith, k))
 
 -- The labels 0 to 5 are less than all such labels.
-above-fields : (o : CborOrdering) (c : ℕ) (b : Name) → c ≤ 5 → IsOther b → name_cmp_by o (number (pos c)) b ≡ Less
+above-fields : (o : CborOrdering) (c : ℕ) (b : LabelView) → c ≤ 5 → IsOther b → label_cmp_by o (number (pos c)) b ≡ Less
 above-fields o c b k h = less-by o c b (omega arith) (by b h)
   where
-    by : (b : Name) → IsOther b → name_cmp (number (pos c)) b ≡ Less
+    by : (b : LabelView) → IsOther b → label_cmp (number (pos c)) b ≡ Less
     by (number (pos n)) h = rw (less c n (omega (arith, beyond n h, k))) refl
     by (number (negsuc n)) h = refl
     by (text_label s) h = refl
 
 -- No label is less than 0.
-zero_least : (o : CborOrdering) (b : Name) → is_lt (name_cmp_by o b (number (pos 0))) ≡ false
+zero_least : (o : CborOrdering) (b : LabelView) → is_lt (label_cmp_by o b (number (pos 0))) ≡ false
 zero_least o b = by o
   where
-    first : (b : Name) → is_lt (name_cmp b (number (pos 0))) ≡ false
+    first : (b : LabelView) → is_lt (label_cmp b (number (pos 0))) ≡ false
     first (number (pos n)) = grind arith
     first (number (negsuc n)) = refl
     first (text_label s) = refl
 
-    by : (o : CborOrdering) → is_lt (name_cmp_by o b (number (pos 0))) ≡ false
+    by : (o : CborOrdering) → is_lt (label_cmp_by o b (number (pos 0))) ≡ false
     by Lexicographic = first b
-    by LengthFirstLexicographic = then-not-less (encoded_length b) (name_cmp b (number (pos 0))) (filled b) (first b)
+    by LengthFirstLexicographic = then-not-less (encoded_length b) (label_cmp b (number (pos 0))) (filled b) (first b)
 
 -- ---- the fields
 
-all-keys : (P : Name → Type 0) (es : List (Name × Item)) → AllByRecursion (λ e. P e.0) es → AllByRecursion P (keys_of es)
+all-keys : (P : LabelView → Type 0) (es : List (LabelView × Item)) → AllByRecursion (λ e. P e.0) es → AllByRecursion P (keys_of es)
 all-keys P [] h = tt
 all-keys P (e ∷ es) h = (h.0, all-keys P es h.1)
 
-all-of-keys : (P : Name → Type 0) (es : List (Name × Item)) → AllByRecursion P (keys_of es) → AllByRecursion (λ e. P e.0) es
+all-of-keys : (P : LabelView → Type 0) (es : List (LabelView × Item)) → AllByRecursion P (keys_of es) → AllByRecursion (λ e. P e.0) es
 all-of-keys P [] h = tt
 all-of-keys P (e ∷ es) h = (h.0, all-of-keys P es h.1)
 
@@ -182,18 +184,19 @@ all-moved : {X : Type 0} (P : X → Type 0) (xs ys : List X) → IsPermutation x
 all-moved P xs ys m h = recursion_from_All P ys (All-permutation P xs ys m (All-from_recursion P xs h))
 
 -- The label is a number from `c` to 5.
-record IsFrom (c : ℕ) (l : Name) : Type 0 where
+record IsFrom (c : ℕ) (l : LabelView) : Type 0 where
   pub at : ℕ
   pub is : l ≡ number (pos at)
   pub low : c ≤ at
   pub high : at ≤ 5
 
 -- Pairs whose labels ascend and are numbers from `c` to 5.
-record Rises (o : CborOrdering) (c : ℕ) (es : List (Name × Item)) : Type 0 where
+record Rises (o : CborOrdering) (c : ℕ) (es : List (LabelView × Item)) : Type 0 where
   pub each : AllByRecursion (λ e. IsFrom c e.0) es
-  pub ascending : IsStrictlySortedBy (name_cmp_by o) (keys_of es)
+  pub ascending : IsStrictlySortedBy (label_cmp_by o) (keys_of es)
 
-put_rises : (o : CborOrdering) (c : ℕ) (q : Option Item) (es : List (Name × Item)) → c ≤ 5 → Rises o (suc c) es → Rises o c (put_field (number (pos c)) q es)
+put_rises : (o : CborOrdering) (c : ℕ) (q : Option Item) (es : List (LabelView × Item)) → c ≤ 5 → Rises o (suc c) es
+    → Rises o c (put_field (number (pos c)) q es)
 unfolding IsStrictlySortedBy
 put_rises o c q es h r = by q
   where
@@ -201,34 +204,34 @@ put_rises o c q es h r = by q
     later = all-weaker (λ e. IsFrom (suc c) e.0) (λ e. IsFrom c e.0)
         (λ e f. record { at = f.at; is = f.is; low = omega (arith, f.low); high = f.high }) es r.each
 
-    greater : (l : Name) → IsFrom (suc c) l → name_cmp_by o (number (pos c)) l ≡ Less
-    greater l f = subst (λ m. name_cmp_by o (number (pos c)) m ≡ Less) (sym f.is) (ascends o c f.at (omega (arith, f.low)) f.high)
+    greater : (l : LabelView) → IsFrom (suc c) l → label_cmp_by o (number (pos c)) l ≡ Less
+    greater l f = subst (λ m. label_cmp_by o (number (pos c)) m ≡ Less) (sym f.is) (ascends o c f.at (omega (arith, f.low)) f.high)
 
     by : (q : Option Item) → Rises o c (put_field (number (pos c)) q es)
     by (Some v) =
         record {
           each = (record { at = c; is = refl; low = omega arith; high = h }, later);
           ascending = (
-            all-keys (λ l. name_cmp_by o (number (pos c)) l ≡ Less) es
-                (all-weaker (λ e. IsFrom (suc c) e.0) (λ e. name_cmp_by o (number (pos c)) e.0 ≡ Less) (λ e f. greater e.0 f) es r.each),
+            all-keys (λ l. label_cmp_by o (number (pos c)) l ≡ Less) es
+                (all-weaker (λ e. IsFrom (suc c) e.0) (λ e. label_cmp_by o (number (pos c)) e.0 ≡ Less) (λ e f. greater e.0 f) es r.each),
             r.ascending,
           );
         }
     by None = record { each = later; ascending = r.ascending }
 
 field_rises :
-    (o : CborOrdering) (c : ℕ) (p : Option (Option Item)) (q : Option (List (Name × Item))) → c ≤ 5
-    → ((es : List (Name × Item)) → q ≡ Some es → Rises o (suc c) es)
-    → (es : List (Name × Item)) → both (put_field (number (pos c))) p q ≡ Some es → Rises o c es
+    (o : CborOrdering) (c : ℕ) (p : Option (Option Item)) (q : Option (List (LabelView × Item))) → c ≤ 5
+    → ((es : List (LabelView × Item)) → q ≡ Some es → Rises o (suc c) es)
+    → (es : List (LabelView × Item)) → both (put_field (number (pos c))) p q ≡ Some es → Rises o c es
 field_rises o c p q k rises es h =
     let b = both-parts (put_field (number (pos c))) p q es h in
     subst (Rises o c) b.4 (put_rises o c b.0 b.1 k (rises b.1 b.3))
 
-none_rises : (o : CborOrdering) (c : ℕ) (es : List (Name × Item)) → Some [] ≡ Some es → Rises o c es
+none_rises : (o : CborOrdering) (c : ℕ) (es : List (LabelView × Item)) → Some [] ≡ Some es → Rises o c es
 unfolding IsStrictlySortedBy
 none_rises o c es h = subst (Rises o c) (some-one refl h) (record { each = tt; ascending = tt })
 
-fields_rise : (o : CborOrdering) (x : FieldTuple) (es : List (Name × Item)) → fields.image x ≡ Some es → Rises o 1 es
+fields_rise : (o : CborOrdering) (x : FieldTuple) (es : List (LabelView × Item)) → fields.image x ≡ Some es → Rises o 1 es
 fields_rise o x =
     field_rises o 1 _ _ (omega arith)
     (field_rises o 2 _ _ (omega arith)
@@ -239,15 +242,16 @@ fields_rise o x =
 -- ---- fields, followed by others
 
 -- A field's label is less than all labels that are neither a field's nor 0.
-less-than-others : (o : CborOrdering) (l m : Name) → IsFrom 1 l → IsOther m → name_cmp_by o l m ≡ Less
-less-than-others o l m f h = subst (λ n. name_cmp_by o n m ≡ Less) (sym f.is) (above-fields o f.at m f.high h)
+less-than-others : (o : CborOrdering) (l m : LabelView) → IsFrom 1 l → IsOther m → label_cmp_by o l m ≡ Less
+less-than-others o l m f h = subst (λ n. label_cmp_by o n m ≡ Less) (sym f.is) (above-fields o f.at m f.high h)
 
-joined : (o : CborOrdering) (cs rs : List (Name × Item)) → Rises o 1 cs → IsStrictlySortedBy (name_cmp_by o) (keys_of rs) → AllByRecursion (λ e. IsOther e.0) rs
-    → IsStrictlySortedBy (name_cmp_by o) (keys_of (cs ++ rs))
+joined : (o : CborOrdering) (cs rs : List (LabelView × Item)) → Rises o 1 cs → IsStrictlySortedBy (label_cmp_by o) (keys_of rs)
+    → AllByRecursion (λ e. IsOther e.0) rs
+    → IsStrictlySortedBy (label_cmp_by o) (keys_of (cs ++ rs))
 unfolding IsStrictlySortedBy
 joined o [] rs r s h = s
 joined o (c ∷ cs) rs r s h =
-    let below : Name → Type 0 = λ l. name_cmp_by o c.0 l ≡ Less in
+    let below : LabelView → Type 0 = λ l. label_cmp_by o c.0 l ≡ Less in
     let others = all-weaker (λ e. IsOther e.0) (λ e. below e.0) (λ e f. less-than-others o c.0 e.0 r.each.0 f) rs h in (
       all-keys below (cs ++ rs) (all-both (λ e. below e.0) cs rs (all-of-keys below cs r.ascending.0) others),
       joined o cs rs (record { each = r.each.1; ascending = r.ascending.1 }) s h,
@@ -259,9 +263,9 @@ unfolding key
 others_apart o v k x p c =
     let e = p.0.2 in
     all-moved (λ e. is_field e.0 ≡ false) k.params x.params c.agree.params
-    (subst (IsRest names fields.labels) (sym e.rest) (rest_apart names fields.labels e.entries))
+    (subst (IsRest cose_labels fields.labels) (sym e.rest) (rest_apart cose_labels fields.labels e.entries))
 
-params_ascend : (o : CborOrdering) (v : Item) (k x : KeyView) → key.describes v k → IsCanonicalOf o k x → IsStrictlySortedBy (name_cmp_by o) (keys_of x.params)
+params_ascend : (o : CborOrdering) (v : Item) (k x : KeyView) → key.describes v k → IsCanonicalOf o k x → IsStrictlySortedBy (label_cmp_by o) (keys_of x.params)
 params_ascend o v k x p c = strictly (total_by o) x.params (canonical_differ o v k x p c) c.ordered
 
 pub labels_ascend : (o : CborOrdering) → LabelsAscend o
@@ -270,15 +274,15 @@ labels_ascend o k es w none =
     let f = fields_and_params x w.pairs es w.is_image w.named in
     let others = all-and (λ e. is_field e.0 ≡ false) (λ e. e.0 ≢ number (pos 0)) x.params (others_apart o w.source k x w.read w.is_canonical)
     (all-moved (λ e. e.0 ≢ number (pos 0)) k.params x.params w.is_canonical.agree.params none) in
-    subst (λ fs. IsStrictlySortedBy (name_cmp_by o) (keys_of fs)) (sym f.2)
+    subst (λ fs. IsStrictlySortedBy (label_cmp_by o) (keys_of fs)) (sym f.2)
     (joined o f.0 x.params (fields_rise o (parts_of x).0 f.0 f.1) (params_ascend o w.source k x w.read w.is_canonical) others)
 
 -- ---- label 0
 
 -- If the labels ascend, label 0 is the first.
 zero_first :
-    (o : CborOrdering) (v : Item) (es : List (Name × Item)) → IsStrictlySortedBy (name_cmp_by o) (keys_of es) → Contains es (number (pos 0), v)
-    → (back : List (Name × Item)) × (es ≡ (number (pos 0), v) ∷ back)
+    (o : CborOrdering) (v : Item) (es : List (LabelView × Item)) → IsStrictlySortedBy (label_cmp_by o) (keys_of es) → Contains es (number (pos 0), v)
+    → (back : List (LabelView × Item)) × (es ≡ (number (pos 0), v) ∷ back)
 zero_first o v [] s c = absurd (omega (arith, c.1))
 zero_first o v (e ∷ es) s c =
     elim (in-cases (total_by o) e es (number (pos 0), v) c) [
@@ -287,30 +291,30 @@ zero_first o v (e ∷ es) s c =
     ]
 
 -- No later label is 0.
-no-zero : (o : CborOrdering) (v : Item) (es : List (Name × Item)) → IsStrictlySortedBy (name_cmp_by o) (keys_of ((number (pos 0), v) ∷ es))
+no-zero : (o : CborOrdering) (v : Item) (es : List (LabelView × Item)) → IsStrictlySortedBy (label_cmp_by o) (keys_of ((number (pos 0), v) ∷ es))
     → AllByRecursion (λ e. e.0 ≢ number (pos 0)) es
 unfolding IsStrictlySortedBy
 no-zero o v es s =
-    all-weaker (λ e. name_cmp_by o (number (pos 0)) e.0 ≡ Less) (λ e. e.0 ≢ number (pos 0))
-    (λ e h q. itself (subst (λ l. name_cmp_by o (number (pos 0)) l ≡ Less) q h)) es
-    (all-of-keys (λ l. name_cmp_by o (number (pos 0)) l ≡ Less) es s.0)
+    all-weaker (λ e. label_cmp_by o (number (pos 0)) e.0 ≡ Less) (λ e. e.0 ≢ number (pos 0))
+    (λ e h q. itself (subst (λ l. label_cmp_by o (number (pos 0)) l ≡ Less) q h)) es
+    (all-of-keys (λ l. label_cmp_by o (number (pos 0)) l ≡ Less) es s.0)
   where
-    itself : name_cmp_by o (number (pos 0)) (number (pos 0)) ≡ Less → ⊥
+    itself : label_cmp_by o (number (pos 0)) (number (pos 0)) ≡ Less → ⊥
     itself h = true≢false (sym (ap is_lt h) ∙ zero_least o (number (pos 0)))
 
-tail_ascends : (o : CborOrdering) (e : Name × Item) (es : List (Name × Item)) → IsStrictlySortedBy (name_cmp_by o) (keys_of (e ∷ es))
-    → IsStrictlySortedBy (name_cmp_by o) (keys_of es)
+tail_ascends : (o : CborOrdering) (e : LabelView × Item) (es : List (LabelView × Item)) → IsStrictlySortedBy (label_cmp_by o) (keys_of (e ∷ es))
+    → IsStrictlySortedBy (label_cmp_by o) (keys_of es)
 unfolding IsStrictlySortedBy
 tail_ascends o e es s = s.1
 
-pub zero_behind_fields : (o : CborOrdering) → ZeroBehindFields o
-zero_behind_fields o k es v w c =
+pub zero_after_fields : (o : CborOrdering) → ZeroAfterFields o
+zero_after_fields o k es v w c =
     let x = w.canonical in
     let f = fields_and_params x w.pairs es w.is_image w.named in
     let rises = fields_rise o (parts_of x).0 f.0 f.1 in
     let s = params_ascend o w.source k x w.read w.is_canonical in
     let z = zero_first o v x.params s (Contains-permutation k.params x.params (number (pos 0), v) w.is_canonical.agree.params c) in
-    let t : IsStrictlySortedBy (name_cmp_by o) (keys_of ((number (pos 0), v) ∷ z.0)) = subst (λ fs. IsStrictlySortedBy (name_cmp_by o) (keys_of fs)) z.1 s in
+    let t : IsStrictlySortedBy (label_cmp_by o) (keys_of ((number (pos 0), v) ∷ z.0)) = subst (λ fs. IsStrictlySortedBy (label_cmp_by o) (keys_of fs)) z.1 s in
     let apart : AllByRecursion (λ e. is_field e.0 ≡ false) ((number (pos 0), v) ∷ z.0) =
     subst (AllByRecursion (λ e. is_field e.0 ≡ false)) z.1 (others_apart o w.source k x w.read w.is_canonical) in
     record {

@@ -10,57 +10,57 @@ use Rattle.std.proofs.lemmas.Cmp.{eq_by_cmp_equiv}
 use Rattle.std.proofs.lemmas.Map.Keys.{IsDistinct-IsPermutation}
 use Rattle.coset_value.specs.Item.{Item}
 use Rattle.coset_codec.specs.MapLaws.{labelled_arranged, rest_distinct}
-use Rattle.coset_codec.specs.ReadAgain.{EncodesApart, again_reads}
+use Rattle.coset_codec.specs.ReadAgain.{EncodesInjectively, again_reads}
 use Rattle.coset_codec.specs.ShapeLaws.{Again}
-use Rattle.coset_label.specs.NameOrder.{name_cmp_total, canonical_cmp_total, name_cmp-apart, canonical_cmp-apart}
-use Rattle.coset_label.specs.Names.{Name, TellsApart, same_name}
-use Rattle.coset_label.specs.Orderings.{name_cmp_by}
+use Rattle.coset_label.specs.NameOrder.{label_cmp_total, canonical_cmp_total, label_cmp-apart, canonical_cmp-apart}
+use Rattle.coset_label.specs.LabelData.{LabelView, TellsApart, same_label}
+use Rattle.coset_label.specs.Orderings.{label_cmp_by}
 use Rattle.coset_label.specs.SortedLaws.{has_one_order}
 use Rattle.coset_label.specs.declared.ordering.CborOrdering.{CborOrdering}
 use Rattle.coset_label.specs.declared.ordering.CborOrdering.TheVariants.{Lexicographic, LengthFirstLexicographic}
-use Rattle.coset_label.specs.Labels.{names}
-use Rattle.coset_label.specs.LabelLaws.{names_laws}
-use Rattle.coset_key.specs.Canonical.{with_params, AgreeButForOrder, IsCanonicalOf, CanonicalReadsAgain, CanonicalApart}
+use Rattle.coset_label.specs.Labels.{cose_labels}
+use Rattle.coset_label.specs.LabelLaws.{cose_labels_laws}
+use Rattle.coset_key.specs.Canonical.{with_params, AgreeButForOrder, IsCanonicalOf, CanonicalReadsAgain, CanonicalInjective}
 use Rattle.coset_key.specs.KeyLaws.{fields_laws}
 use Rattle.coset_key.specs.Keys.{KeyView, key, fields, parts_of}
 
 -- ---- the orders
 
-pub total_by : (o : CborOrdering) → IsTotalOrder (name_cmp_by o)
-total_by Lexicographic = name_cmp_total
+pub total_by : (o : CborOrdering) → IsTotalOrder (label_cmp_by o)
+total_by Lexicographic = label_cmp_total
 total_by LengthFirstLexicographic = canonical_cmp_total
 
-apart_by : (o : CborOrdering) → TellsApart (name_cmp_by o)
-apart_by Lexicographic = name_cmp-apart
+apart_by : (o : CborOrdering) → TellsApart (label_cmp_by o)
+apart_by Lexicographic = label_cmp-apart
 apart_by LengthFirstLexicographic = canonical_cmp-apart
 
 -- Two labels are the same exactly if they compare as equal, in either order.
-level : (o : CborOrdering) (a b : Name) → same_name a b ≡ eq_by_cmp (name_cmp_by o) a b
-level o a b = both_ways (same_name a b) (eq_by_cmp (name_cmp_by o) a b) (λ h. (apart_by o a b).1 ((name_cmp-apart a b).0 h))
-    (λ h. (name_cmp-apart a b).1 ((apart_by o a b).0 h))
+level : (o : CborOrdering) (a b : LabelView) → same_label a b ≡ eq_by_cmp (label_cmp_by o) a b
+level o a b = both_ways (same_label a b) (eq_by_cmp (label_cmp_by o) a b) (λ h. (apart_by o a b).1 ((label_cmp-apart a b).0 h))
+    (λ h. (label_cmp-apart a b).1 ((apart_by o a b).0 h))
 
 -- ---- a key with its params in another order
 
 -- Such a key is written as an item that describes it.
-arranged : (v : Item) (k : KeyView) (ps : List (Name × Item)) → key.describes v k → IsPermutation k.params ps → Again KeyView key v (with_params ps k)
+arranged : (v : Item) (k : KeyView) (ps : List (LabelView × Item)) → key.describes v k → IsPermutation k.params ps → Again KeyView key v (with_params ps k)
 unfolding key
 arranged v k ps p m =
-    let a = labelled_arranged names names_laws true fields fields_laws v (parts_of k) ps p.0 m in
+    let a = labelled_arranged cose_labels cose_labels_laws true fields fields_laws v (parts_of k) ps p.0 m in
     record { image = a.image; is_image = a.is_image; described = (a.described, p.1); shallow = a.shallow }
 
 -- The labels of the params of a key that was read differ.
-params_differ : (o : CborOrdering) (v : Item) (k : KeyView) → key.describes v k → IsDistinct (eq_by_cmp (name_cmp_by o)) (keys_of k.params)
+params_differ : (o : CborOrdering) (v : Item) (k : KeyView) → key.describes v k → IsDistinct (eq_by_cmp (label_cmp_by o)) (keys_of k.params)
 unfolding key
 params_differ o v k p =
     let e = p.0.2 in
-    let d : IsDistinct same_name (keys_of k.params) = rest_distinct names fields.labels e.entries k.params e.rest e.distinct in
+    let d : IsDistinct same_label (keys_of k.params) = rest_distinct cose_labels fields.labels e.entries k.params e.rest e.distinct in
     subst (λ t. IsDistinct t (keys_of k.params)) (λ i a b. level o a b i) d
 
 -- The labels also differ once the params are in order.
 pub canonical_differ : (o : CborOrdering) (v : Item) (k x : KeyView) → key.describes v k → IsCanonicalOf o k x
-    → IsDistinct (eq_by_cmp (name_cmp_by o)) (keys_of x.params)
+    → IsDistinct (eq_by_cmp (label_cmp_by o)) (keys_of x.params)
 canonical_differ o v k x p c =
-    IsDistinct-IsPermutation (eq_by_cmp (name_cmp_by o)) (eq_by_cmp_equiv (total_by o)).symm (keys_of k.params) (keys_of x.params)
+    IsDistinct-IsPermutation (eq_by_cmp (label_cmp_by o)) (eq_by_cmp_equiv (total_by o)).symm (keys_of k.params) (keys_of x.params)
     (IsPermutation-map (λ e. e.0) k.params x.params c.agree.params) (params_differ o v k p)
 
 -- If two keys agree except for the order of their params, they are equal once their params are in order.
@@ -86,7 +86,7 @@ in_order o v k x p c = subst (Again KeyView key v) c.agree.others (arranged v k 
 pub canonical_reads_again : (o : CborOrdering) → CanonicalReadsAgain o
 canonical_reads_again o v k x p shallow c = again_reads key v x (in_order o v k x p c) shallow
 
-pub canonical_apart : (o : CborOrdering) → EncodesApart key → CanonicalApart o
+pub canonical_apart : (o : CborOrdering) → EncodesInjectively key → CanonicalInjective o
 canonical_apart o apart v w c d k l x y p q m n u t =
     let first = in_order o v k x p m in
     let second = in_order o w l y q n in

@@ -1,7 +1,7 @@
 -- Points of elliptic curves, and their octet strings.
 use Rattle.std.proofs.Common.{◌≡◌, ℕ, List, [], ◌∷◌, ◌++◌, true, false, length, take, drop, sym, ◌∙◌, ap, arith, length-append}
 use Rattle.std.proofs.Math.Seq.{take-append_seam, drop-append_seam}
-use Rattle.coset_key.specs.Sec1.{Point, compressed, uncompressed, octets, IsEven}
+use Rattle.coset_key.specs.Sec1.{Point, compressed, uncompressed, octets, HaveEqualLength}
 
 tail : List ℕ → List ℕ
 tail [] = []
@@ -20,7 +20,7 @@ halves x y a b e p q =
     )
 
 -- An octet string encodes at most one point.
-pub points_apart : (p q : Point) → octets p ≡ octets q → IsEven p → IsEven q → p ≡ q
+pub points_apart : (p q : Point) → octets p ≡ octets q → HaveEqualLength p → HaveEqualLength q → p ≡ q
 unfolding tail first
 points_apart (compressed false x) (compressed false y) e m n = ap (λ s. compressed false (tail s)) e
 points_apart (compressed true x) (compressed true y) e m n = ap (λ s. compressed true (tail s)) e

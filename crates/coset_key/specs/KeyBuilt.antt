@@ -15,7 +15,7 @@ use Rattle.coset_iana.specs.declared.key_parameters.SymmetricKeyParameter.TheVar
 use Rattle.coset_iana.specs.declared.keys.EllipticCurve.{EllipticCurve}
 use Rattle.coset_iana.specs.declared.keys.KeyType.{KeyType}
 use Rattle.coset_iana.specs.declared.keys.KeyType.TheVariants.{OKP, EC2, Symmetric, AKP}
-use Rattle.coset_label.specs.Names.{Name, number, RegisteredName, assigned, name_cmp}
+use Rattle.coset_label.specs.LabelData.{LabelView, number, RegisteredLabelView, assigned, label_cmp}
 use Rattle.coset_key.specs.Keys.{KeyView, empty_key}
 use Rattle.coset_key.specs.MlDsa.{algorithm_of}
 use Rattle.coset_key.specs.declared.ml_dsa.MlDsaVariant.{MlDsaVariant}
@@ -27,7 +27,7 @@ abbrev pub key_of_type : KeyType → KeyView
 key_of_type t = record empty_key { kty = number (kinds.number t) }
 
 -- A key of this type with these params.
-abbrev pub key_with : KeyType → List (Name × Item) → KeyView
+abbrev pub key_with : KeyType → List (LabelView × Item) → KeyView
 key_with t params = record (key_of_type t) { params = params }
 
 -- An octet key pair.
@@ -35,20 +35,20 @@ abbrev pub okp_key : KeyView
 okp_key = key_of_type OKP
 
 -- The labels of a curve, of a point's coordinates, and of a private key.
-abbrev pub curve_label : Name
+abbrev pub curve_label : LabelView
 curve_label = number (ec2.number coordinates.Crv)
 
-abbrev pub x_label : Name
+abbrev pub x_label : LabelView
 x_label = number (ec2.number coordinates.X)
 
-abbrev pub y_label : Name
+abbrev pub y_label : LabelView
 y_label = number (ec2.number coordinates.Y)
 
-abbrev pub d_label : Name
+abbrev pub d_label : LabelView
 d_label = number (ec2.number coordinates.D)
 
 -- The params of a point on a curve. The item `y` is a byte string, or a bool for its sign.
-abbrev pub point_params : EllipticCurve → List ℕ → Item → List (Name × Item)
+abbrev pub point_params : EllipticCurve → List ℕ → Item → List (LabelView × Item)
 point_params curve x y = (curve_label, integer (curves.number curve)) ∷ (x_label, bytes x) ∷ (y_label, y) ∷ []
 
 -- An elliptic curve key with two coordinates.
@@ -70,7 +70,7 @@ symmetric_key k = key_with Symmetric ((number (symmetric.number K), bytes k) ∷
 -- ---- keys with one field set
 
 -- The key with this type, and otherwise unchanged.
-abbrev pub with_kty : Name → KeyView → KeyView
+abbrev pub with_kty : LabelView → KeyView → KeyView
 with_kty t k = record k { kty = t }
 
 -- The key with this identifier, and otherwise unchanged.
@@ -78,7 +78,7 @@ abbrev pub with_key_id : List ℕ → KeyView → KeyView
 with_key_id b k = record k { key_id = b }
 
 -- The key with this algorithm, and otherwise unchanged.
-abbrev pub with_algorithm : RegisteredName → KeyView → KeyView
+abbrev pub with_algorithm : RegisteredLabelView → KeyView → KeyView
 with_algorithm a k = record k { alg = Some a }
 
 -- The key with this Base IV, and otherwise unchanged.
@@ -86,12 +86,12 @@ abbrev pub with_base_iv : List ℕ → KeyView → KeyView
 with_base_iv b k = record k { base_iv = b }
 
 -- The key with this operation inserted at its place, unless it has the operation already.
-abbrev pub and_operation : Name → KeyView → KeyView
-and_operation l k = record k { key_ops = insert_key name_cmp k.key_ops l }
+abbrev pub push_operation : LabelView → KeyView → KeyView
+push_operation l k = record k { key_ops = insert_key label_cmp k.key_ops l }
 
 -- The key with one more pair, after its other params.
-abbrev pub and_param : Name → Item → KeyView → KeyView
-and_param l v k = record k { params = k.params ++ (l, v) ∷ [] }
+abbrev pub push_param : LabelView → Item → KeyView → KeyView
+push_param l v k = record k { params = k.params ++ (l, v) ∷ [] }
 
 -- The label is none of 0 to 5. IANA reserves 0, and assigns 1 to 5 to the parameters that keys of all types share.
 abbrev pub IsOtherLabel : ℤ → Type 0

@@ -10,8 +10,8 @@ use Rattle.coset_codec.specs.Maps.{is_core}
 use Rattle.coset_codec.specs.Sets.{IsSetOf, IsDistinctBy, Repeats}
 use Rattle.coset_codec.specs.Shape.{Shape, Each, EachFaults}
 use Rattle.coset_codec.specs.declared.error.CoseError.{CoseError}
-use Rattle.coset_label.specs.Labels.{names}
-use Rattle.coset_label.specs.Names.{Name}
+use Rattle.coset_label.specs.Labels.{cose_labels}
+use Rattle.coset_label.specs.LabelData.{LabelView}
 use Rattle.coset_label.specs.declared.registered.RegisteredLabel.{RegisteredLabel}
 use Rattle.coset_label.specs.Views.{algorithm_view, entry_view}
 use Rattle.coset_key.specs.KeyLabels as labels
@@ -29,13 +29,13 @@ so_far_view s = (
 )
 
 -- A pair with label `m` goes to this field.
-abbrev pub GoesTo : Name → Field → Type 0
+abbrev pub GoesTo : LabelView → Field → Type 0
 GoesTo m Kty = m ≡ labels.kty
 GoesTo m KeyId = m ≡ labels.kid
 GoesTo m Alg = m ≡ labels.alg
 GoesTo m KeyOps = m ≡ labels.key_ops
 GoesTo m BaseIv = m ≡ labels.base_iv
-GoesTo m Params = is_core names fields.labels m ≡ false
+GoesTo m Params = is_core cose_labels fields.labels m ≡ false
 
 -- The parts before any pair was read.
 abbrev pub nothing : Parts
@@ -53,5 +53,5 @@ ReadsSet {T} {A} cmp s view vs (Ok x) = (read : List A) × Each s.describes vs r
 ReadsSet cmp s view vs (Err e) = UnlessMemory e (λ f. EachFaults s.faults vs f ⊎ (IsUnexpected f × Repeats s.describes vs))
 
 -- The view of a set of key operations.
-abbrev pub operations_view : BTreeSet (RegisteredLabel KeyOperation) Global → List Name
+abbrev pub operations_view : BTreeSet (RegisteredLabel KeyOperation) Global → List LabelView
 operations_view s = map operation_view s.keys

@@ -9,7 +9,7 @@ use Rattle.coset_iana.specs.declared.keys.KeyType.TheVariants.{EC2}
 use Rattle.coset_codec.specs.declared.error.CoseError.TheVariants as errors
 use Rattle.coset_codec.specs.declared.error.CallError.{CallError}
 use Rattle.coset_codec.specs.declared.error.CallError.TheVariants.{Coset, Caller}
-use Rattle.coset_label.specs.Names.{Name, number, same_name}
+use Rattle.coset_label.specs.LabelData.{LabelView, number, same_label}
 use Rattle.coset_key.specs.Keys.{KeyView, key_view}
 use Rattle.coset_key.specs.KeyBuilt.{ec2_key, x_label, y_label}
 use Rattle.coset_key.specs.declared.key.CoseKey.{CoseKey}
@@ -30,13 +30,13 @@ octets (compressed true x) = 3 ∷ x
 octets (uncompressed x y) = 4 ∷ x ++ y
 
 -- The coordinates have the same length.
-abbrev pub IsEven : Point → Type 0
-IsEven (compressed sign x) = ⊤
-IsEven (uncompressed x y) = length x ≡ length y
+abbrev pub HaveEqualLength : Point → Type 0
+HaveEqualLength (compressed sign x) = ⊤
+HaveEqualLength (uncompressed x y) = length x ≡ length y
 
 -- The octet string encodes this point.
-abbrev pub Spells : List ℕ → Point → Type 0
-Spells s p = (octets p ≡ s) × IsEven p
+abbrev pub EncodesPoint : List ℕ → Point → Type 0
+EncodesPoint s p = (octets p ≡ s) × HaveEqualLength p
 
 -- The octet string encodes no point. It is empty, begins with an octet other than 02, 03 and 04, or has an odd number
 -- of octets after 04.
@@ -59,12 +59,12 @@ coordinates_point (Some v) (Some y) = Err InvalidCoordinateType
 coordinates_point o q = Err MissingCoordinate
 
 -- The value of the first param with this label.
-abbrev pub param : Name → KeyView → Option Item
-param l k = lookup (same_name l) k.params
+abbrev pub param : LabelView → KeyView → Option Item
+param l k = lookup (same_label l) k.params
 
 -- The point of an elliptic curve key with two coordinates, or the reason why there is none.
 abbrev pub key_point : KeyView → Result Point ToSec1OctetStringError
-key_point k = cond (same_name k.kty (number (kinds.number EC2))) (coordinates_point (param x_label k) (param y_label k)) (Err NotEcKey)
+key_point k = cond (same_label k.kty (number (kinds.number EC2))) (coordinates_point (param x_label k) (param y_label k)) (Err NotEcKey)
 
 -- The result is the point's octet string, or the reason why there is no point. For a point the only error is
 -- `OutOfMemory`.
@@ -84,7 +84,7 @@ point_key curve (uncompressed x y) = ec2_key curve x (bytes y)
 -- The result is the key of the point that the octet string encodes. The caller's error means that the string is
 -- malformed. The only other error is `OutOfMemory`, for a string that isn't malformed.
 abbrev pub ParsesSec1 : EllipticCurve → List ℕ → Result CoseKey (CallError ParseSec1OctetStringError) → Type 0
-ParsesSec1 curve s (Ok k) = (p : Point) × Spells s p × (key_view k ≡ point_key curve p)
+ParsesSec1 curve s (Ok k) = (p : Point) × EncodesPoint s p × (key_view k ≡ point_key curve p)
 ParsesSec1 curve s (Err (Coset e)) = (e ≡ errors.OutOfMemory) × (IsMalformed s → ⊥)
 ParsesSec1 curve s (Err (Caller e)) = IsMalformed s
 

@@ -16,12 +16,12 @@ ghost use Rattle.coset_codec.specs.Encoding.{AppendsField};
 ghost use Rattle.coset_codec.specs.Errors.{UnlessMemory};
 ghost use Rattle.coset_codec.specs.Inputs.{ReadsAt, length_left, state};
 ghost use Rattle.coset_codec.specs.Maps.{Adds, Refuses, are_distinct, unless_empty};
-ghost use Rattle.coset_label.specs.Names.{assigned, number, same_name};
-ghost use Rattle.coset_label.specs.Orderings.{name_cmp_by};
+ghost use Rattle.coset_label.specs.LabelData.{assigned, number, same_label};
+ghost use Rattle.coset_label.specs.Orderings.{label_cmp_by};
 ghost use Rattle.coset_label.specs.Views.{label_view};
-ghost use Rattle.coset_label.specs.Labels.{algorithm, names};
+ghost use Rattle.coset_label.specs.Labels.{algorithm, cose_labels};
 ghost use Rattle.coset_key.specs.Canonical.{Canonicalizes};
-ghost use Rattle.coset_key.specs.KeyBuilt.{and_operation, and_param, ec2_key, ec2_private_key, ml_dsa_key, okp_key, symmetric_key, with_algorithm, with_base_iv, with_key_id, with_kty, IsOtherLabel};
+ghost use Rattle.coset_key.specs.KeyBuilt.{push_operation, push_param, ec2_key, ec2_private_key, ml_dsa_key, okp_key, symmetric_key, with_algorithm, with_base_iv, with_key_id, with_kty, IsOtherLabel};
 ghost use Rattle.coset_key.specs.Keys.{empty_key, fields, key as key_shape, key_ops as key_ops_shape, key_view, kty_view, operation_view};
 ghost use Rattle.coset_key.specs.Reading.{GoesTo, IsFinished, nothing, so_far_view};
 
@@ -126,7 +126,7 @@ impl CoseKey {
     /// The `params` of a key that was read contain no label of a field, 1 to 5 (RFC 8152, section
     /// 7.1).
     pub fn get(&self, label: &Label) -> Option<&Value>
-        ensures { option_map (λ v. value_item v.now) result ≡ lookup (same_name
+        ensures { option_map (λ v. value_item v.now) result ≡ lookup (same_label
             (label_view label.now))
             (key_view self.now).params }
     {
@@ -146,7 +146,7 @@ impl CoseKey {
     /// key is then unchanged.
     pub fn canonicalize(&mut self, alloc: Global, ordering: CborOrdering) -> Result<()>
         ensures canonical { Canonicalizes ordering (key_view self.old) (key_view self.new) result }
-        ensures stable { IsStableByKey (λ e. label_view e.0) (name_cmp_by ordering)
+        ensures stable { IsStableByKey (λ e. label_view e.0) (label_cmp_by ordering)
             self.old.params.items self.new.params.items }
         ensures few { length self.old.params.items ≤ 20 → IsOk result }
     {
@@ -230,10 +230,10 @@ impl PartialKey {
     fn set_parameter(&mut self, alloc: Global, label: Label, input: &mut Decoder<'_>) -> Result<()>
         ensures shrinks { length_left (state input.new) ≤ length_left (state input.old) }
         ensures takes { ReadsAt (state input.old) (state input.new) (λ v. OnOk result
-            (Adds names fields (label_view label) v (so_far_view self.old)
+            (Adds cose_labels fields (label_view label) v (so_far_view self.old)
             (so_far_view self.new))) }
         ensures refused { ReadsAt (state input.old) (state input.new) (λ v. IfErr result
-            (λ e. UnlessMemory e (Refuses names fields (label_view label) v
+            (λ e. UnlessMemory e (Refuses cose_labels fields (label_view label) v
             (so_far_view self.old)))) }
         ensures kept { OnErr result (so_far_view self.new ≡ so_far_view self.old) }
     {
@@ -281,18 +281,18 @@ impl PartialKey {
 }
 
 impl MapVisitor for PartialKey {
-    ghost use Rattle.coset_label.specs.Names.{Name};
-    ghost use Rattle.coset_label.specs.LabelLaws.{names_laws};
+    ghost use Rattle.coset_label.specs.LabelData.{LabelView};
+    ghost use Rattle.coset_label.specs.LabelLaws.{cose_labels_laws};
     ghost use Rattle.coset_key.specs.Keys.{FieldTuple};
     ghost use Rattle.coset_key.specs.KeyLaws.{fields_laws};
 
     type Label = Label;
 
-    ghost Name = { Name };
+    ghost LabelView = { LabelView };
 
-    ghost Got = { FieldTuple };
+    ghost FieldValues = { FieldTuple };
 
-    ghost names = { names };
+    ghost names = { cose_labels };
 
     ghost fields = { fields };
 
@@ -300,7 +300,7 @@ impl MapVisitor for PartialKey {
 
     ghost view = { so_far_view };
 
-    ghost lawful_names = { names_laws };
+    ghost lawful_names = { cose_labels_laws };
 
     ghost lawful_fields = { fields_laws };
 
@@ -318,7 +318,7 @@ impl MapVisitor for PartialKey {
 
     fn repeats(&self, alloc: Global) -> Result<bool>
         ensures repeats { IfOk result (λ b. b ≡ not
-            (are_distinct names.same (keys_of (so_far_view self.now).1))) }
+            (are_distinct cose_labels.same (keys_of (so_far_view self.now).1))) }
         ensures memory { IfErr result (λ e. e ≡ OutOfMemory) }
     {
         has_repeats(alloc, &self.params)
@@ -485,7 +485,7 @@ impl CoseKeyBuilder {
         ensures memory { IfErr result (λ e. e ≡ OutOfMemory) }
     {
         let key = CoseKeyBuilder::new_ec2_pub_key(alloc, curve, x, y)?;
-        key.and_param(Ec2KeyParameter::D.to_i64(), Value::Bytes(d))
+        key.push_param(Ec2KeyParameter::D.to_i64(), Value::Bytes(d))
     }
 
     /// Returns a builder of a public ML-DSA key (FIPS 204).
@@ -502,7 +502,7 @@ impl CoseKeyBuilder {
     {
         let key = CoseKeyBuilder::new(alloc).key_type(iana::KeyType::AKP);
         key.algorithm(variant.into())
-            .and_param(AkpKeyParameter::Pub.to_i64(), Value::Bytes(k))
+            .push_param(AkpKeyParameter::Pub.to_i64(), Value::Bytes(k))
     }
 
     /// Returns a builder of a symmetric key (RFC 8152, section 13.3).
@@ -514,7 +514,7 @@ impl CoseKeyBuilder {
         ensures memory { IfErr result (λ e. e ≡ OutOfMemory) }
     {
         let key = CoseKeyBuilder::new(alloc).key_type(iana::KeyType::Symmetric);
-        key.and_param(SymmetricKeyParameter::K.to_i64(), Value::Bytes(k))
+        key.push_param(SymmetricKeyParameter::K.to_i64(), Value::Bytes(k))
     }
 
     /// Returns the finished key.
@@ -573,7 +573,7 @@ impl CoseKeyBuilder {
     /// `OutOfMemory` if an allocation fails.
     pub fn add_key_op(mut self, op: iana::KeyOperation) -> Result<CoseKeyBuilder>
         ensures ok { IfOk result (λ b. key_view b
-            ≡ and_operation (number (operations.number op)) (key_view self)) }
+            ≡ push_operation (number (operations.number op)) (key_view self)) }
         ensures memory { IfErr result (λ e. e ≡ OutOfMemory) }
     {
         add_operation(&mut self.0.key_ops, RegisteredLabel::Assigned(op))?;
@@ -609,17 +609,17 @@ impl CoseKeyBuilder {
     pub fn param(self, label: i64, value: Value) -> Result<CoseKeyBuilder>
         requires { IsOtherLabel label }
         ensures ok { IfOk result (λ b. key_view b
-            ≡ and_param (number label) (value_item value) (key_view self)) }
+            ≡ push_param (number label) (value_item value) (key_view self)) }
         ensures memory { IfErr result (λ e. e ≡ OutOfMemory) }
     {
         prove!(label < 0 || 5 < label);
-        self.and_param(label, value)
+        self.push_param(label, value)
     }
 
     /// Adds a pair whose label is a number.
-    fn and_param(mut self, label: i64, value: Value) -> Result<CoseKeyBuilder>
+    fn push_param(mut self, label: i64, value: Value) -> Result<CoseKeyBuilder>
         ensures ok { IfOk result (λ b. key_view b
-            ≡ and_param (number label) (value_item value) (key_view self)) }
+            ≡ push_param (number label) (value_item value) (key_view self)) }
         ensures memory { IfErr result (λ e. e ≡ OutOfMemory) }
     {
         self.0.params.push((Label::Int(label), value))?;
@@ -634,7 +634,7 @@ fn new_ec2_key(alloc: Global, curve: EllipticCurve, x: Vec<u8>, y: Value) -> Res
 {
     CoseKeyBuilder::new(alloc)
         .key_type(iana::KeyType::EC2)
-        .and_param(Ec2KeyParameter::Crv.to_i64(), Value::from(curve.to_i64()))?
-        .and_param(Ec2KeyParameter::X.to_i64(), Value::Bytes(x))?
-        .and_param(Ec2KeyParameter::Y.to_i64(), y)
+        .push_param(Ec2KeyParameter::Crv.to_i64(), Value::from(curve.to_i64()))?
+        .push_param(Ec2KeyParameter::X.to_i64(), Value::Bytes(x))?
+        .push_param(Ec2KeyParameter::Y.to_i64(), y)
 }

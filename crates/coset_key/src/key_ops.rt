@@ -4,11 +4,11 @@ ghost use Rattle.std.specs.Prelude.{◌≡◌, ◌≤◌, map, IfErr, OnOk, OnEr
 ghost use Rattle.std.specs.BTreeSet.{insert_key};
 ghost use Rattle.coset_value.specs.Item.{Items};
 ghost use Rattle.coset_codec.specs.declared.error.CoseError.TheVariants.{OutOfMemory};
-ghost use Rattle.coset_codec.specs.Answers.{Reads};
+ghost use Rattle.coset_codec.specs.Results.{Reads};
 ghost use Rattle.coset_codec.specs.Errors.{UnlessMemory};
 ghost use Rattle.coset_codec.specs.Inputs.{AreWithin, ReadsAt, State, length_left, state, ReadsForward};
 ghost use Rattle.coset_codec.specs.Maps.{RefusesValue, TakesValue, unless_empty};
-ghost use Rattle.coset_label.specs.Names.{name_cmp};
+ghost use Rattle.coset_label.specs.LabelData.{label_cmp};
 ghost use Rattle.coset_key.specs.Keys.{key_ops, operation, operation_view};
 ghost use Rattle.coset_key.specs.Reading.{ReadsSet, operations_view};
 
@@ -41,7 +41,7 @@ fn read_operations(
     ensures shrinks { length_left (state input.new) ≤ length_left (state input.old) }
     ensures reads { (vs : Items) (z : State) → AreWithin elements.old vs (state input.old) z
         → ((left : Items) × AreWithin elements.new left (state input.new) z)
-        × ReadsSet name_cmp operation operations_view vs result }
+        × ReadsSet label_cmp operation operations_view vs result }
 {
     let mut operations = BTreeSet::new(alloc);
     while elements.next(input) {
@@ -102,7 +102,7 @@ pub(crate) fn add_operation(
     operation: KeyOperation,
 ) -> Result<()>
     ensures ok { OnOk result (map operation_view operations.new.keys
-        ≡ insert_key name_cmp (map operation_view operations.old.keys) (operation_view operation)) }
+        ≡ insert_key label_cmp (map operation_view operations.old.keys) (operation_view operation)) }
     ensures memory { IfErr result (λ e. e ≡ OutOfMemory) }
 {
     operations.insert(operation)?;

@@ -3,7 +3,7 @@
 ghost use Rattle.std.specs.Prelude.{◌≡◌, [], IfOk, IfErr};
 ghost use Rattle.coset_codec.specs.declared.error.CoseError.TheVariants.{OutOfMemory};
 ghost use Rattle.coset_codec.specs.Alone.{AreReadAlone, elements};
-ghost use Rattle.coset_codec.specs.Answers.{IsRefused};
+ghost use Rattle.coset_codec.specs.Results.{IsRefused};
 ghost use Rattle.coset_key.specs.Keys.{key, key_view, key_set, key_set_view};
 
 use crate::key::CoseKey;

@@ -5,7 +5,7 @@ ghost use Rattle.std.specs.Prelude.{◌≡◌, ◌∷◌, ◌++◌, option_map, 
 ghost use Rattle.coset_value.specs.View.{value_item};
 ghost use Rattle.coset_iana.specs.Ec2KeyParameter as ec2;
 ghost use Rattle.coset_codec.specs.declared.error.CoseError.TheVariants.{OutOfMemory};
-ghost use Rattle.coset_label.specs.Names.{number};
+ghost use Rattle.coset_label.specs.LabelData.{number};
 ghost use Rattle.coset_key.specs.Keys.{key_view};
 ghost use Rattle.coset_key.specs.Sec1.{GivesOctets, ParsesSec1, compressed, key_point, param, parse_sec1_error_text, point, point_key, to_sec1_error_text, uncompressed};
 ghost use Rattle.coset_key.specs.declared.sec1.ToSec1OctetStringError.TheVariants as errors;

@@ -4,14 +4,14 @@ use Rattle.std.proofs.lemmas.Bool.{true≢false}
 use Rattle.std.specs.Cmp.{signed_Decides}
 use Rattle.std.specs.Ordering.{int_eq}
 use Rattle.coset_codec.specs.MapLaws.{not_same}
-use Rattle.coset_label.specs.Labels.{names}
-use Rattle.coset_label.specs.LabelLaws.{names_laws}
-use Rattle.coset_label.specs.Names.{Name, number, text_label, same_name}
+use Rattle.coset_label.specs.Labels.{cose_labels}
+use Rattle.coset_label.specs.LabelLaws.{cose_labels_laws}
+use Rattle.coset_label.specs.LabelData.{LabelView, number, text_label, same_label}
 
-abbrev number_in : Name → ℤ
+abbrev number_in : LabelView → ℤ
 number_in (number i) = i
 number_in (text_label s) = pos 0
 
-pub numbers_apart : (i j : ℤ) → int_eq i j ≡ false → same_name (number i) (number j) ≡ false
+pub numbers_apart : (i j : ℤ) → int_eq i j ≡ false → same_label (number i) (number j) ≡ false
 numbers_apart i j h =
-    not_same names names_laws (number i) (number j) (λ same. true≢false (sym ((signed_Decides i j).1 (ap number_in same)) ∙ h))
+    not_same cose_labels cose_labels_laws (number i) (number j) (λ same. true≢false (sym ((signed_Decides i j).1 (ap number_in same)) ∙ h))

@@ -1,4 +1,4 @@
-pub mod Names
+pub mod LabelData
 pub mod NameOrder
 pub mod Labels
 pub mod LabelLaws

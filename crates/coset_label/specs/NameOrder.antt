@@ -14,9 +14,9 @@ use Rattle.std.specs.Cmp.Lexicographic.{slice_cmp}
 use Rattle.std.specs.Cmp.Rules.{comparing}
 use Rattle.coset_cbor.specs.Grammar.{HeadWidth, within, one, two, four, eight, head_in}
 use Rattle.coset_cbor.specs.Least.{least_width, least_head, least_encoding}
-use Rattle.coset_label.specs.Names.{Name, number, text_label, RegisteredName, assigned, private_use, text_name}
-use Rattle.coset_label.specs.Names.{as_name, private_rank, name_item, major_type, argument, content}
-use Rattle.coset_label.specs.Names.{name_cmp, registered_cmp, canonical_cmp, length_first_cmp, TellsApart, IsNamed, head_length, encoded_length}
+use Rattle.coset_label.specs.LabelData.{LabelView, number, text_label, RegisteredLabelView, assigned, private_use, text_name}
+use Rattle.coset_label.specs.LabelData.{as_label, private_rank, label_item, major_type, argument, content}
+use Rattle.coset_label.specs.LabelData.{label_cmp, registered_cmp, canonical_cmp, length_first_cmp, TellsApart, ArgumentFits, head_length, encoded_length}
 
 -- ---- orderings
 
@@ -160,18 +160,19 @@ heads-compare m n k l s t _ _ hn hl =
 -- ---- labels
 
 -- A label's encoding is its head and its content.
-least_encoding-parts : (a : Name) → least_encoding (name_item a) ≡ least_head (major_type a) (argument a) ++ content a
+least_encoding-parts : (a : LabelView) → least_encoding (label_item a) ≡ least_head (major_type a) (argument a) ++ content a
 least_encoding-parts (number (pos n)) = sym (append-nil (least_head 0 n))
 least_encoding-parts (number (negsuc n)) = sym (append-nil (least_head 1 n))
 least_encoding-parts (text_label s) = refl
 
 -- A label's major type is below 8.
-major_type-small : (a : Name) → major_type a < 8
+major_type-small : (a : LabelView) → major_type a < 8
 major_type-small a = grind arith
 
 -- The encodings of two labels compare as the labels do.
-pub names-compare : (a b : Name) → IsNamed a → IsNamed b → slice_cmp nat_cmp (least_encoding (name_item a)) (least_encoding (name_item b)) ≡ name_cmp a b
-names-compare a b ha hb =
+pub labels-compare : (a b : LabelView) → ArgumentFits a → ArgumentFits b → slice_cmp nat_cmp (least_encoding (label_item a)) (least_encoding (label_item b))
+    ≡ label_cmp a b
+labels-compare a b ha hb =
     rw (least_encoding-parts a, least_encoding-parts b)
     (heads-compare (major_type a) (argument a) (major_type b) (argument b) (content a) (content b) (major_type-small a) (major_type-small b) ha hb)
 
@@ -181,19 +182,19 @@ unfolding least_head
 length-least_head m n = grind arith
 
 -- The length of a label's encoding is `encoded_length`.
-pub least_encoding-length : (a : Name) → length (least_encoding (name_item a)) ≡ encoded_length a
+pub least_encoding-length : (a : LabelView) → length (least_encoding (label_item a)) ≡ encoded_length a
 least_encoding-length a = rw (least_encoding-parts a, length-append, length-least_head)
 
 -- The encodings compare by length first, then by their bytes (RFC 7049, section 3.9), as the labels do.
-pub names-compare-canonical : (a b : Name) → IsNamed a → IsNamed b
-    → length_first_cmp (least_encoding (name_item a)) (least_encoding (name_item b)) ≡ canonical_cmp a b
-names-compare-canonical a b ha hb = rw (names-compare a b ha hb, least_encoding-length a, least_encoding-length b)
+pub labels-compare-canonical : (a b : LabelView) → ArgumentFits a → ArgumentFits b
+    → length_first_cmp (least_encoding (label_item a)) (least_encoding (label_item b)) ≡ canonical_cmp a b
+labels-compare-canonical a b ha hb = rw (labels-compare a b ha hb, least_encoding-length a, least_encoding-length b)
 
 -- ---- the laws of labels' orders
 
 -- The three orders of labels are total.
-pub name_cmp_total : IsTotalOrder name_cmp
-name_cmp_total = search comparing
+pub label_cmp_total : IsTotalOrder label_cmp
+label_cmp_total = search comparing
 
 pub canonical_cmp_total : IsTotalOrder canonical_cmp
 canonical_cmp_total = search comparing
@@ -205,37 +206,37 @@ registered_cmp_total = search comparing depth 9
 tells-apart : {A : Type 0} (R : A → A → Ordering) → IsTotalOrder R → ((a b : A) → R a b ≡ Equal → a ≡ b) → TellsApart R
 tells-apart R total only a b = (λ e. only a b ((Equal-is (R a b)).0 e), λ same. subst (λ x. is_eq (R a x) ≡ true) same (ap is_eq (tied_itself total a)))
 
-name_cmp-equal : (a b : Name) → name_cmp a b ≡ Equal → a ≡ b
-name_cmp-equal (number (pos n)) (number (pos l)) h = ap (λ k. number (pos k)) (exact_unsigned n l (then-first (nat_cmp n l) Equal h))
-name_cmp-equal (number (negsuc n)) (number (negsuc l)) h = ap (λ k. number (negsuc k)) (exact_unsigned n l (then-first (nat_cmp n l) Equal h))
-name_cmp-equal (text_label s) (text_label t) h = ap text_label (exact_bytes s t (then-second (nat_cmp (length s) (length t)) (slice_cmp nat_cmp s t) h))
-name_cmp-equal a b h = grind arith
+label_cmp-equal : (a b : LabelView) → label_cmp a b ≡ Equal → a ≡ b
+label_cmp-equal (number (pos n)) (number (pos l)) h = ap (λ k. number (pos k)) (exact_unsigned n l (then-first (nat_cmp n l) Equal h))
+label_cmp-equal (number (negsuc n)) (number (negsuc l)) h = ap (λ k. number (negsuc k)) (exact_unsigned n l (then-first (nat_cmp n l) Equal h))
+label_cmp-equal (text_label s) (text_label t) h = ap text_label (exact_bytes s t (then-second (nat_cmp (length s) (length t)) (slice_cmp nat_cmp s t) h))
+label_cmp-equal a b h = grind arith
 
-pub name_cmp-apart : TellsApart name_cmp
-name_cmp-apart = tells-apart name_cmp name_cmp_total name_cmp-equal
+pub label_cmp-apart : TellsApart label_cmp
+label_cmp-apart = tells-apart label_cmp label_cmp_total label_cmp-equal
 
 pub canonical_cmp-apart : TellsApart canonical_cmp
 canonical_cmp-apart = tells-apart canonical_cmp canonical_cmp_total
-    (λ a b h. name_cmp-equal a b (then-second (nat_cmp (encoded_length a) (encoded_length b)) (name_cmp a b) h))
+    (λ a b h. label_cmp-equal a b (then-second (nat_cmp (encoded_length a) (encoded_length b)) (label_cmp a b) h))
 
 -- Makes a label of a registry from its number or text and its private-use rank.
-registered_of : Name → ℕ → RegisteredName
+registered_of : LabelView → ℕ → RegisteredLabelView
 registered_of (number i) zero = assigned i
 registered_of (number i) (suc k) = private_use i
 registered_of (text_label s) k = text_name s
 
-registered-back : (a : RegisteredName) → registered_of (as_name a) (private_rank a) ≡ a
+registered-back : (a : RegisteredLabelView) → registered_of (as_label a) (private_rank a) ≡ a
 unfolding registered_of
 registered-back (assigned i) = refl
 registered-back (private_use i) = refl
 registered-back (text_name s) = refl
 
-registered_cmp-equal : (a b : RegisteredName) → registered_cmp a b ≡ Equal → a ≡ b
+registered_cmp-equal : (a b : RegisteredLabelView) → registered_cmp a b ≡ Equal → a ≡ b
 registered_cmp-equal a b h =
-    let same = name_cmp-equal (as_name a) (as_name b) (then-first (name_cmp (as_name a) (as_name b)) (nat_cmp (private_rank a) (private_rank b)) h) in
+    let same = label_cmp-equal (as_label a) (as_label b) (then-first (label_cmp (as_label a) (as_label b)) (nat_cmp (private_rank a) (private_rank b)) h) in
     let tied = exact_unsigned (private_rank a) (private_rank b)
-    (then-second (name_cmp (as_name a) (as_name b)) (nat_cmp (private_rank a) (private_rank b)) h) in
-    sym (registered-back a) ∙ (ap (λ x. registered_of x (private_rank a)) same ∙ (ap (registered_of (as_name b)) tied ∙ registered-back b))
+    (then-second (label_cmp (as_label a) (as_label b)) (nat_cmp (private_rank a) (private_rank b)) h) in
+    sym (registered-back a) ∙ (ap (λ x. registered_of x (private_rank a)) same ∙ (ap (registered_of (as_label b)) tied ∙ registered-back b))
 
 pub registered_cmp-apart : TellsApart registered_cmp
 registered_cmp-apart = tells-apart registered_cmp registered_cmp_total registered_cmp-equal

@@ -2,7 +2,7 @@
 
 ghost use Rattle.std.specs.Prelude.{◌≡◌, IfErr, IfOk};
 ghost use Rattle.coset_codec.specs.declared.error.CoseError.TheVariants.{OutOfMemory};
-ghost use Rattle.coset_label.specs.Names.{number, same_name};
+ghost use Rattle.coset_label.specs.LabelData.{number, same_label};
 ghost use Rattle.coset_label.specs.Views.{label_view};
 
 use coset_codec::read::Decoder;
@@ -26,23 +26,23 @@ pub enum Label {
 }
 
 impl Codec for Label {
-    ghost use Rattle.coset_codec.specs.Inputs.{IsLent};
+    ghost use Rattle.coset_codec.specs.Inputs.{IsBorrowed};
     ghost use Rattle.coset_label.specs.LabelLaws.{label_laws};
     ghost use Rattle.coset_label.specs.Labels.{label};
-    ghost use Rattle.coset_label.specs.Names.{Name};
-    ghost use Rattle.coset_label.specs.SameLaws.{same_name-decides};
+    ghost use Rattle.coset_label.specs.LabelData.{LabelView};
+    ghost use Rattle.coset_label.specs.SameLaws.{same_label-decides};
 
-    ghost View = { Name };
+    ghost View = { LabelView };
 
     ghost view = { label_view };
 
     ghost shape = { label };
 
-    ghost allocates = { IsLent };
+    ghost allocates = { IsBorrowed };
 
     ghost laws = { label_laws };
 
-    ghost equal = { λ a b. same_name-decides (label_view a) (label_view b) };
+    ghost equal = { λ a b. same_label-decides (label_view a) (label_view b) };
 
     /// Allocates only to copy a text from borrowed bytes.
     fn read(alloc: Global, input: &mut Decoder<'_>) -> Result<Label> {
@@ -108,7 +108,7 @@ impl Label {
 
 /// Returns true if the label is the number of this parameter, from any registry.
 pub fn is_parameter<P: EnumI64 + Copy>(label: &Label, parameter: P) -> bool
-    ensures { result ≡ same_name (number (P.number parameter)) (label_view label.now) }
+    ensures { result ≡ same_label (number (P.number parameter)) (label_view label.now) }
 {
     match label {
         Label::Int(number) => *number == parameter.to_i64(),

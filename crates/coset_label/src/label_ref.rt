@@ -4,8 +4,8 @@
 //! sections 3 and 4.2.1). Comparing them encodes nothing and allocates nothing.
 
 ghost use Rattle.std.specs.Prelude.{◌≡◌};
-ghost use Rattle.coset_label.specs.Names.{number, name_cmp, canonical_cmp, major_type, argument, content, head_length, encoded_length};
-ghost use Rattle.coset_label.specs.LabelRefs.{lent_view};
+ghost use Rattle.coset_label.specs.LabelData.{number, label_cmp, canonical_cmp, major_type, argument, content, head_length, encoded_length};
+ghost use Rattle.coset_label.specs.LabelRefs.{label_ref_view};
 
 use std::cmp::Ordering;
 
@@ -32,7 +32,7 @@ fn head_length(argument: u64) -> u64
 /// Compares the encodings of two integers byte by byte. The integers from 0 up come first, followed
 /// by those from -1 down.
 fn number_order(a: i64, b: i64) -> Ordering
-    ensures { result ≡ name_cmp (number a) (number b) }
+    ensures { result ≡ label_cmp (number a) (number b) }
 {
     match (a >= 0, b >= 0) {
         (true, true) => a.cmp(&b),
@@ -45,7 +45,7 @@ fn number_order(a: i64, b: i64) -> Ordering
 impl<'a> LabelRef<'a> {
     /// Returns the major type of the label's head.
     fn major_type(&self) -> u8
-        ensures { result ≡ major_type (lent_view self.now) }
+        ensures { result ≡ major_type (label_ref_view self.now) }
     {
         match self {
             LabelRef::Int(i) if *i >= 0 => 0,
@@ -56,7 +56,7 @@ impl<'a> LabelRef<'a> {
 
     /// Returns the argument of the label's head.
     fn argument(&self) -> u64
-        ensures { result ≡ argument (lent_view self.now) }
+        ensures { result ≡ argument (label_ref_view self.now) }
     {
         match self {
             LabelRef::Int(i) if *i >= 0 => *i as u64,
@@ -67,7 +67,7 @@ impl<'a> LabelRef<'a> {
 
     /// Returns the bytes after the head.
     fn content(&self) -> &[u8]
-        ensures { result.now ≡ content (lent_view self.now) }
+        ensures { result.now ≡ content (label_ref_view self.now) }
     {
         match self {
             LabelRef::Int(_) => &[],
@@ -77,7 +77,7 @@ impl<'a> LabelRef<'a> {
 
     /// Returns the length in bytes of the label's encoding.
     fn encoded_length(&self) -> u128
-        ensures { result ≡ encoded_length (lent_view self.now) }
+        ensures { result ≡ encoded_length (label_ref_view self.now) }
     {
         head_length(self.argument()) as u128 + self.content().len() as u128
     }
@@ -85,7 +85,7 @@ impl<'a> LabelRef<'a> {
     /// Compares the labels' encodings byte by byte.
     #[inline(always)]
     pub(crate) fn order(&self, other: &LabelRef<'_>) -> Ordering
-        ensures { result ≡ name_cmp (lent_view self.now) (lent_view other.now) }
+        ensures { result ≡ label_cmp (label_ref_view self.now) (label_ref_view other.now) }
     {
         if let (LabelRef::Int(a), LabelRef::Int(b)) = (self, other) {
             return number_order(*a, *b);
@@ -99,7 +99,7 @@ impl<'a> LabelRef<'a> {
 
     /// Compares the labels' encodings by length first, then byte by byte.
     pub(crate) fn canonical_order(&self, other: &LabelRef<'_>) -> Ordering
-        ensures { result ≡ canonical_cmp (lent_view self.now) (lent_view other.now) }
+        ensures { result ≡ canonical_cmp (label_ref_view self.now) (label_ref_view other.now) }
     {
         match self.encoded_length().cmp(&other.encoded_length()) {
             Ordering::Equal => self.order(other),

@@ -7,9 +7,9 @@ ghost use Rattle.std.specs.Cmp.{eq_by_cmp_equiv, on_total, partial_equiv_from_eq
 ghost use Rattle.std.specs.Cmp.Lexicographic.{slice_cmp};
 ghost use Rattle.std.specs.Cmp.Rules.{comparing};
 ghost use Rattle.std.proofs.Common.{rules};
-ghost use Rattle.coset_label.specs.LabelRefs.{lent_view};
+ghost use Rattle.coset_label.specs.LabelRefs.{label_ref_view};
 ghost use Rattle.coset_label.specs.NameOrder.{registered_cmp_total};
-ghost use Rattle.coset_label.specs.Names.{ComparesRegistered, ComparesEncodings, as_name, canonical_cmp, length_first_cmp, name_cmp, registered_cmp, private_rank};
+ghost use Rattle.coset_label.specs.LabelData.{ComparesRegistered, ComparesEncodings, as_label, canonical_cmp, length_first_cmp, label_cmp, registered_cmp, private_rank};
 ghost use Rattle.coset_label.specs.Views.{label_view, registered_view, registered_or_private_view};
 
 use crate::label::Label;
@@ -22,7 +22,7 @@ use std::cmp::Ordering;
 impl Label {
     /// Borrows the label.
     fn label_ref(&self) -> LabelRef<'_>
-        ensures { lent_view result ≡ label_view self.now }
+        ensures { label_ref_view result ≡ label_view self.now }
     {
         match self {
             Label::Int(i) => LabelRef::Int(*i),
@@ -42,7 +42,7 @@ impl Label {
 }
 
 impl Ord for Label {
-    ghost cmp = { on label_view name_cmp };
+    ghost cmp = { on label_view label_cmp };
 
     ghost total = { Prim.search (comparing, rules) };
 
@@ -52,7 +52,7 @@ impl Ord for Label {
 
     /// Compares the labels' encodings byte by byte (RFC 8949, section 4.2.1).
     fn cmp(&self, other: &Label) -> Ordering
-        ensures order { result ≡ name_cmp (label_view self.now) (label_view other.now) }
+        ensures order { result ≡ label_cmp (label_view self.now) (label_view other.now) }
         ensures encodings { ComparesEncodings (slice_cmp nat_cmp) (label_view self.now)
             (label_view other.now) result }
     {
@@ -62,7 +62,7 @@ impl Ord for Label {
 }
 
 impl PartialOrd for Label {
-    ghost partial_cmp = { as_partial_cmp (on label_view name_cmp) };
+    ghost partial_cmp = { as_partial_cmp (on label_view label_cmp) };
 
     ghost laws = { partial_order_from_own_ties (Prim.search (comparing, rules) depth 9)
         (Prim.search (comparing, rules) depth 9) };
@@ -73,16 +73,17 @@ impl PartialOrd for Label {
 }
 
 impl PartialEq for Label {
-    ghost eq = { λ a b. is_eq (name_cmp (label_view a) (label_view b)) };
+    ghost eq = { λ a b. is_eq (label_cmp (label_view a) (label_view b)) };
 
     ghost laws = { Prim.search (comparing, rules) };
 
     /// Returns true if the labels are the same number or the same text.
     fn eq(&self, other: &Label) -> bool
-        ensures level { result ≡ is_eq (name_cmp (label_view self.now) (label_view other.now)) }
+        ensures matches_cmp { result
+            ≡ is_eq (label_cmp (label_view self.now) (label_view other.now)) }
         ensures equal { IsTrue result ↔ (label_view self.now ≡ label_view other.now) }
     {
-        laws::orders_tell_apart();
+        laws::orders_match_equality();
         self.cmp(other).is_eq()
     }
 }
@@ -94,7 +95,7 @@ impl Eq for Label {
 impl<T: EnumI64> RegisteredLabel<T> {
     /// Borrows the label.
     fn label_ref(&self) -> LabelRef<'_>
-        ensures { lent_view result ≡ registered_view T.number self.now }
+        ensures { label_ref_view result ≡ registered_view T.number self.now }
     {
         match self {
             RegisteredLabel::Assigned(value) => LabelRef::Int(value.to_i64()),
@@ -104,7 +105,7 @@ impl<T: EnumI64> RegisteredLabel<T> {
 }
 
 impl<T: EnumI64> Ord for RegisteredLabel<T> {
-    ghost cmp = { on (registered_view T.number) name_cmp };
+    ghost cmp = { on (registered_view T.number) label_cmp };
 
     ghost total = { Prim.search (comparing, rules) };
 
@@ -114,7 +115,7 @@ impl<T: EnumI64> Ord for RegisteredLabel<T> {
 
     /// Compares the labels' encodings byte by byte (RFC 8949, section 4.2.1).
     fn cmp(&self, other: &RegisteredLabel<T>) -> Ordering
-        ensures order { result ≡ name_cmp (registered_view T.number self.now)
+        ensures order { result ≡ label_cmp (registered_view T.number self.now)
             (registered_view T.number other.now) }
         ensures encodings { ComparesEncodings (slice_cmp nat_cmp)
             (registered_view T.number self.now) (registered_view T.number other.now) result }
@@ -125,7 +126,7 @@ impl<T: EnumI64> Ord for RegisteredLabel<T> {
 }
 
 impl<T: EnumI64> PartialOrd for RegisteredLabel<T> {
-    ghost partial_cmp = { as_partial_cmp (on (registered_view T.number) name_cmp) };
+    ghost partial_cmp = { as_partial_cmp (on (registered_view T.number) label_cmp) };
 
     ghost laws = { partial_order_from_own_ties (Prim.search (comparing, rules) depth 9)
         (Prim.search (comparing, rules) depth 9) };
@@ -137,18 +138,18 @@ impl<T: EnumI64> PartialOrd for RegisteredLabel<T> {
 
 impl<T: EnumI64> PartialEq for RegisteredLabel<T> {
     ghost eq = { λ a b.
-        is_eq (name_cmp (registered_view T.number a) (registered_view T.number b)) };
+        is_eq (label_cmp (registered_view T.number a) (registered_view T.number b)) };
 
     ghost laws = { Prim.search (comparing, rules) };
 
     /// Returns true if the labels are the same number or the same text.
     fn eq(&self, other: &RegisteredLabel<T>) -> bool
-        ensures level { result ≡ is_eq
-            (name_cmp (registered_view T.number self.now) (registered_view T.number other.now)) }
+        ensures matches_cmp { result ≡ is_eq
+            (label_cmp (registered_view T.number self.now) (registered_view T.number other.now)) }
         ensures equal { IsTrue result
             ↔ (registered_view T.number self.now ≡ registered_view T.number other.now) }
     {
-        laws::orders_tell_apart();
+        laws::orders_match_equality();
         self.cmp(other).is_eq()
     }
 }
@@ -160,7 +161,7 @@ impl<T: EnumI64> Eq for RegisteredLabel<T> {
 impl<T: EnumI64> RegisteredLabelWithPrivate<T> {
     /// Borrows the label as a number or a text.
     fn label_ref(&self) -> LabelRef<'_>
-        ensures { lent_view result ≡ as_name (registered_or_private_view T.number self.now) }
+        ensures { label_ref_view result ≡ as_label (registered_or_private_view T.number self.now) }
     {
         match self {
             RegisteredLabelWithPrivate::PrivateUse(i) => LabelRef::Int(*i),
@@ -226,13 +227,13 @@ impl<T: EnumI64> PartialEq for RegisteredLabelWithPrivate<T> {
     /// Returns true if the labels are the same number or the same text. An assigned value never
     /// equals a private-use number.
     fn eq(&self, other: &RegisteredLabelWithPrivate<T>) -> bool
-        ensures level { result
+        ensures matches_cmp { result
             ≡ is_eq (registered_cmp (registered_or_private_view T.number self.now)
             (registered_or_private_view T.number other.now)) }
         ensures equal { IsTrue result ↔ (registered_or_private_view T.number self.now
             ≡ registered_or_private_view T.number other.now) }
     {
-        laws::orders_tell_apart();
+        laws::orders_match_equality();
         self.cmp(other).is_eq()
     }
 }

@@ -1,8 +1,8 @@
 //! The two orders of labels, as an enum.
 
 ghost use Rattle.std.specs.Prelude.{◌≡◌};
-ghost use Rattle.coset_label.specs.Names.{ComparesEncodings};
-ghost use Rattle.coset_label.specs.Orderings.{name_cmp_by, encoding_cmp_by};
+ghost use Rattle.coset_label.specs.LabelData.{ComparesEncodings};
+ghost use Rattle.coset_label.specs.Orderings.{label_cmp_by, encoding_cmp_by};
 ghost use Rattle.coset_label.specs.Views.{label_view};
 
 use crate::label::Label;
@@ -20,7 +20,7 @@ pub enum CborOrdering {
 impl CborOrdering {
     /// Compares two labels in this order. Allocates nothing.
     pub fn compare(&self, a: &Label, b: &Label) -> Ordering
-        ensures order { result ≡ name_cmp_by self.now (label_view a.now) (label_view b.now) }
+        ensures order { result ≡ label_cmp_by self.now (label_view a.now) (label_view b.now) }
         ensures encodings { ComparesEncodings (encoding_cmp_by self.now) (label_view a.now)
             (label_view b.now) result }
     {

@@ -42,23 +42,23 @@ pub enum RegisteredLabelWithPrivate<T> {
 }
 
 impl<T: EnumI64 + Drop> Codec for RegisteredLabel<T> {
-    ghost use Rattle.coset_codec.specs.Inputs.{IsLent};
+    ghost use Rattle.coset_codec.specs.Inputs.{IsBorrowed};
     ghost use Rattle.coset_label.specs.LabelLaws.{registered_laws};
     ghost use Rattle.coset_label.specs.Labels.{registered_in};
-    ghost use Rattle.coset_label.specs.Names.{Name};
-    ghost use Rattle.coset_label.specs.SameLaws.{same_name-decides};
+    ghost use Rattle.coset_label.specs.LabelData.{LabelView};
+    ghost use Rattle.coset_label.specs.SameLaws.{same_label-decides};
 
-    ghost View = { Name };
+    ghost View = { LabelView };
 
     ghost view = { registered_view T.number };
 
     ghost shape = { registered_in T.value_of };
 
-    ghost allocates = { IsLent };
+    ghost allocates = { IsBorrowed };
 
     ghost laws = { registered_laws (λ i. is_some (T.value_of i)) };
 
-    ghost equal = { λ a b. same_name-decides (registered_view T.number a)
+    ghost equal = { λ a b. same_label-decides (registered_view T.number a)
         (registered_view T.number b) };
 
     /// Allocates only to copy a text from borrowed bytes.
@@ -89,19 +89,19 @@ impl<T: EnumI64 + Drop> Codec for RegisteredLabel<T> {
 }
 
 impl<T: EnumI64 + WithPrivateRange + Drop> Codec for RegisteredLabelWithPrivate<T> {
-    ghost use Rattle.coset_codec.specs.Inputs.{IsLent};
+    ghost use Rattle.coset_codec.specs.Inputs.{IsBorrowed};
     ghost use Rattle.coset_label.specs.LabelLaws.{registered_or_private_laws};
     ghost use Rattle.coset_label.specs.Labels.{registered_or_private_in};
     ghost use Rattle.coset_label.specs.NameOrder.{registered_cmp-apart};
-    ghost use Rattle.coset_label.specs.Names.{RegisteredName};
+    ghost use Rattle.coset_label.specs.LabelData.{RegisteredLabelView};
 
-    ghost View = { RegisteredName };
+    ghost View = { RegisteredLabelView };
 
     ghost view = { registered_or_private_view T.number };
 
     ghost shape = { registered_or_private_in T.value_of T.is_private };
 
-    ghost allocates = { IsLent };
+    ghost allocates = { IsBorrowed };
 
     ghost laws = { registered_or_private_laws (λ i. is_some (T.value_of i)) T.is_private };
 

@@ -6,16 +6,16 @@ use Rattle.coset_value.specs.Item.{Item}
 use Rattle.coset_codec.specs.declared.error.CallError.{CallError}
 use Rattle.coset_codec.specs.declared.error.CallError.TheVariants.{Coset, Caller}
 use Rattle.coset_codec.specs.declared.error.CoseError.{CoseError}
-use Rattle.coset_codec.specs.Answers.{Writes}
+use Rattle.coset_codec.specs.Results.{Writes}
 use Rattle.coset_codec.specs.Encoding.{HasNoImage}
-use Rattle.coset_core.specs.Calls.{AsksAbout, IsStructure}
+use Rattle.coset_core.specs.Calls.{CallsWith, IsStructure}
 
 -- If the content is missing, `missing` is called once, and its error is returned. Otherwise f is called with `bytes` of
 -- the content and with the content's structure.
-abbrev pub AsksWherePresent : {F M U E : Type 0} → Once F (Bor (List ℕ) × (Bor (List ℕ) × Unit {0})) (Result U E) → F → Once M (Unit {0}) E → M
+abbrev pub CallsIfPresent : {F M U E : Type 0} → Once F (Bor (List ℕ) × (Bor (List ℕ) × Unit {0})) (Result U E) → F → Once M (Unit {0}) E → M
     → Option (List ℕ) → (List ℕ → List ℕ) → (List ℕ → Option Item) → Result U (CallError E) → Type 0
-AsksWherePresent {E = E} g f gm missing None bytes structure r = (e : E) × FnOnceReturns gm missing tt e × (r ≡ Err (Caller e))
-AsksWherePresent g f gm missing (Some c) bytes structure r = AsksAbout g f (bytes c) (structure c) r
+CallsIfPresent {E = E} g f gm missing None bytes structure r = (e : E) × FnOnceReturns gm missing tt e × (r ≡ Err (Caller e))
+CallsIfPresent g f gm missing (Some c) bytes structure r = CallsWith g f (bytes c) (structure c) r
 
 -- f was called with these bytes and with those of the structure, and its result was stored as `stores` says. Otherwise
 -- there is no structure, or an allocation failed.
@@ -38,6 +38,6 @@ WritesPresent bytes_of o (Ok None) = ⊥
 WritesPresent {V} bytes_of o (Err e) = Writes {V = V} o bytes_of (Err e)
 
 -- If there is a payload, its structure is written. If there is none, the result is `None`.
-abbrev pub WritesWherePresent : {V : Type 0} → (V → List ℕ) → Option (List ℕ) → (List ℕ → Option Item) → Result (Option V) CoseError → Type 0
-WritesWherePresent bytes_of None structure r = r ≡ Ok None
-WritesWherePresent bytes_of (Some p) structure r = WritesPresent bytes_of (structure p) r
+abbrev pub WritesIfPresent : {V : Type 0} → (V → List ℕ) → Option (List ℕ) → (List ℕ → Option Item) → Result (Option V) CoseError → Type 0
+WritesIfPresent bytes_of None structure r = r ≡ Ok None
+WritesIfPresent bytes_of (Some p) structure r = WritesPresent bytes_of (structure p) r

@@ -2,20 +2,20 @@
 
 ghost use Rattle.std.specs.Prelude.{◌≡◌, ◌≢◌, IfOk, IfErr, IfSome, Some, None};
 ghost use Rattle.coset_codec.specs.declared.error.CoseError.TheVariants.{OutOfMemory};
-ghost use Rattle.coset_codec.specs.Answers.{Writes};
+ghost use Rattle.coset_codec.specs.Results.{Writes};
 ghost use Rattle.coset_core.specs.Messages.{unread};
 ghost use Rattle.coset_core.specs.Views.{header_view};
-ghost use Rattle.coset_core.specs.Calls.{AsksAbout, Itself};
+ghost use Rattle.coset_core.specs.Calls.{CallsWith, Itself};
 ghost use Rattle.coset_msg.specs.Encrypt0.{empty_encrypt0, encrypt0, encrypt0_view, encrypt0_structure, with_ciphertext};
-ghost use Rattle.coset_msg.specs.Presence.{AsksWherePresent, CreatesOf, TriesToCreateOf};
+ghost use Rattle.coset_msg.specs.Presence.{CallsIfPresent, CreatesOf, TriesToCreateOf};
 
 use crate::enc_structure::{EncryptionContext, enc_structure_of};
 use coset_codec::read::{Decoder, drop_refused};
 use coset_codec::util::copy_bstr;
 use coset_codec::write::{Encode, encode_three};
 use coset_codec::{CallError, Codec, Result, TaggedCodec};
-use coset_core::calls::verify_with;
-use coset_core::{BstrOrNil, Header, ProtectedHeader, ProtectedRef, read_headed};
+use coset_core::calls::call_with;
+use coset_core::{BstrOrNil, Header, ProtectedHeader, ProtectedRef, read_with_headers};
 use std::alloc::{AllocError, Global};
 use std::marker::Model;
 
@@ -35,7 +35,7 @@ pub struct CoseEncrypt0 {
 }
 
 /// The expected item, as the error for a wrong number of elements names it.
-const PLACES: &str = "array with 3 items";
+const EXPECTED_ARRAY: &str = "array with 3 items";
 
 impl CoseEncrypt0 {
     /// Returns an empty message: empty headers, no ciphertext. Allocates nothing.
@@ -72,7 +72,7 @@ impl CoseEncrypt0 {
     }
 
     /// Returns the ciphertext, which the message must carry.
-    fn carried(&self) -> &[u8]
+    fn attached(&self) -> &[u8]
         requires { self.now.ciphertext ≢ None }
         ensures { (encrypt0_view self.now).ciphertext ≡ Some result.now }
     {
@@ -101,12 +101,12 @@ impl CoseEncrypt0 {
         F: FnOnce(&[u8], &[u8]) -> Result<Vec<u8>, E> + Drop,
         E: Drop,
         requires callable { F.IsAlwaysCallable cipher }
-        requires carried { self.now.ciphertext ≢ None }
-        ensures { IfSome (encrypt0_view self.now).ciphertext (λ c. AsksAbout F.FnOnce cipher c
+        requires attached { self.now.ciphertext ≢ None }
+        ensures { IfSome (encrypt0_view self.now).ciphertext (λ c. CallsWith F.FnOnce cipher c
             (encrypt0_structure (encrypt0_view self.now) external_aad.now) result) }
     {
         let structure = self.aad(alloc, external_aad);
-        verify_with(self.carried(), structure, cipher)
+        call_with(self.attached(), structure, cipher)
     }
 
     /// Does the same as [`CoseEncrypt0::decrypt`], also for a message without a ciphertext. If the
@@ -128,7 +128,7 @@ impl CoseEncrypt0 {
         M: FnOnce() -> E + Drop,
         requires callable { F.IsAlwaysCallable cipher }
         requires missing_callable { M.IsAlwaysCallable missing }
-        ensures { AsksWherePresent F.FnOnce cipher M.FnOnce missing
+        ensures { CallsIfPresent F.FnOnce cipher M.FnOnce missing
             (encrypt0_view self.now).ciphertext (λ c. c)
             (λ _. encrypt0_structure (encrypt0_view self.now) external_aad.now) result }
     {
@@ -136,7 +136,7 @@ impl CoseEncrypt0 {
             return Err(CallError::Caller(missing()));
         };
         let structure = self.aad(alloc, external_aad);
-        verify_with(ciphertext, structure, cipher)
+        call_with(ciphertext, structure, cipher)
     }
 
     /// Does the same as [`CoseEncrypt0::decrypt`] for a detached ciphertext (RFC 9052,
@@ -155,11 +155,11 @@ impl CoseEncrypt0 {
         F: FnOnce(&[u8], &[u8]) -> Result<Vec<u8>, E> + Drop,
         E: Drop,
         requires { F.IsAlwaysCallable cipher }
-        ensures { AsksAbout F.FnOnce cipher ciphertext.now
+        ensures { CallsWith F.FnOnce cipher ciphertext.now
             (encrypt0_structure (encrypt0_view self.now) external_aad.now) result }
     {
         let structure = self.aad(alloc, external_aad);
-        verify_with(ciphertext, structure, cipher)
+        call_with(ciphertext, structure, cipher)
     }
 
     /// Returns a message equal to this one, kept bytes included.
@@ -207,12 +207,12 @@ impl Codec for CoseEncrypt0 {
 
     fn read(alloc: Global, input: &mut Decoder<'_>) -> Result<CoseEncrypt0> {
         let mut message = CoseEncrypt0::new(alloc);
-        match read_headed(
+        match read_with_headers(
             &mut message.protected,
             &mut message.unprotected,
             alloc,
             input,
-            PLACES,
+            EXPECTED_ARRAY,
         ) {
             Ok((BstrOrNil(ciphertext), ())) => {
                 message.ciphertext = ciphertext;
@@ -368,7 +368,7 @@ impl CoseEncrypt0Builder {
             ≡ with_ciphertext c.items (encrypt0_view self)) result }
     {
         let structure = self.0.aad(alloc, external_aad);
-        let ciphertext = verify_with(plaintext, structure, cipher)?;
+        let ciphertext = call_with(plaintext, structure, cipher)?;
         Ok(self.ciphertext(ciphertext))
     }
 
@@ -414,10 +414,10 @@ impl CoseEncrypt0Builder {
         F: FnOnce(&[u8], &[u8]) -> Result<Vec<u8>, E> + Drop,
         E: Drop,
         requires { F.IsAlwaysCallable cipher }
-        ensures { AsksAbout F.FnOnce cipher plaintext.now
+        ensures { CallsWith F.FnOnce cipher plaintext.now
             (encrypt0_structure (encrypt0_view self.now) external_aad.now) result }
     {
         let structure = self.0.aad(alloc, external_aad);
-        verify_with(plaintext, structure, cipher)
+        call_with(plaintext, structure, cipher)
     }
 }

@@ -2,20 +2,20 @@
 
 ghost use Rattle.std.specs.Prelude.{◌≡◌, ◌≢◌, IfOk, IfErr, IfSome, Some, None};
 ghost use Rattle.coset_codec.specs.declared.error.CoseError.TheVariants.{OutOfMemory};
-ghost use Rattle.coset_codec.specs.Answers.{Writes};
+ghost use Rattle.coset_codec.specs.Results.{Writes};
 ghost use Rattle.coset_core.specs.Messages.{unread};
 ghost use Rattle.coset_core.specs.Views.{header_view};
-ghost use Rattle.coset_core.specs.Calls.{AsksAbout, Creates, TriesToCreate};
+ghost use Rattle.coset_core.specs.Calls.{CallsWith, Creates, TriesToCreate};
 ghost use Rattle.coset_msg.specs.Mac0.{empty_mac0, mac0, mac0_view, mac0_structure, with_tag};
-ghost use Rattle.coset_msg.specs.Presence.{AsksWherePresent, WritesWherePresent};
+ghost use Rattle.coset_msg.specs.Presence.{CallsIfPresent, WritesIfPresent};
 
 use crate::mac_structure::{MacContext, mac_structure_of};
 use coset_codec::read::{Decoder, drop_refused};
 use coset_codec::util::copy_bstr;
 use coset_codec::write::{Encode, encode_four};
 use coset_codec::{CallError, Codec, Result, TaggedCodec};
-use coset_core::calls::{create_with, verify_with};
-use coset_core::{BstrOrNil, Header, ProtectedHeader, ProtectedRef, read_headed};
+use coset_core::calls::{call_with, create_with};
+use coset_core::{BstrOrNil, Header, ProtectedHeader, ProtectedRef, read_with_headers};
 use std::alloc::{AllocError, Global};
 use std::marker::Model;
 
@@ -37,7 +37,7 @@ pub struct CoseMac0 {
 }
 
 /// The expected item, as the error for a wrong number of elements names it.
-const PLACES: &str = "array with 4 items";
+const EXPECTED_ARRAY: &str = "array with 4 items";
 
 impl CoseMac0 {
     /// Returns an empty message: empty headers, no payload, an empty tag. Allocates nothing.
@@ -63,7 +63,7 @@ impl CoseMac0 {
     /// - `DuplicateMapKey` if the protected header has no kept bytes and has a label twice in its
     ///   `rest`. Nested headers count too, except those inside kept bytes.
     pub fn tbm(&self, alloc: Global, external_aad: &[u8]) -> Result<Option<Vec<u8>>>
-        ensures { WritesWherePresent (λ b. b.items) (mac0_view self.now).payload
+        ensures { WritesIfPresent (λ b. b.items) (mac0_view self.now).payload
             (mac0_structure (mac0_view self.now) external_aad.now) result }
     {
         match &self.payload {
@@ -96,7 +96,7 @@ impl CoseMac0 {
     }
 
     /// Returns the payload, which the message must carry.
-    fn carried(&self) -> &[u8]
+    fn attached(&self) -> &[u8]
         requires { self.now.payload ≢ None }
         ensures { (mac0_view self.now).payload ≡ Some result.now }
     {
@@ -125,13 +125,13 @@ impl CoseMac0 {
         F: FnOnce(&[u8], &[u8]) -> Result<(), E> + Drop,
         E: Drop,
         requires callable { F.IsAlwaysCallable verifier }
-        requires carried { self.now.payload ≢ None }
-        ensures { IfSome (mac0_view self.now).payload (λ p. AsksAbout F.FnOnce verifier
+        requires attached { self.now.payload ≢ None }
+        ensures { IfSome (mac0_view self.now).payload (λ p. CallsWith F.FnOnce verifier
             (mac0_view self.now).tag (mac0_structure (mac0_view self.now) external_aad.now p)
             result) }
     {
-        let structure = self.tbm_detached(alloc, self.carried(), external_aad);
-        verify_with(&self.tag, structure, verifier)
+        let structure = self.tbm_detached(alloc, self.attached(), external_aad);
+        call_with(&self.tag, structure, verifier)
     }
 
     /// Does the same as [`CoseMac0::verify_tag`], also for a message without a payload. If the
@@ -153,7 +153,7 @@ impl CoseMac0 {
         M: FnOnce() -> E + Drop,
         requires callable { F.IsAlwaysCallable verifier }
         requires missing_callable { M.IsAlwaysCallable missing }
-        ensures { AsksWherePresent F.FnOnce verifier M.FnOnce missing
+        ensures { CallsIfPresent F.FnOnce verifier M.FnOnce missing
             (mac0_view self.now).payload (λ p. (mac0_view self.now).tag)
             (mac0_structure (mac0_view self.now) external_aad.now) result }
     {
@@ -161,7 +161,7 @@ impl CoseMac0 {
             return Err(CallError::Caller(missing()));
         };
         let structure = self.tbm_detached(alloc, payload, external_aad);
-        verify_with(&self.tag, structure, verifier)
+        call_with(&self.tag, structure, verifier)
     }
 
     /// Does the same as [`CoseMac0::verify_tag`] for a detached payload (RFC 9052, section 6).
@@ -180,11 +180,11 @@ impl CoseMac0 {
         F: FnOnce(&[u8], &[u8]) -> Result<(), E> + Drop,
         E: Drop,
         requires { F.IsAlwaysCallable verifier }
-        ensures { AsksAbout F.FnOnce verifier (mac0_view self.now).tag
+        ensures { CallsWith F.FnOnce verifier (mac0_view self.now).tag
             (mac0_structure (mac0_view self.now) external_aad.now payload.now) result }
     {
         let structure = self.tbm_detached(alloc, payload, external_aad);
-        verify_with(&self.tag, structure, verifier)
+        call_with(&self.tag, structure, verifier)
     }
 
     /// Returns a message equal to this one, kept bytes included.
@@ -234,12 +234,12 @@ impl Codec for CoseMac0 {
 
     fn read(alloc: Global, input: &mut Decoder<'_>) -> Result<CoseMac0> {
         let mut message = CoseMac0::new(alloc);
-        match read_headed(
+        match read_with_headers(
             &mut message.protected,
             &mut message.unprotected,
             alloc,
             input,
-            PLACES,
+            EXPECTED_ARRAY,
         ) {
             Ok((BstrOrNil(payload), (tag, ()))) => {
                 message.payload = payload;
@@ -393,12 +393,12 @@ impl CoseMac0Builder {
     where
         F: FnOnce(&[u8]) -> Vec<u8> + Drop,
         requires callable { F.IsAlwaysCallable creator }
-        requires carried { self.payload ≢ None }
+        requires attached { self.payload ≢ None }
         ensures { IfSome (mac0_view self).payload (λ p. Creates F.FnOnce creator
             (mac0_structure (mac0_view self) external_aad.now p) (λ t b. mac0_view b
             ≡ with_tag t.items (mac0_view self)) result) }
     {
-        let tbm = self.0.tbm_detached(alloc, self.0.carried(), external_aad)?;
+        let tbm = self.0.tbm_detached(alloc, self.0.attached(), external_aad)?;
         Ok(self.tag(creator(&tbm)))
     }
 
@@ -443,12 +443,12 @@ impl CoseMac0Builder {
         F: FnOnce(&[u8]) -> Result<Vec<u8>, E> + Drop,
         E: Drop,
         requires callable { F.IsAlwaysCallable creator }
-        requires carried { self.payload ≢ None }
+        requires attached { self.payload ≢ None }
         ensures { IfSome (mac0_view self).payload (λ p. TriesToCreate F.FnOnce creator
             (mac0_structure (mac0_view self) external_aad.now p) (λ t b. mac0_view b
             ≡ with_tag t.items (mac0_view self)) result) }
     {
-        let structure = self.0.tbm_detached(alloc, self.0.carried(), external_aad);
+        let structure = self.0.tbm_detached(alloc, self.0.attached(), external_aad);
         let tag = create_with(structure, creator)?;
         Ok(self.tag(tag))
     }

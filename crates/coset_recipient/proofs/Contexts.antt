@@ -9,7 +9,7 @@ use Rattle.coset_sign.specs.declared.signature.SignatureContext.{SignatureContex
 use Rattle.coset_sign.specs.declared.signature.SignatureContext.TheVariants as signatures
 use Rattle.coset_msg.specs.EncStructure.{enc_text}
 use Rattle.coset_msg.specs.MacStructure.{mac_text}
-use Rattle.coset_recipient.specs.Structured.{Structured, signed, authenticated, encrypted, countersigned, structure_of}
+use Rattle.coset_recipient.specs.AnyStructure.{AnyStructure, signed, authenticated, encrypted, countersigned, structure_of}
 use Rattle.coset_msg.specs.declared.enc_structure.EncryptionContext.{EncryptionContext}
 use Rattle.coset_msg.specs.declared.enc_structure.EncryptionContext.TheVariants as encryptions
 use Rattle.coset_msg.specs.declared.mac_structure.MacContext.{MacContext}
@@ -75,30 +75,30 @@ strings-again [] = refl
 strings-again (s ∷ ss) = ap (λ (x : List (List ℕ)). s ∷ x) (strings-again ss)
 
 -- The context with these parts.
-abbrev made : Context → List (List ℕ) → List (List ℕ) → Structured
-made (of_signature c) (p ∷ a ∷ l ∷ []) os = signed c p None a l
-made (of_signature c) (p ∷ s ∷ a ∷ l ∷ ps) os = signed c p (Some s) a l
-made (of_mac c) (p ∷ a ∷ l ∷ ps) os = authenticated c p a l
-made (of_encryption c) (p ∷ a ∷ ps) os = encrypted c p a
-made (of_countersignature true) (p ∷ s ∷ a ∷ l ∷ ps) os = countersigned p (Some s) a l os
-made (of_countersignature false) (p ∷ a ∷ l ∷ ps) os = countersigned p None a l os
-made c ps os = encrypted encryptions.CoseEncrypt [] []
+abbrev from_parts : Context → List (List ℕ) → List (List ℕ) → AnyStructure
+from_parts (of_signature c) (p ∷ a ∷ l ∷ []) os = signed c p None a l
+from_parts (of_signature c) (p ∷ s ∷ a ∷ l ∷ ps) os = signed c p (Some s) a l
+from_parts (of_mac c) (p ∷ a ∷ l ∷ ps) os = authenticated c p a l
+from_parts (of_encryption c) (p ∷ a ∷ ps) os = encrypted c p a
+from_parts (of_countersignature true) (p ∷ s ∷ a ∷ l ∷ ps) os = countersigned p (Some s) a l os
+from_parts (of_countersignature false) (p ∷ a ∷ l ∷ ps) os = countersigned p None a l os
+from_parts c ps os = encrypted encryptions.CoseEncrypt [] []
 
-abbrev read_back : Item → Structured
-read_back (array (item (text t) vs)) = made (context_of t) (strings_in vs) (others_in vs)
+abbrev read_back : Item → AnyStructure
+read_back (array (item (text t) vs)) = from_parts (context_of t) (strings_in vs) (others_in vs)
 read_back v = encrypted encryptions.CoseEncrypt [] []
 
 -- Reading a structure back returns its context and parts.
-again : (x : Structured) → read_back (structure_of x) ≡ x
-again (signed c p None a l) = ap (λ (d : Context). made d (p ∷ a ∷ l ∷ []) []) (context_again (of_signature c))
-again (signed c p (Some s) a l) = ap (λ (d : Context). made d (p ∷ s ∷ a ∷ l ∷ []) []) (context_again (of_signature c))
-again (authenticated c p a l) = ap (λ (d : Context). made d (p ∷ a ∷ l ∷ []) []) (context_again (of_mac c))
-again (encrypted c p a) = ap (λ (d : Context). made d (p ∷ a ∷ []) []) (context_again (of_encryption c))
-again (countersigned p None a l os) = ap (λ (d : Context). made d (p ∷ a ∷ l ∷ []) (strings_in (byte_strings_and os no_items)))
+round_trip : (x : AnyStructure) → read_back (structure_of x) ≡ x
+round_trip (signed c p None a l) = ap (λ (d : Context). from_parts d (p ∷ a ∷ l ∷ []) []) (context_again (of_signature c))
+round_trip (signed c p (Some s) a l) = ap (λ (d : Context). from_parts d (p ∷ s ∷ a ∷ l ∷ []) []) (context_again (of_signature c))
+round_trip (authenticated c p a l) = ap (λ (d : Context). from_parts d (p ∷ a ∷ l ∷ []) []) (context_again (of_mac c))
+round_trip (encrypted c p a) = ap (λ (d : Context). from_parts d (p ∷ a ∷ []) []) (context_again (of_encryption c))
+round_trip (countersigned p None a l os) = ap (λ (d : Context). from_parts d (p ∷ a ∷ l ∷ []) (strings_in (byte_strings_and os no_items)))
     (context_again (of_countersignature false)) ∙ ap (λ xs. countersigned p None a l xs) (strings-again os)
-again (countersigned p (Some s) a l os) = ap (λ (d : Context). made d (p ∷ s ∷ a ∷ l ∷ []) (strings_in (byte_strings_and os no_items)))
+round_trip (countersigned p (Some s) a l os) = ap (λ (d : Context). from_parts d (p ∷ s ∷ a ∷ l ∷ []) (strings_in (byte_strings_and os no_items)))
     (context_again (of_countersignature true)) ∙ ap (λ xs. countersigned p (Some s) a l xs) (strings-again os)
 
 -- Therefore equal structures have the same context and parts.
-pub same_structured : (x y : Structured) → structure_of x ≡ structure_of y → x ≡ y
-same_structured x y e = sym (again x) ∙ (ap read_back e ∙ again y)
+pub same_structured : (x y : AnyStructure) → structure_of x ≡ structure_of y → x ≡ y
+same_structured x y e = sym (round_trip x) ∙ (ap read_back e ∙ round_trip y)

@@ -7,7 +7,7 @@ use Rattle.std.proofs.lemmas.Grind.{common_steps}
 use Rattle.std.proofs.lemmas.List.{map_push}
 use Rattle.coset_core.specs.Headers.{HeaderView, ProtectedView}
 use Rattle.coset_core.specs.Views.{header_view, protected_view}
-use Rattle.coset_recipient.specs.Recipient.{RecipientView, Recipients, are_none, and_recipient, and_recipients, recipients_of, then_recipient}
+use Rattle.coset_recipient.specs.Recipient.{RecipientView, Recipients, are_none, push_recipient, and_recipients, recipients_of, then_recipient}
 use Rattle.coset_recipient.specs.RecipientSame.{recipients_eq}
 use Rattle.coset_recipient.specs.RecipientViews.{recipient_view, recipient-rolled, recipient-unrolled}
 use Rattle.coset_recipient.specs.declared.recipient.CoseRecipient.{CoseRecipient, CoseRecipient-F, out-CoseRecipient, roll-CoseRecipient}
@@ -48,7 +48,7 @@ recipient-copied r x (Err e) fields inside = tt
 pub recipient-added :
     (r : CoseRecipient) (x : CoseRecipient-F CoseRecipient) (s : CoseRecipient) → fields_of x ≡ fields_of (out-CoseRecipient r)
     → x.recipients.items ≡ (out-CoseRecipient r).recipients.items ++ s ∷ []
-    → recipient_view (roll-CoseRecipient x) ≡ and_recipient (recipient_view s) (recipient_view r)
+    → recipient_view (roll-CoseRecipient x) ≡ push_recipient (recipient_view s) (recipient_view r)
 recipient-added r x s fields pushed =
     let old : List CoseRecipient = (out-CoseRecipient r).recipients.items in
     let f = fields_of (out-CoseRecipient r) in
@@ -56,4 +56,4 @@ recipient-added r x s fields pushed =
     ∙ (λ i. made (fields i) (recipients_of (map recipient_view (pushed i))))
     ∙ ap (λ rs. made f (recipients_of rs)) (map_push recipient_view old s)
     ∙ ap (made f) (recipients-pushed (map recipient_view old) (recipient_view s))
-    ∙ sym (ap (and_recipient (recipient_view s)) (recipient-unrolled r))
+    ∙ sym (ap (push_recipient (recipient_view s)) (recipient-unrolled r))

@@ -8,7 +8,7 @@ use Rattle.coset_codec.specs.Encoding.{AppendsImage, AppendsElements, Encodes}
 use Rattle.coset_codec.specs.Shape.{both, bstr, images, last_image, or_nil}
 use Rattle.coset_codec.proofs.Encoding.{array-put, nothing-put, place-put}
 use Rattle.coset_core.specs.Headers.{header, protected}
-use Rattle.coset_recipient.specs.Recipient.{Recipients, no_recipients, recipient_and, RecipientView, are_none, recipients_of, inside_place, recipient_array}
+use Rattle.coset_recipient.specs.Recipient.{Recipients, no_recipients, recipient_and, RecipientView, are_none, recipients_of, recipients_element, recipient_array}
 use Rattle.coset_recipient.specs.Recipient.{recipient_image, recipients_image}
 use Rattle.coset_recipient.specs.RecipientWriting.{Begins, last_elements}
 
@@ -20,7 +20,7 @@ images_of (r ∷ rs) = ap (both item (recipient_image r)) (images_of rs)
 
 pub without_last : (r : RecipientView) (old mid : List ℕ) → r.recipients ≡ no_recipients → Begins r old mid (Ok tt) → AppendsImage (recipient_image r) old mid
 without_last r old mid e b =
-    subst (λ rs. AppendsImage (recipient_array r.protected r.unprotected r.ciphertext (inside_place rs (recipients_image rs))) old mid) (sym e)
+    subst (λ rs. AppendsImage (recipient_array r.protected r.unprotected r.ciphertext (recipients_element rs (recipients_image rs))) old mid) (sym e)
     (b (Some no_items) mid (subst (λ rs. AppendsElements (Some no_items) (last_elements rs) mid mid) (sym e) (nothing-put mid)))
 
 -- ---- four elements
@@ -41,7 +41,7 @@ with_last r old mid new (x ∷ xs) e some b p =
     let all : Recipients = recipients_of (x ∷ xs) in
     let last : AppendsElements (last_image true (option_map array (recipients_image all))) 1 mid new =
     one_place (option_map array (recipients_image all)) mid new (subst (λ o. AppendsImage (option_map array o) mid new) (images_of (x ∷ xs)) p) in
-    subst (λ rs. AppendsImage (recipient_array r.protected r.unprotected r.ciphertext (inside_place rs (recipients_image rs))) old new) (sym e)
+    subst (λ rs. AppendsImage (recipient_array r.protected r.unprotected r.ciphertext (recipients_element rs (recipients_image rs))) old new) (sym e)
     (b (last_image true (option_map array (recipients_image all))) new
     (subst (λ rs. AppendsElements (last_image true (option_map array (recipients_image all))) (last_elements rs) mid new) (sym e) last))
 
@@ -60,7 +60,7 @@ unplaced a b c o e =
     ∙ (ap (λ p. option_map array (both item a (both item b p))) (no_last item c)
     ∙ (ap (λ p. option_map array (both item a p)) (no_last item b) ∙ ap (option_map array) (no_last item a)))
 
-hidden : (rs : Recipients) → (rs ≡ no_recipients → ⊥) → recipients_image rs ≡ None → inside_place rs (recipients_image rs) ≡ None
+hidden : (rs : Recipients) → (rs ≡ no_recipients → ⊥) → recipients_image rs ≡ None → recipients_element rs (recipients_image rs) ≡ None
 hidden no_recipients some e = absurd (some refl)
 hidden (recipient_and p u c inside more) some e = ap (λ o. last_image true (option_map array o)) e
 
@@ -77,9 +77,9 @@ last_written r old mid new rs (Err f) e some b p =
     λ m.
     let none = p m in
     let missing : recipients_image (recipients_of rs) ≡ None = sym (images_of rs) ∙ no_array (images recipient_image rs) none.1 in
-    let inside : inside_place r.recipients (recipients_image r.recipients) ≡ None = ap (λ all. inside_place all (recipients_image all)) e
+    let inside : recipients_element r.recipients (recipients_image r.recipients) ≡ None = ap (λ all. recipients_element all (recipients_image all)) e
     ∙ hidden (recipients_of rs) (some_recipients rs some) missing in
-    (none.0, unplaced _ _ _ (inside_place r.recipients (recipients_image r.recipients)) inside)
+    (none.0, unplaced _ _ _ (recipients_element r.recipients (recipients_image r.recipients)) inside)
 
 -- ---- the first three elements
 

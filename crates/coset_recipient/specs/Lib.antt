@@ -8,4 +8,4 @@ pub mod Mac
 pub mod Encrypt
 pub mod Equality
 pub mod Structures
-pub mod Structured
+pub mod AnyStructure

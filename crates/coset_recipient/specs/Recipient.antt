@@ -69,9 +69,9 @@ recipient_step s = recipient_with (list_of s)
 -- ---- images of recipients
 
 -- The optional last element, if there are nested recipients: an array of these items.
-abbrev pub inside_place : Recipients → Option Items → Option Items
-inside_place no_recipients o = Some no_items
-inside_place (recipient_and p u c inside more) o = last_image true (option_map array o)
+abbrev pub recipients_element : Recipients → Option Items → Option Items
+recipients_element no_recipients o = Some no_items
+recipients_element (recipient_and p u c inside more) o = last_image true (option_map array o)
 
 abbrev pub recipient_array : ProtectedView → HeaderView → Option (List ℕ) → Option Items → Option Item
 recipient_array p u c o = option_map array (both item (protected.image p) (both item (header.image u) (both item ((or_nil bstr).image c) o)))
@@ -79,10 +79,10 @@ recipient_array p u c o = option_map array (both item (protected.image p) (both 
 abbrev pub recipients_image : Recipients → Option Items
 recipients_image no_recipients = Some no_items
 recipients_image (recipient_and p u c inside more) =
-    both item (recipient_array p u c (inside_place inside (recipients_image inside))) (recipients_image more)
+    both item (recipient_array p u c (recipients_element inside (recipients_image inside))) (recipients_image more)
 
 abbrev pub recipient_image : RecipientView → Option Item
-recipient_image r = recipient_array r.protected r.unprotected r.ciphertext (inside_place r.recipients (recipients_image r.recipients))
+recipient_image r = recipient_array r.protected r.unprotected r.ciphertext (recipients_element r.recipients (recipients_image r.recipients))
 
 -- ---- the shape
 
@@ -116,5 +116,5 @@ then_recipient no_recipients r = and_recipients r no_recipients
 then_recipient (recipient_and p u c inside more) r = recipient_and p u c inside (then_recipient more r)
 
 -- The recipient with one more nested recipient after the others.
-abbrev pub and_recipient : RecipientView → RecipientView → RecipientView
-and_recipient r all = record all { recipients = then_recipient all.recipients r }
+abbrev pub push_recipient : RecipientView → RecipientView → RecipientView
+push_recipient r all = record all { recipients = then_recipient all.recipients r }

@@ -1,7 +1,7 @@
 -- The laws of the shape of recipients.
 use Rattle.std.proofs.Common.{◌≡◌, ℕ, List, [], ◌∷◌, false, Option, option_map, refl, sym, ap, ◌∙◌, true≢false}
 use Rattle.coset_value.specs.Item.{array, Items, item}
-use Rattle.coset_codec.specs.RecursiveLaws.{Passes, Below, Step, mapped_passes, array_passes, then_passes, optional_last_passes, list_below, recursive_laws}
+use Rattle.coset_codec.specs.RecursiveLaws.{IsCoveredBy, Below, Step, mapped_passes, array_passes, then_passes, optional_last_passes, list_below, recursive_laws}
 use Rattle.coset_codec.specs.RecursiveLaws.{recursive_step, step_recursive}
 use Rattle.coset_codec.specs.Shape.{Shape, both, bstr, or_nil, optional_last, last_image, list_of, images}
 use Rattle.coset_codec.specs.ShapeLaws.{Lawful, LawfulElements, mapped_laws, then_laws, bstr_laws, bytes_no_nil, or_nil_laws, optional_last_laws, list_of_laws}
@@ -9,7 +9,7 @@ use Rattle.coset_core.specs.Headers.{header, protected}
 use Rattle.coset_core.specs.Messages.{with_headers_laws}
 use Rattle.coset_recipient.specs.Recipient.{Recipients, no_recipients, recipient_and, RecipientView, recipients_of, each_of, are_some, recipient_of}
 use Rattle.coset_recipient.specs.Recipient.{recipient_fields, recipient_elements, recipient_with, recipient_step}
-use Rattle.coset_recipient.specs.Recipient.{inside_place, recipients_image, recipient_image}
+use Rattle.coset_recipient.specs.Recipient.{recipients_element, recipients_image, recipient_image}
 use Rattle.coset_recipient.specs.Recipient.{recipient_array, recipient}
 
 -- ---- recipients and lists
@@ -40,8 +40,8 @@ step_laws : (s : Shape RecipientView) → Lawful RecipientView s → Lawful Reci
 step_laws s l = mapped_laws recipient_of recipient_fields recipient-back _
     (with_headers_laws (recipient_elements (list_of s)) (recipient_elements_laws (list_of s) (list_of_laws s l)))
 
-step_passes : {I : Type 0} (some : I) (s : Shape (List RecipientView)) (t : I → Shape (List RecipientView)) → Passes I (List RecipientView) s t
-    → Passes I RecipientView (recipient_with s) (λ i. recipient_with (t i))
+step_passes : {I : Type 0} (some : I) (s : Shape (List RecipientView)) (t : I → Shape (List RecipientView)) → IsCoveredBy I (List RecipientView) s t
+    → IsCoveredBy I RecipientView (recipient_with s) (λ i. recipient_with (t i))
 step_passes some s t p =
     mapped_passes recipient_of recipient_fields _ _
     (array_passes some _ _ (then_passes some protected _ _
@@ -55,7 +55,7 @@ images_are s same no_recipients = refl
 images_are s same (recipient_and p u c inside more) = λ i. both item (same (record { protected = p; unprotected = u; ciphertext = c; recipients = inside }) i)
     (images_are s same more i)
 
-place_is : (rs : Recipients) (o : Option Items) → last_image (are_some (each_of rs)) (option_map array o) ≡ inside_place rs o
+place_is : (rs : Recipients) (o : Option Items) → last_image (are_some (each_of rs)) (option_map array o) ≡ recipients_element rs o
 place_is no_recipients o = refl
 place_is (recipient_and p u c inside more) o = refl
 

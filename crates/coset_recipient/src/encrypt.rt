@@ -2,11 +2,11 @@
 
 ghost use Rattle.std.specs.Prelude.{◌≡◌, ◌≢◌, IfOk, IfErr, IfSome, Some, None};
 ghost use Rattle.coset_codec.specs.declared.error.CoseError.TheVariants.{OutOfMemory};
-ghost use Rattle.coset_codec.specs.Answers.{Writes};
+ghost use Rattle.coset_codec.specs.Results.{Writes};
 ghost use Rattle.coset_core.specs.Messages.{unread};
 ghost use Rattle.coset_core.specs.Views.{header_view};
-ghost use Rattle.coset_core.specs.Calls.{AsksAbout, Itself};
-ghost use Rattle.coset_msg.specs.Presence.{AsksWherePresent, CreatesOf, TriesToCreateOf};
+ghost use Rattle.coset_core.specs.Calls.{CallsWith, Itself};
+ghost use Rattle.coset_msg.specs.Presence.{CallsIfPresent, CreatesOf, TriesToCreateOf};
 ghost use Rattle.coset_recipient.specs.Encrypt.{and_encrypt_recipient, empty_encrypt, encrypt, encrypt_view, encrypt_structure_of, with_ciphertext};
 ghost use Rattle.coset_recipient.specs.RecipientViews.{recipient_view};
 
@@ -15,8 +15,8 @@ use coset_codec::read::{Decoder, drop_refused};
 use coset_codec::util::copy_bstr;
 use coset_codec::write::{Array, Encode, encode_four};
 use coset_codec::{CallError, Codec, Result, TaggedCodec};
-use coset_core::calls::verify_with;
-use coset_core::{BstrOrNil, Header, ProtectedHeader, ProtectedRef, read_headed};
+use coset_core::calls::call_with;
+use coset_core::{BstrOrNil, Header, ProtectedHeader, ProtectedRef, read_with_headers};
 use coset_msg::EncryptionContext;
 use coset_msg::enc_structure::enc_structure_of;
 use std::alloc::{AllocError, Global};
@@ -43,7 +43,7 @@ pub struct CoseEncrypt {
 }
 
 /// The expected item, as the error for a wrong number of elements names it.
-const PLACES: &str = "array with 4 items";
+const EXPECTED_ARRAY: &str = "array with 4 items";
 
 impl CoseEncrypt {
     /// Returns an empty message: empty headers, no ciphertext, no recipients. Allocates nothing.
@@ -81,7 +81,7 @@ impl CoseEncrypt {
     }
 
     /// Returns the ciphertext, which the message must carry.
-    fn carried(&self) -> &[u8]
+    fn attached(&self) -> &[u8]
         requires { self.now.ciphertext ≢ None }
         ensures { (encrypt_view self.now).ciphertext ≡ Some result.now }
     {
@@ -110,12 +110,12 @@ impl CoseEncrypt {
         F: FnOnce(&[u8], &[u8]) -> Result<Vec<u8>, E> + Drop,
         E: Drop,
         requires callable { F.IsAlwaysCallable cipher }
-        requires carried { self.now.ciphertext ≢ None }
-        ensures { IfSome (encrypt_view self.now).ciphertext (λ c. AsksAbout F.FnOnce cipher c
+        requires attached { self.now.ciphertext ≢ None }
+        ensures { IfSome (encrypt_view self.now).ciphertext (λ c. CallsWith F.FnOnce cipher c
             (encrypt_structure_of (encrypt_view self.now) external_aad.now) result) }
     {
         let structure = self.aad(alloc, external_aad);
-        verify_with(self.carried(), structure, cipher)
+        call_with(self.attached(), structure, cipher)
     }
 
     /// Does the same as [`CoseEncrypt::decrypt`], also for a message without a ciphertext. If the
@@ -137,7 +137,7 @@ impl CoseEncrypt {
         M: FnOnce() -> E + Drop,
         requires callable { F.IsAlwaysCallable cipher }
         requires missing_callable { M.IsAlwaysCallable missing }
-        ensures { AsksWherePresent F.FnOnce cipher M.FnOnce missing
+        ensures { CallsIfPresent F.FnOnce cipher M.FnOnce missing
             (encrypt_view self.now).ciphertext (λ c. c)
             (λ _. encrypt_structure_of (encrypt_view self.now) external_aad.now) result }
     {
@@ -145,7 +145,7 @@ impl CoseEncrypt {
             return Err(CallError::Caller(missing()));
         };
         let structure = self.aad(alloc, external_aad);
-        verify_with(ciphertext, structure, cipher)
+        call_with(ciphertext, structure, cipher)
     }
 
     /// Does the same as [`CoseEncrypt::decrypt`] for a detached ciphertext (RFC 9052, section 5.1).
@@ -164,11 +164,11 @@ impl CoseEncrypt {
         F: FnOnce(&[u8], &[u8]) -> Result<Vec<u8>, E> + Drop,
         E: Drop,
         requires { F.IsAlwaysCallable cipher }
-        ensures { AsksAbout F.FnOnce cipher ciphertext.now
+        ensures { CallsWith F.FnOnce cipher ciphertext.now
             (encrypt_structure_of (encrypt_view self.now) external_aad.now) result }
     {
         let structure = self.aad(alloc, external_aad);
-        verify_with(ciphertext, structure, cipher)
+        call_with(ciphertext, structure, cipher)
     }
 
     /// Returns a message equal to this one, kept bytes included.
@@ -220,12 +220,12 @@ impl Codec for CoseEncrypt {
 
     fn read(alloc: Global, input: &mut Decoder<'_>) -> Result<CoseEncrypt> {
         let mut message = CoseEncrypt::new(alloc);
-        match read_headed(
+        match read_with_headers(
             &mut message.protected,
             &mut message.unprotected,
             alloc,
             input,
-            PLACES,
+            EXPECTED_ARRAY,
         ) {
             Ok((BstrOrNil(ciphertext), (Recipients(recipients), ()))) => {
                 message.ciphertext = ciphertext;
@@ -402,7 +402,7 @@ impl CoseEncryptBuilder {
             ≡ with_ciphertext c.items (encrypt_view self)) result }
     {
         let structure = self.0.aad(alloc, external_aad);
-        let ciphertext = verify_with(plaintext, structure, cipher)?;
+        let ciphertext = call_with(plaintext, structure, cipher)?;
         Ok(self.ciphertext(ciphertext))
     }
 
@@ -448,10 +448,10 @@ impl CoseEncryptBuilder {
         F: FnOnce(&[u8], &[u8]) -> Result<Vec<u8>, E> + Drop,
         E: Drop,
         requires { F.IsAlwaysCallable cipher }
-        ensures { AsksAbout F.FnOnce cipher plaintext.now
+        ensures { CallsWith F.FnOnce cipher plaintext.now
             (encrypt_structure_of (encrypt_view self.now) external_aad.now) result }
     {
         let structure = self.0.aad(alloc, external_aad);
-        verify_with(plaintext, structure, cipher)
+        call_with(plaintext, structure, cipher)
     }
 }

@@ -19,7 +19,7 @@ ghost use Rattle.coset_recipient.specs.Recipient.{RecipientView, recipient, reci
 ghost use Rattle.coset_sign.specs.Countersigned.{EachCountersignsSame};
 ghost use Rattle.coset_sign.specs.Sign.{sign};
 ghost use Rattle.coset_sign.specs.Sign1.{sign1};
-ghost use Rattle.coset_recipient.specs.Structured.{Structured, structure_of};
+ghost use Rattle.coset_recipient.specs.AnyStructure.{AnyStructure, structure_of};
 ghost use Rattle.coset_recipient.specs.Structures.{EncryptsAll, EncryptsAllSame, Macs, MacsSame, RecipientEncrypts, RecipientEncryptsSame};
 
 use coset_cbor::laws::{one_item, shortest_is_encoding};
@@ -117,7 +117,7 @@ pub fn structures_when_read()
 /// parts are one protected header, one signer or none, one `external_aad`, one payload, and the
 /// other fields. Not every kind has all of these parts.
 pub fn one_of_all_structures()
-    ensures { (b : List ℕ) (x y : Structured) → IsShortest b (structure_of x)
+    ensures { (b : List ℕ) (x y : AnyStructure) → IsShortest b (structure_of x)
         → IsShortest b (structure_of y) → x ≡ y }
 {
     one_item();

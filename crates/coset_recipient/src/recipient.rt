@@ -7,18 +7,18 @@ ghost use Rattle.std.specs.Cmp.{on_equiv, on_per, partial_equiv_from_equiv};
 ghost use Rattle.coset_value.specs.Item.{Item, array, Items};
 ghost use Rattle.coset_cbor.specs.Least.{Extends};
 ghost use Rattle.coset_codec.specs.declared.error.CoseError.TheVariants.{OutOfMemory};
-ghost use Rattle.coset_codec.specs.Answers.{Reads, Writes};
+ghost use Rattle.coset_codec.specs.Results.{Reads, Writes};
 ghost use Rattle.coset_codec.specs.Encoding.{AppendsElements, Encodes, HasNoImage};
 ghost use Rattle.coset_codec.specs.Errors.{stored};
 ghost use Rattle.coset_codec.specs.InPlace.{Fills, FillsEach};
-ghost use Rattle.coset_codec.specs.Inputs.{State, state, length_left, items_size, ItemAt, GoesBehind, AreWithin};
+ghost use Rattle.coset_codec.specs.Inputs.{State, state, length_left, items_size, ItemAt, MovesForward, AreWithin};
 ghost use Rattle.coset_codec.specs.Shape.{images, list_of};
 ghost use Rattle.coset_core.specs.Headers.{empty_header};
 ghost use Rattle.coset_core.specs.Messages.{unread};
 ghost use Rattle.coset_core.specs.Views.{header_view, protected_view};
-ghost use Rattle.coset_core.specs.Calls.{AsksAbout};
-ghost use Rattle.coset_msg.specs.Presence.{AsksWherePresent, CreatesOf, TriesToCreateOf};
-ghost use Rattle.coset_recipient.specs.Recipient.{IsOfRecipient, and_recipient, are_none, empty_recipient, recipient as recipient_shape, recipient_image, recipient_structure, recipients_of, with_ciphertext};
+ghost use Rattle.coset_core.specs.Calls.{CallsWith};
+ghost use Rattle.coset_msg.specs.Presence.{CallsIfPresent, CreatesOf, TriesToCreateOf};
+ghost use Rattle.coset_recipient.specs.Recipient.{IsOfRecipient, push_recipient, are_none, empty_recipient, recipient as recipient_shape, recipient_image, recipient_structure, recipients_of, with_ciphertext};
 ghost use Rattle.coset_recipient.specs.RecipientReading.{BeginsThree, FillsLast};
 ghost use Rattle.coset_recipient.specs.RecipientWriting.{Begins, last_elements};
 ghost use Rattle.coset_recipient.specs.RecipientSame.{recipient_eq, recipient_eq_equiv, recipients_eq};
@@ -32,7 +32,7 @@ use coset_codec::read::{
 };
 use coset_codec::write::Encode;
 use coset_codec::{CallError, Codec, CoseError, Result};
-use coset_core::calls::verify_with;
+use coset_core::calls::call_with;
 use coset_core::{
     Header, ProtectedHeader, ProtectedRef, copy_header, copy_protected, fill_protected_header,
     fill_unprotected_header,
@@ -62,7 +62,7 @@ pub struct CoseRecipient {
 }
 
 /// The expected item, as the error for a wrong number of elements names it.
-const PLACES: &str = "array with 3 or 4 items";
+const EXPECTED_ARRAY: &str = "array with 3 or 4 items";
 
 /// Decodes the first three elements of a recipient's array into empty fields.
 ///
@@ -90,15 +90,15 @@ fn begin_elements(
         (option_map (λ b. b.items) ciphertext.new) (state input.new) z elements.new result }
 {
     if !elements.next(input) {
-        return Err(wrong_length(PLACES));
+        return Err(wrong_length(EXPECTED_ARRAY));
     }
     let first = fill_protected_header(protected, alloc, input);
     if !elements.next(input) {
-        return Err(wrong_length(PLACES));
+        return Err(wrong_length(EXPECTED_ARRAY));
     }
     let second = fill_unprotected_header(unprotected, alloc, input);
     if !elements.next(input) {
-        return Err(wrong_length(PLACES));
+        return Err(wrong_length(EXPECTED_ARRAY));
     }
     match input.bytes_or_nil(alloc, "bstr / null") {
         Ok(found) => *ciphertext = found,
@@ -122,7 +122,7 @@ impl InPlace for CoseRecipient {
 ///
 /// # Errors
 /// - `UnexpectedItem` if the item is no array.
-/// - The errors of [`fill_listed`].
+/// - The errors of [`fill_recipient_list`].
 #[cycle(read)]
 pub(crate) fn fill_recipients(
     all: &mut Vec<CoseRecipient>,
@@ -138,7 +138,7 @@ pub(crate) fn fill_recipients(
         (stored error.new result) }
 {
     let mut elements = store_error(input.enter_array("array"), error)?;
-    let filled = fill_listed(all, alloc, &mut elements, input, error);
+    let filled = fill_recipient_list(all, alloc, &mut elements, input, error);
     elements.finish(input);
     filled
 }
@@ -149,7 +149,7 @@ pub(crate) fn fill_recipients(
 /// - `OutOfMemory` if an allocation fails.
 /// - The fault of the first recipient that has one.
 #[cycle(read)]
-fn fill_listed(
+fn fill_recipient_list(
     all: &mut Vec<CoseRecipient>,
     alloc: Global,
     elements: &mut ArrayElements,
@@ -184,7 +184,7 @@ fn fill_recipient(
 ) -> Result<(), ErrorStored>
     requires empty { recipient_view recipient.old ≡ empty_recipient }
     ensures shrinks { length_left (state input.new) ≤ length_left (state input.old) }
-    ensures strictly { OnOk result (GoesBehind (state input.old) (state input.new)) }
+    ensures strictly { OnOk result (MovesForward (state input.old) (state input.new)) }
     ensures fills { (v : Item) (z : State) → ItemAt v (state input.old) z
         → (state input.new ≡ z)
         × Fills recipient_shape v (recipient_view recipient.new) (stored error.new result) }
@@ -227,7 +227,7 @@ fn fill_elements(
         ),
         error,
     )?;
-    fill_fourth(&mut recipient.recipients, alloc, elements, input, error)?;
+    fill_fourth_element(&mut recipient.recipients, alloc, elements, input, error)?;
     store_error(first, error)
 }
 
@@ -237,7 +237,7 @@ fn fill_elements(
 /// - `UnexpectedItem` if a fifth element follows.
 /// - The errors of [`fill_recipients`].
 #[cycle(read)]
-fn fill_fourth(
+fn fill_fourth_element(
     all: &mut Vec<CoseRecipient>,
     alloc: Global,
     elements: &mut ArrayElements,
@@ -256,7 +256,7 @@ fn fill_fourth(
     let filled = fill_recipients(all, alloc, input, error);
     if elements.next(input) {
         input.skip();
-        *error = wrong_length(PLACES);
+        *error = wrong_length(EXPECTED_ARRAY);
         return Err(ErrorStored);
     }
     filled
@@ -466,7 +466,7 @@ impl CoseRecipient {
     }
 
     /// Returns the ciphertext, which the recipient must carry.
-    fn carried(&self) -> &[u8]
+    fn attached(&self) -> &[u8]
         requires { (recipient_view self.now).ciphertext ≢ None }
         ensures { (recipient_view self.now).ciphertext ≡ Some result.now }
     {
@@ -499,13 +499,13 @@ impl CoseRecipient {
         E: Drop,
         requires callable { F.IsAlwaysCallable cipher }
         requires context { IsOfRecipient context }
-        requires carried { (recipient_view self.now).ciphertext ≢ None }
-        ensures { IfSome (recipient_view self.now).ciphertext (λ c. AsksAbout F.FnOnce cipher c
+        requires attached { (recipient_view self.now).ciphertext ≢ None }
+        ensures { IfSome (recipient_view self.now).ciphertext (λ c. CallsWith F.FnOnce cipher c
             (recipient_structure context (recipient_view self.now) external_aad.now) result) }
     {
         prove!(is_of_recipient(context));
         let structure = self.aad(alloc, context, external_aad);
-        verify_with(self.carried(), structure, cipher)
+        call_with(self.attached(), structure, cipher)
     }
 
     /// Does the same as [`CoseRecipient::decrypt`], also for a recipient without a ciphertext. If
@@ -529,7 +529,7 @@ impl CoseRecipient {
         requires callable { F.IsAlwaysCallable cipher }
         requires missing_callable { M.IsAlwaysCallable missing }
         requires context { (recipient_view self.now).ciphertext ≢ None → IsOfRecipient context }
-        ensures { AsksWherePresent F.FnOnce cipher M.FnOnce missing
+        ensures { CallsIfPresent F.FnOnce cipher M.FnOnce missing
             (recipient_view self.now).ciphertext (λ c. c) (λ _. recipient_structure context
             (recipient_view self.now) external_aad.now) result }
     {
@@ -538,7 +538,7 @@ impl CoseRecipient {
         };
         prove!(is_of_recipient(context));
         let structure = self.aad(alloc, context, external_aad);
-        verify_with(ciphertext, structure, cipher)
+        call_with(ciphertext, structure, cipher)
     }
 
     /// Returns a recipient equal to this one, kept bytes included.
@@ -703,7 +703,7 @@ impl CoseRecipientBuilder {
     /// `OutOfMemory` if an allocation fails.
     pub fn add_recipient(mut self, recipient: CoseRecipient) -> Result<CoseRecipientBuilder>
         ensures ok { IfOk result (λ b. recipient_view b
-            ≡ and_recipient (recipient_view recipient) (recipient_view self)) }
+            ≡ push_recipient (recipient_view recipient) (recipient_view self)) }
         ensures memory { IfErr result (λ e. e ≡ OutOfMemory) }
     {
         self.0.recipients.push(recipient)?;
@@ -767,7 +767,7 @@ impl CoseRecipientBuilder {
     {
         prove!(is_of_recipient(context));
         let structure = self.0.aad(alloc, context, external_aad);
-        let ciphertext = verify_with(plaintext, structure, cipher)?;
+        let ciphertext = call_with(plaintext, structure, cipher)?;
         Ok(self.ciphertext(ciphertext))
     }
 }

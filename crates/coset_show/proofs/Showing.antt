@@ -6,12 +6,12 @@ use Rattle.coset.specs.CoseError.{CoseError}
 use Rattle.coset.specs.CoseError.TheVariants.{OutOfMemory}
 use Rattle.coset.specs.Errors.{UnlessMemory}
 use Rattle.coset.specs.Shape.{Shape, FirstDescribes}
-use Rattle.coset.specs.Answers.{Describes, SliceFaults, DescribesNothing}
+use Rattle.coset.specs.Results.{Describes, SliceFaults, DescribesNothing}
 use Rattle.coset.specs.Headers.{ProtectedView, is_empty_header, header_image, layered_protected, protected, protected_bytes}
 use Rattle.coset.specs.Serialized.{content_bytes}
 use Rattle.coset.specs.SignatureStructure.{signature_structure}
 use Rattle.coset.specs.SignatureContext.TheVariants.{CoseSign1}
-use Rattle.coset.specs.Sign1.{Sign1View, sign1, sign1_carried, sign1_fields}
+use Rattle.coset.specs.Sign1.{Sign1View, sign1, sign1_attached, sign1_fields}
 use Rattle.coset.specs.Signed.{or_empty}
 use Rattle.coset_show.specs.declared.refusal.Refusal.{Refusal}
 use Rattle.coset_show.specs.declared.refusal.Refusal.TheVariants.{Cose}
@@ -51,7 +51,7 @@ unfolding layered_protected
 read_keeps v p d = (d.0, ap (λ o. content_bytes is_empty_header header_image o p.header) d.2)
 
 -- Therefore a message that was read has a structure to be signed.
-pub read_is_signed : (v : Item) (m : Sign1View) → sign1.describes v m → (i : Item) × (sign1_carried m [] ≡ Some i)
+pub read_is_signed : (v : Item) (m : Sign1View) → sign1.describes v m → (i : Item) × (sign1_attached m [] ≡ Some i)
 read_is_signed v m d =
     let header = first_of protected.describes _ d.0 (sign1_fields m) d.2 in
     let bytes = read_keeps header.0 m.protected header.1 in

@@ -17,22 +17,22 @@ abbrev pub without_space : List ℕ → List ℕ
 without_space input = filter (λ c. not (is_space c)) input
 
 -- The input is b in hexadecimal, apart from white space.
-abbrev pub Spells : List ℕ → List ℕ → Type 0
-Spells input b = decode_of (without_space input) ≡ Ok b
+abbrev pub IsHexadecimalOf : List ℕ → List ℕ → Type 0
+IsHexadecimalOf input b = decode_of (without_space input) ≡ Ok b
 
 -- The input isn't hexadecimal, or an allocation failed.
 abbrev pub RefusesHexadecimal : List ℕ → Refusal → Type 0
-RefusesHexadecimal input NotHexadecimal = (b : List ℕ) → Spells input b → ⊥
+RefusesHexadecimal input NotHexadecimal = (b : List ℕ) → IsHexadecimalOf input b → ⊥
 RefusesHexadecimal input (Cose error) = error ≡ OutOfMemory
 RefusesHexadecimal input Unreadable = ⊥
 
 -- The refusal is true of the input.
 abbrev pub RefusesInput : Kind → List ℕ → Refusal → Type 0
-RefusesInput kind input refusal = RefusesHexadecimal input refusal ⊎ ((b : List ℕ) × Spells input b × RefusesBytes kind b refusal)
+RefusesInput kind input refusal = RefusesHexadecimal input refusal ⊎ ((b : List ℕ) × IsHexadecimalOf input b × RefusesBytes kind b refusal)
 
 -- The lines show the bytes that the input spells.
 abbrev pub ShowsInput : Kind → List ℕ → List ℕ → Type 0
-ShowsInput kind input lines = (b : List ℕ) × Spells input b × ShowsBytes kind b lines
+ShowsInput kind input lines = (b : List ℕ) × IsHexadecimalOf input b × ShowsBytes kind b lines
 
 -- The line for a refusal.
 abbrev pub refusal_line : Refusal → List ℕ

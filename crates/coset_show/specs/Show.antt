@@ -5,11 +5,11 @@ use Rattle.coset.specs.Item.{Item}
 use Rattle.coset.specs.Shortest.{IsShortest}
 use Rattle.coset.specs.CoseError.{CoseError}
 use Rattle.coset.specs.CoseError.TheVariants.{OutOfMemory}
-use Rattle.coset.specs.Answers.{Describes, SliceFaults, DescribesNothing}
+use Rattle.coset.specs.Results.{Describes, SliceFaults, DescribesNothing}
 use Rattle.coset.specs.Errors.{UnlessMemory}
 use Rattle.coset.specs.Shape.{Shape, tagged}
 use Rattle.coset.specs.Headers.{SignatureView, signature}
-use Rattle.coset.specs.Sign1.{Sign1View, sign1, sign1_carried}
+use Rattle.coset.specs.Sign1.{Sign1View, sign1, sign1_attached}
 use Rattle.coset.specs.Sign.{SignView, sign}
 use Rattle.coset.specs.Mac.{MacView, mac}
 use Rattle.coset.specs.Mac0.{Mac0View, mac0}
@@ -87,7 +87,7 @@ pub record ShowsSign1 (b lines : List ℕ) : Type 0 where
   pub first : List ℕ
   pub second : List ℕ
   pub is_message : IsLineOf ((sign1_in b).image message) first
-  pub is_signed : IsLineOf (sign1_carried message []) second
+  pub is_signed : IsLineOf (sign1_attached message []) second
   pub are_lines : lines ≡ first ++ codes "tbs " ++ second
 
 -- ---- values that were read, written

@@ -3,8 +3,8 @@ use Rattle.std.specs.Prelude.{◌≡◌, Bool, true, false}
 use Rattle.coset_show.specs.declared.stream.Stream.{Stream}
 
 -- The reader or the writer itself.
-abbrev pub inside : {T : Type 0} → Stream T → T
-inside s = s.inner
+abbrev pub inner_of : {T : Type 0} → Stream T → T
+inner_of s = s.inner
 
 -- True if a call of the reader or the writer failed.
 abbrev pub has_failed : {T : Type 0} → Stream T → Bool

@@ -2,7 +2,7 @@
 
 ghost use Rattle.std.specs.Prelude.{false};
 
-use crate::ends::{Reader, Writer};
+use crate::io_traits::{Reader, Writer};
 use crate::run::run;
 use crate::stream::Stream;
 use crate::tests::{Row, rows};
@@ -68,7 +68,7 @@ impl Read for FailRead<'_> {
 }
 
 impl Reader for FailRead<'_> {
-    ghost is_sure = { false };
+    ghost never_fails = { false };
 
     fn read_once(&mut self, buffer: &mut [u8]) -> io::Result<usize> {
         self.read(buffer)
@@ -109,7 +109,7 @@ impl Write for FailWrite {
 }
 
 impl Writer for FailWrite {
-    ghost is_sure = { false };
+    ghost never_fails = { false };
 
     fn put(&mut self, bytes: &[u8]) -> io::Result<()> {
         self.write_all(bytes)?;

@@ -5,9 +5,9 @@ ghost use Rattle.std.specs.Prelude.{MatchOption};
 ghost use Rattle.std.specs.Vec.Iter.{into_iter_items};
 ghost use Rattle.coset_show.specs.Arguments.{AreNameAnd, AreNoNameAndOne};
 
-mod ends;
 #[cfg(test)]
 mod failing_tests;
+mod io_traits;
 mod kind;
 mod refusal;
 #[cfg(test)]

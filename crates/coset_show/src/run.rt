@@ -5,12 +5,12 @@ ghost use Rattle.std.specs.String.{string_bytes};
 ghost use Rattle.std.specs.Io.KnownBytes.{Appends};
 ghost use Rattle.coset_show.specs.declared.kind.Kind.{Kind};
 ghost use Rattle.coset_show.specs.Kind.{kind_name};
-ghost use Rattle.coset_show.specs.Stream.{inside, has_failed, IsSound, Fails};
-ghost use Rattle.coset_show.specs.Answer.{without_space, Spells, ShowsInput, RefusesHexadecimal, RefusesInput, refusal_line, usage_line, AnswersInput};
+ghost use Rattle.coset_show.specs.Stream.{inner_of, has_failed, IsSound, Fails};
+ghost use Rattle.coset_show.specs.Answer.{without_space, IsHexadecimalOf, ShowsInput, RefusesHexadecimal, RefusesInput, refusal_line, usage_line, AnswersInput};
 ghost use Rattle.coset_show.specs.Refusal.{no_memory};
 ghost use Rattle.coset_show.specs.Answer.{is_space as is_space_spec};
 
-use crate::ends::{Reader, Writer};
+use crate::io_traits::{Reader, Writer};
 use crate::kind::Kind;
 use crate::refusal::Refusal;
 use crate::stream::Stream;
@@ -44,23 +44,23 @@ pub fn run<R: Reader, W: Writer>(
     // For an unknown kind, the usage line is written, the status is 2, and nothing is read.
     ensures unknown { ((k : Kind) → kind.now ≡ kind_name k → ⊥) → (reader.new ≡ reader.old)
         × (IsSound writer.new
-        → Appends (W.contents (inside writer.old)) (W.contents (inside writer.new)) usage_line
+        → Appends (W.contents (inner_of writer.old)) (W.contents (inner_of writer.new)) usage_line
         × (result ≡ 2)) }
     // If no call fails and the bytes are known, the output and the status are right for the input.
     ensures known { (k : Kind) → kind.now ≡ kind_name k → IsSound reader.new → IsSound writer.new
-        → IfSome (R.remaining (inside reader.old)) (λ input. (lines : List ℕ)
-        × Appends (W.contents (inside writer.old)) (W.contents (inside writer.new)) lines
+        → IfSome (R.remaining (inner_of reader.old)) (λ input. (lines : List ℕ)
+        × Appends (W.contents (inner_of writer.old)) (W.contents (inner_of writer.new)) lines
         × AnswersInput k input lines result) }
     // If a read fails, the line says so or says `out of memory`, and the status is 1.
     ensures unreadable { (k : Kind) → kind.now ≡ kind_name k → Fails reader.old reader.new
         → IsSound writer.new → (lines : List ℕ)
-        × Appends (W.contents (inside writer.old)) (W.contents (inside writer.new)) lines
+        × Appends (W.contents (inner_of writer.old)) (W.contents (inner_of writer.new)) lines
         × ((lines ≡ refusal_line Refusal.Unreadable) ⊎ (lines ≡ refusal_line no_memory))
         × (result ≡ 1) }
     // If a write fails, the status is 1.
     ensures unwritten { Fails writer.old writer.new → result ≡ 1 }
     // A reader that is known not to fail isn't recorded as failed.
-    ensures sure { IsTrue R.is_sure → has_failed reader.new ≡ has_failed reader.old }
+    ensures sure { IsTrue R.never_fails → has_failed reader.new ≡ has_failed reader.old }
 {
     let Some(kind) = Kind::of(kind) else {
         return write_lines(writer, "usage: coset_show KIND\n", MISUSED);
@@ -79,11 +79,11 @@ pub fn run<R: Reader, W: Writer>(
 /// # Errors
 /// The reason why the input isn't shown.
 fn answer<R: Reader>(alloc: Global, kind: Kind, reader: &mut Stream<R>) -> Result<String, Refusal>
-    ensures known { IsSound reader.new → IfSome (R.remaining (inside reader.old)) (λ input.
+    ensures known { IsSound reader.new → IfSome (R.remaining (inner_of reader.old)) (λ input.
         MatchResult result (λ lines. ShowsInput kind input (string_bytes lines))
         (λ refusal. RefusesInput kind input refusal)) }
     ensures unreadable { Fails reader.old reader.new → result ≡ Err Refusal.Unreadable }
-    ensures sure { IsTrue R.is_sure → has_failed reader.new ≡ has_failed reader.old }
+    ensures sure { IsTrue R.never_fails → has_failed reader.new ≡ has_failed reader.old }
 {
     let input = read_to_end(alloc, reader)?;
     let bytes = spelled_bytes(alloc, input)?;
@@ -92,13 +92,13 @@ fn answer<R: Reader>(alloc: Global, kind: Kind, reader: &mut Stream<R>) -> Resul
 
 /// Reads the input to its end.
 fn read_to_end<R: Reader>(alloc: Global, reader: &mut Stream<R>) -> Result<Vec<u8>, Refusal>
-    ensures bytes { IfSome (R.remaining (inside reader.old)) (λ input.
+    ensures bytes { IfSome (R.remaining (inner_of reader.old)) (λ input.
         IfOk result (λ v. v.items ≡ input)) }
     ensures ok { OnOk result (has_failed reader.new ≡ has_failed reader.old) }
     ensures err { IfErr result (λ refusal.
         ((refusal ≡ no_memory) × (has_failed reader.new ≡ has_failed reader.old))
         ⊎ ((refusal ≡ Refusal.Unreadable) × (has_failed reader.new ≡ true))) }
-    ensures sure { IsTrue R.is_sure → has_failed reader.new ≡ has_failed reader.old }
+    ensures sure { IsTrue R.never_fails → has_failed reader.new ≡ has_failed reader.old }
 {
     let mut input = Vec::new(alloc);
     let mut chunk = [0; 4096];
@@ -119,7 +119,7 @@ fn read_to_end<R: Reader>(alloc: Global, reader: &mut Stream<R>) -> Result<Vec<u
 
 /// Decodes the input from hexadecimal, ignoring white space.
 fn spelled_bytes(alloc: Global, mut input: Vec<u8>) -> Result<Vec<u8>, Refusal>
-    ensures { MatchResult result (λ bytes. Spells input.items bytes.items)
+    ensures { MatchResult result (λ bytes. IsHexadecimalOf input.items bytes.items)
         (λ refusal. RefusesHexadecimal input.items refusal) }
 {
     drop_space(&mut input);
@@ -150,7 +150,7 @@ fn refusal_line(alloc: Global, refusal: &Refusal) -> Result<String, AllocError>
 /// Writes the lines and returns `status`, or the status of a failed write.
 fn write_lines<W: Writer>(writer: &mut Stream<W>, lines: &str, status: u8) -> u8
     ensures written { IsSound writer.new
-        → Appends (W.contents (inside writer.old)) (W.contents (inside writer.new)) lines.now
+        → Appends (W.contents (inner_of writer.old)) (W.contents (inner_of writer.new)) lines.now
         × (result ≡ status) }
     ensures failed { Fails writer.old writer.new → result ≡ 1 }
 {

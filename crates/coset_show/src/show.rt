@@ -5,8 +5,8 @@ ghost use Rattle.hex.specs.Hex.{encode_lower};
 ghost use Rattle.std.specs.String.{string_bytes};
 ghost use Rattle.coset.specs.Item.{Item};
 ghost use Rattle.coset.specs.CoseError.TheVariants.{OutOfMemory};
-ghost use Rattle.coset.specs.Answers.{ReadsSlice, RefusesSlice};
-ghost use Rattle.coset.specs.Sign1.{sign1, sign1_carried, sign1_view};
+ghost use Rattle.coset.specs.Results.{ReadsSlice, RefusesSlice};
+ghost use Rattle.coset.specs.Sign1.{sign1, sign1_attached, sign1_view};
 ghost use Rattle.coset_show.specs.Show.{line, ShowsType, RefusesType, ShowsSign1, IsLineOf, WritesRead, tagged_if, message_in, sign1_in};
 ghost use Rattle.coset_show.specs.Show.{is_tagged as is_tagged_spec};
 
@@ -107,7 +107,7 @@ pub fn message_lines<T: Lawful + CborSerializable + TaggedCborSerializable>(
 /// `external_aad`.
 fn signed_line(alloc: Global, message: &CoseSign1) -> Result<String, CoseError>
     ensures { (v : Item) → sign1.describes v (sign1_view message.now)
-        → MatchResult result (λ l. IsLineOf (sign1_carried (sign1_view message.now) [])
+        → MatchResult result (λ l. IsLineOf (sign1_attached (sign1_view message.now) [])
         (string_bytes l)) (λ e. e ≡ OutOfMemory) }
 {
     let signed = message.tbs_data(alloc, &[])?;

@@ -4,9 +4,9 @@ ghost use Rattle.std.specs.Prelude.{◌≡◌, ◌≢◌, true, IsTrue, IsOk, If
 ghost use Rattle.std.specs.Io.{ReadsAtMost};
 ghost use Rattle.std.specs.Io.KnownBytes.{Appends, ReadConsumes};
 ghost use Rattle.std.specs.IoError.{error_kind};
-ghost use Rattle.coset_show.specs.Stream.{inside, has_failed, IsSound};
+ghost use Rattle.coset_show.specs.Stream.{inner_of, has_failed, IsSound};
 
-use crate::ends::{Reader, Writer};
+use crate::io_traits::{Reader, Writer};
 use std::io;
 use std::io::ErrorKind;
 
@@ -21,7 +21,7 @@ pub struct Stream<T> {
 impl<T> Stream<T> {
     /// Wraps a reader or a writer. No call has failed yet.
     pub fn new(inner: T) -> Stream<T>
-        ensures inner { inside result ≡ inner }
+        ensures inner { inner_of result ≡ inner }
         ensures sound { IsSound result }
     {
         Stream {
@@ -33,7 +33,7 @@ impl<T> Stream<T> {
     /// Returns the reader or the writer.
     #[cfg(test)]
     pub fn into_inner(self) -> T
-        ensures { result ≡ inside self }
+        ensures { result ≡ inner_of self }
     {
         self.inner
     }
@@ -46,14 +46,15 @@ impl<R: Reader> Stream<R> {
     /// The errors of the reader.
     pub fn read(&mut self, buffer: &mut [u8]) -> io::Result<usize>
         ensures bound { ReadsAtMost result buffer.new }
-        ensures bytes { ReadConsumes (R.remaining (inside self.old)) (R.remaining (inside self.new))
+        ensures bytes { ReadConsumes (R.remaining (inner_of self.old))
+            (R.remaining (inner_of self.new))
             result buffer.new }
         ensures ok { OnOk result (has_failed self.new ≡ has_failed self.old) }
         ensures interrupted { IfErr result (λ e. error_kind e ≡ ErrorKind.Interrupted
             → has_failed self.new ≡ has_failed self.old) }
         ensures failed { IfErr result (λ e. error_kind e ≢ ErrorKind.Interrupted
             → has_failed self.new ≡ true) }
-        ensures sure { IsTrue R.is_sure → IsOk result }
+        ensures sure { IsTrue R.never_fails → IsOk result }
     {
         let read = self.inner.read_once(buffer);
         if let Err(error) = &read {
@@ -72,10 +73,10 @@ impl<W: Writer> Stream<W> {
     /// The errors of the writer. It may have taken some of the bytes by then.
     pub fn write_all(&mut self, bytes: &[u8]) -> io::Result<()>
         ensures bytes { OnOk result
-            (Appends (W.contents (inside self.old)) (W.contents (inside self.new)) bytes.now) }
+            (Appends (W.contents (inner_of self.old)) (W.contents (inner_of self.new)) bytes.now) }
         ensures ok { OnOk result (has_failed self.new ≡ has_failed self.old) }
         ensures failed { OnErr result (has_failed self.new ≡ true) }
-        ensures sure { IsTrue W.is_sure
+        ensures sure { IsTrue W.never_fails
             → IfErr result (λ e. error_kind e ≡ ErrorKind.OutOfMemory) }
     {
         let written = self.inner.put(bytes);

@@ -6,7 +6,7 @@ use Rattle.coset_codec.specs.AsWritten.{AsWritten, WhenRead}
 use Rattle.coset_codec.specs.Lists.{EachHas, EachWith}
 use Rattle.coset_codec.specs.Shape.{Elements, both}
 use Rattle.coset_codec.specs.ShapeLaws.{some-none}
-use Rattle.coset_label.specs.Names.{Name}
+use Rattle.coset_label.specs.LabelData.{LabelView}
 use Rattle.coset_core.specs.HeaderMap.{each_of}
 use Rattle.coset_core.specs.Headers.{HeaderView, ProtectedView, SignatureView, counter_signatures_in, countersignatures_in, fields_in}
 use Rattle.coset_core.specs.Headers.{LAYERS, header, layered_signature, protected_bytes, signature}
@@ -52,7 +52,7 @@ module _ {R Q : SignatureView → SignatureView → Type 0} (f : (s t : Signatur
   each_with [] (t ∷ ts) h = absurd h
   each_with (s ∷ ss) [] h = absurd h
 
-  each_read_as : (l : Name) (rest : List (Name × Item)) (ss ts : List SignatureView) → EachReadAs R l rest ss ts → EachReadAs Q l rest ss ts
+  each_read_as : (l : LabelView) (rest : List (LabelView × Item)) (ss ts : List SignatureView) → EachReadAs R l rest ss ts → EachReadAs Q l rest ss ts
   each_read_as l rest [] ts k = k
   each_read_as l rest (s ∷ ss) ts k = each_with (s ∷ ss) ts k
 

@@ -12,7 +12,7 @@ use Rattle.coset_core.proofs.Messages.{message_when_read, elements_as_written}
 use Rattle.coset_sign.specs.SignatureStructure.{signature_structure}
 use Rattle.coset_sign.specs.Signed.{SignsSame}
 use Rattle.coset_sign.specs.Sign1.{SamePayloadAndSignature, sign1, sign1_fields, sign1_elements, sign1_structure}
-use Rattle.coset_sign.specs.Sign.{SignView, sign, sign_fields, sign_elements, signer, signer_structure, EachSigns, EachSignsSame}
+use Rattle.coset_sign.specs.Sign.{SignView, sign, sign_fields, sign_elements, masked_signature, signer_structure, EachSigns, EachSignsSame}
 use Rattle.coset_sign.specs.declared.signature.SignatureContext.TheVariants.{CoseSign1, CoseSignature}
 
 -- ---- protected headers
@@ -50,7 +50,7 @@ has_signed external_aad payload v m d none =
 abbrev KeepsSame : SignatureView → SignatureView → Type 0
 KeepsSame s t = KeepsBytes s.protected t.protected
 
-signer_as_written : KeptAsWritten → AsWritten signer KeepsSame
+signer_as_written : KeptAsWritten → AsWritten masked_signature KeepsSame
 signer_as_written kept v s t e d = header_as_written (bstr then end) KeepsBytes kept v (elements_of s) (elements_of t) e d
 
 each_signs_same : (m n : SignView) → KeepsBytes m.protected n.protected → (ss ts : List SignatureView) → EachWith KeepsSame ss ts
@@ -65,9 +65,10 @@ each_signs_same m n e (s ∷ ss) [] h = absurd h
 
 pub each_signs_as_written : KeptAsWritten → AsWritten sign (λ m n. EachSignsSame n m)
 each_signs_as_written kept v m n e d =
-    let lists = then_as_written (list_of signer) end (EachWith KeepsSame) (λ x y. ⊤) (list_as_written signer KeepsSame (signer_as_written kept))
+    let lists = then_as_written (list_of masked_signature) end (EachWith KeepsSame) (λ x y. ⊤)
+    (list_as_written masked_signature KeepsSame (signer_as_written kept))
     (λ vs x y f g. tt) in
-    let elements = then_as_written (or_nil bstr) (list_of signer then end) (λ p q. ⊤) _ (λ w p q f g. tt) lists in
+    let elements = then_as_written (or_nil bstr) (list_of masked_signature then end) (λ p q. ⊤) _ (λ w p q f g. tt) lists in
     let all = message_as_written sign_elements KeepsBytes _ kept elements v (sign_fields m) (sign_fields n) e d in
     each_signs_same m n all.0 m.signatures n.signatures all.1.1.1.0
 
@@ -75,7 +76,7 @@ each_signs_as_written kept v m n e d =
 abbrev HasOwnBytes : SignatureView → Type 0
 HasOwnBytes s = HasBytes s.protected
 
-signer_when_read : WhenRead signer HasOwnBytes
+signer_when_read : WhenRead masked_signature HasOwnBytes
 signer_when_read v s d = header_when_read (bstr then end) HasBytes has_bytes v (elements_of s) d
 
 has_structure : (m : SignView) → HasBytes m.protected → (s : SignatureView) → HasOwnBytes s → (a l : List ℕ) → signer_structure m s a l ≡ None → ⊥
@@ -88,7 +89,8 @@ each_has_structure m h (s ∷ ss) g = (has_structure m h s g.0, each_has_structu
 
 pub each_signs_when_read : WhenRead sign EachSigns
 each_signs_when_read v m d =
-    let lists = then_when_read (list_of signer) end (EachHas HasOwnBytes) (λ x. ⊤) (list_when_read signer HasOwnBytes signer_when_read) (λ vs x f. tt) in
-    let elements = then_when_read (or_nil bstr) (list_of signer then end) (λ p. ⊤) _ (λ w p f. tt) lists in
+    let lists = then_when_read (list_of masked_signature) end (EachHas HasOwnBytes) (λ x. ⊤) (list_when_read masked_signature HasOwnBytes signer_when_read)
+    (λ vs x f. tt) in
+    let elements = then_when_read (or_nil bstr) (list_of masked_signature then end) (λ p. ⊤) _ (λ w p f. tt) lists in
     let all = message_when_read sign_elements HasBytes _ has_bytes elements v (sign_fields m) d in
     each_has_structure m all.0 m.signatures all.1.1.1.0

@@ -40,17 +40,17 @@ abbrev pub sign_fields : SignView → WithHeaders (Option (List ℕ) × (List Si
 sign_fields m = (m.protected, (m.unprotected, (m.payload, (m.signatures, tt))))
 
 -- The shape of COSE_Signature. Its errors say only that an item is no signature, and not why.
-abbrev pub signer : Shape SignatureView
-signer = masked IsUnexpected signature
+abbrev pub masked_signature : Shape SignatureView
+masked_signature = masked IsUnexpected signature
 
 -- payload : bstr / nil, signatures : [* COSE_Signature]
 abbrev pub sign_elements : Elements (Option (List ℕ) × (List SignatureView × Unit {0}))
-sign_elements = or_nil bstr then list_of signer then end
+sign_elements = or_nil bstr then list_of masked_signature then end
 
 pub sign_elements_laws : LawfulElements _ sign_elements
 sign_elements_laws =
     then_laws _ _ (or_nil_laws bstr bytes_no_nil bstr_laws)
-    (then_laws _ _ (list_of_laws signer (masked_laws IsUnexpected signature signature_laws)) end_laws)
+    (then_laws _ _ (list_of_laws masked_signature (masked_laws IsUnexpected signature signature_laws)) end_laws)
 
 -- [Headers, payload : bstr / nil, signatures : [* COSE_Signature]]
 abbrev pub sign : Shape SignView
@@ -67,8 +67,8 @@ abbrev pub signer_structure : SignView → SignatureView → List ℕ → List �
 signer_structure m s external_aad payload = signed_item CoseSignature m.protected (Some s.protected) external_aad payload
 
 -- The same over the message's own payload. A missing payload counts as empty.
-abbrev pub signer_carried : SignView → SignatureView → List ℕ → Option Item
-signer_carried m s external_aad = signer_structure m s external_aad (or_empty m.payload)
+abbrev pub signer_attached : SignView → SignatureView → List ℕ → Option Item
+signer_attached m s external_aad = signer_structure m s external_aad (or_empty m.payload)
 
 -- The messages have as many signatures. Each signature has the same structure as its counterpart, for any
 -- `external_aad` and payload.
@@ -83,8 +83,8 @@ EachSigns m = EachHas (λ s. (external_aad payload : List ℕ) → signer_struct
 -- ---- one more signature
 
 -- The message with this signature after the others.
-abbrev pub and_signature : SignatureView → SignView → SignView
-and_signature s m = record m { signatures = m.signatures ++ s ∷ [] }
+abbrev pub push_signature : SignatureView → SignView → SignView
+push_signature s m = record m { signatures = m.signatures ++ s ∷ [] }
 
 -- The signature with these bytes, and its other fields unchanged.
 abbrev pub signed_with : List ℕ → SignatureView → SignatureView

@@ -61,8 +61,8 @@ abbrev pub sign1_structure : Sign1View → List ℕ → List ℕ → Option Item
 sign1_structure m external_aad payload = signed_item CoseSign1 m.protected None external_aad payload
 
 -- The same over the message's own payload. A missing payload counts as empty.
-abbrev pub sign1_carried : Sign1View → List ℕ → Option Item
-sign1_carried m external_aad = sign1_structure m external_aad (or_empty m.payload)
+abbrev pub sign1_attached : Sign1View → List ℕ → Option Item
+sign1_attached m external_aad = sign1_structure m external_aad (or_empty m.payload)
 
 -- ---- one field set
 

@@ -5,9 +5,9 @@ ghost use Rattle.std.specs.Prelude.{◌≡◌, ◌≢◌, [], map, option_map, i
 ghost use Rattle.std.specs.Option.{option_copied};
 ghost use Rattle.coset_cbor.specs.Shortest.{IsShortest};
 ghost use Rattle.coset_codec.specs.declared.error.CoseError.TheVariants.{OutOfMemory};
-ghost use Rattle.coset_codec.specs.Answers.{Writes};
+ghost use Rattle.coset_codec.specs.Results.{Writes};
 ghost use Rattle.coset_core.specs.Views.{countersignature_view, protected_view};
-ghost use Rattle.coset_core.specs.Calls.{AsksAbout};
+ghost use Rattle.coset_core.specs.Calls.{CallsWith};
 ghost use Rattle.coset_sign.specs.Countersigned.{countersign_structure, countersign_text, countersigned_item};
 ghost use Rattle.coset_sign.specs.SignatureStructure.{signed_parts};
 ghost use Rattle.coset_core.specs.Structure.{BeginsStructure};
@@ -15,8 +15,8 @@ ghost use Rattle.coset_core.specs.Structure.{BeginsStructure};
 use coset_cbor::laws::least_encoding_is_shortest;
 use coset_codec::write::{Array, Encode};
 use coset_codec::{CallError, Result};
-use coset_core::calls::verify_with;
-use coset_core::structure::{begin_structure, byte_strings_room};
+use coset_core::calls::call_with;
+use coset_core::structure::{begin_structure, max_byte_strings_size};
 use coset_core::{CoseCountersignature, ProtectedHeader};
 use std::alloc::Global;
 
@@ -68,7 +68,7 @@ fn countersign_bytes(
         (map (λ field. field.items) other_fields.now))) }
     ensures memory { IfErr result (λ e. e ≡ OutOfMemory) }
 {
-    let more = byte_strings_room(other_fields);
+    let more = max_byte_strings_size(other_fields);
     let mut out = begin_countersign(alloc, body, signer, external_aad, payload, more)?;
     Array(other_fields).encode(alloc, &mut out)?;
     least_encoding_is_shortest();
@@ -214,12 +214,12 @@ where
     E: Drop,
     requires callable { F.IsAlwaysCallable verifier }
     requires some { other_fields.now ≢ [] }
-    ensures { AsksAbout F.FnOnce verifier (countersignature_view countersignature.now).signature
+    ensures { CallsWith F.FnOnce verifier (countersignature_view countersignature.now).signature
         (countersigned_item (protected_view body)
         (Some (countersignature_view countersignature.now).protected) external_aad.now payload.now
         (map (λ field. field.items) other_fields.now)) result }
 {
     let sign = Some(&countersignature.protected);
     let structure = countersigned_bytes(alloc, &body, sign, external_aad, payload, other_fields);
-    verify_with(&countersignature.signature, structure, verifier)
+    call_with(&countersignature.signature, structure, verifier)
 }

@@ -65,7 +65,7 @@ pub fn signed_as_written()
 }
 
 /// A `COSE_Sign1` message that is read back, plain or tagged, has the same payload and signature.
-pub fn carried_as_written()
+pub fn attached_as_written()
     ensures plain { AsWritten sign1 SamePayloadAndSignature }
     ensures tagged { AsWritten (tagged 18 sign1) SamePayloadAndSignature }
 {}

@@ -3,21 +3,21 @@
 ghost use Rattle.std.specs.Prelude.{◌≡◌, ◌<◌, map, length, slice_get, IfOk, IfErr, Option, Some, None};
 ghost use Rattle.coset_value.specs.Item.{Item};
 ghost use Rattle.coset_codec.specs.declared.error.CoseError.TheVariants.{OutOfMemory};
-ghost use Rattle.coset_codec.specs.Answers.{Writes};
+ghost use Rattle.coset_codec.specs.Results.{Writes};
 ghost use Rattle.coset_core.specs.Headers.{SignatureView};
 ghost use Rattle.coset_core.specs.Messages.{unread};
 ghost use Rattle.coset_core.specs.Views.{header_view, signature_view};
-ghost use Rattle.coset_core.specs.Calls.{AsksAbout, Creates, TriesToCreate};
-ghost use Rattle.coset_sign.specs.Sign.{and_signature, empty_sign, sign, sign_view, signed_with, signer_carried, signer_structure};
+ghost use Rattle.coset_core.specs.Calls.{CallsWith, Creates, TriesToCreate};
+ghost use Rattle.coset_sign.specs.Sign.{push_signature, empty_sign, sign, sign_view, signed_with, signer_attached, signer_structure};
 
 use crate::signature::{SignatureContext, sig_structure_of};
 use coset_codec::read::{Decode, Decoder, drop_refused};
 use coset_codec::util::copy_bstr;
 use coset_codec::write::{Array, Encode, encode_four};
 use coset_codec::{CallError, Codec, CoseError, Result, TaggedCodec};
-use coset_core::calls::{create_with, verify_with};
+use coset_core::calls::{call_with, create_with};
 use coset_core::{
-    CoseSignature, Header, ProtectedHeader, ProtectedRef, read_headed, read_signatures,
+    CoseSignature, Header, ProtectedHeader, ProtectedRef, read_signatures, read_with_headers,
 };
 use std::alloc::{AllocError, Global};
 use std::marker::Model;
@@ -42,7 +42,7 @@ pub struct CoseSign {
 }
 
 /// The expected item, as the error for a wrong number of elements names it.
-const PLACES: &str = "array with 4 items";
+const EXPECTED_ARRAY: &str = "array with 4 items";
 
 /// The signatures of a message. An element with a fault is refused as a non-signature.
 #[derive(Debug, Drop)]
@@ -50,18 +50,18 @@ struct Signatures(Vec<CoseSignature>);
 
 impl Decode for Signatures {
     ghost use Rattle.coset_codec.specs.Shape.{list_of};
-    ghost use Rattle.coset_sign.specs.Sign.{signer};
+    ghost use Rattle.coset_sign.specs.Sign.{masked_signature};
     ghost use Rattle.std.specs.Prelude.{List};
 
     ghost View = { List SignatureView };
 
     ghost view = { λ all. map signature_view all.0.items };
 
-    ghost shape = { list_of signer };
+    ghost shape = { list_of masked_signature };
 
     fn decode(alloc: Global, input: &mut Decoder<'_>) -> Result<Signatures> {
-        let blame = ("non-signature", "map for COSE_Signature");
-        match read_signatures(alloc, input, blame) {
+        let error_names = ("non-signature", "map for COSE_Signature");
+        match read_signatures(alloc, input, error_names) {
             Ok(all) => Ok(Signatures(all)),
             Err(error) => Err(error),
         }
@@ -120,7 +120,7 @@ impl CoseSign {
         external_aad: &[u8],
         signature: &CoseSignature,
     ) -> Result<Vec<u8>>
-        ensures { Writes (signer_carried (sign_view self.now) (signature_view signature.now)
+        ensures { Writes (signer_attached (sign_view self.now) (signature_view signature.now)
             external_aad.now) (λ b. b.items) result }
     {
         match &self.payload {
@@ -181,12 +181,12 @@ impl CoseSign {
         requires callable { F.IsAlwaysCallable verifier }
         requires there { which < length self.now.signatures.items }
         ensures { (s : SignatureView) → slice_get (sign_view self.now).signatures which ≡ Some s
-            → AsksAbout F.FnOnce verifier s.signature
-            (signer_carried (sign_view self.now) s external_aad.now) result }
+            → CallsWith F.FnOnce verifier s.signature
+            (signer_attached (sign_view self.now) s external_aad.now) result }
     {
         let signature = self.signature(which);
         let structure = self.tbs_data(alloc, external_aad, signature);
-        verify_with(&signature.signature, structure, verifier)
+        call_with(&signature.signature, structure, verifier)
     }
 
     /// Does the same as [`CoseSign::verify_signature`] for a detached payload. The message itself
@@ -209,12 +209,12 @@ impl CoseSign {
         requires there { which < length self.now.signatures.items }
         requires detached { self.now.payload ≡ None }
         ensures { (s : SignatureView) → slice_get (sign_view self.now).signatures which ≡ Some s
-            → AsksAbout F.FnOnce verifier s.signature
+            → CallsWith F.FnOnce verifier s.signature
             (signer_structure (sign_view self.now) s external_aad.now payload.now) result }
     {
         let signature = self.signature(which);
         let structure = self.tbs_detached_data(alloc, payload, external_aad, signature);
-        verify_with(&signature.signature, structure, verifier)
+        call_with(&signature.signature, structure, verifier)
     }
 
     /// Returns a message equal to this one, kept bytes included.
@@ -271,12 +271,12 @@ impl Codec for CoseSign {
 
     fn read(alloc: Global, input: &mut Decoder<'_>) -> Result<CoseSign> {
         let mut message = CoseSign::new(alloc);
-        match read_headed(
+        match read_with_headers(
             &mut message.protected,
             &mut message.unprotected,
             alloc,
             input,
-            PLACES,
+            EXPECTED_ARRAY,
         ) {
             Ok((payload, (Signatures(signatures), ()))) => {
                 message.payload = payload;
@@ -405,7 +405,7 @@ impl CoseSignBuilder {
     /// `OutOfMemory` if an allocation fails.
     pub fn add_signature(mut self, signature: CoseSignature) -> Result<CoseSignBuilder>
         ensures ok { IfOk result (λ b. sign_view b
-            ≡ and_signature (signature_view signature) (sign_view self)) }
+            ≡ push_signature (signature_view signature) (sign_view self)) }
         ensures memory { IfErr result (λ e. e ≡ OutOfMemory) }
     {
         self.0.signatures.push(signature)?;
@@ -428,7 +428,7 @@ impl CoseSignBuilder {
         F: FnOnce(&[u8]) -> Vec<u8> + Drop,
         requires { F.IsAlwaysCallable signer }
         ensures { (o : Option Item) → Writes o (λ b. b.items) structure
-            → Creates F.FnOnce signer o (λ s b. sign_view b ≡ and_signature
+            → Creates F.FnOnce signer o (λ s b. sign_view b ≡ push_signature
             (signed_with s.items (signature_view signature)) (sign_view self)) result }
     {
         let structure = structure?;
@@ -454,7 +454,7 @@ impl CoseSignBuilder {
         E: Drop,
         requires { F.IsAlwaysCallable signer }
         ensures { (o : Option Item) → Writes o (λ b. b.items) structure
-            → TriesToCreate F.FnOnce signer o (λ s b. sign_view b ≡ and_signature
+            → TriesToCreate F.FnOnce signer o (λ s b. sign_view b ≡ push_signature
             (signed_with s.items (signature_view signature)) (sign_view self)) result }
     {
         if self.0.signatures.reserve(1).is_err() {
@@ -483,8 +483,8 @@ impl CoseSignBuilder {
     where
         F: FnOnce(&[u8]) -> Vec<u8> + Drop,
         requires { F.IsAlwaysCallable signer }
-        ensures { Creates F.FnOnce signer (signer_carried (sign_view self)
-            (signature_view signature) external_aad.now) (λ s b. sign_view b ≡ and_signature
+        ensures { Creates F.FnOnce signer (signer_attached (sign_view self)
+            (signature_view signature) external_aad.now) (λ s b. sign_view b ≡ push_signature
             (signed_with s.items (signature_view signature)) (sign_view self)) result }
     {
         let structure = self.0.tbs_data(alloc, external_aad, &signature);
@@ -510,7 +510,7 @@ impl CoseSignBuilder {
         requires detached { self.payload ≡ None }
         ensures { Creates F.FnOnce signer (signer_structure (sign_view self)
             (signature_view signature) external_aad.now payload.now) (λ s b. sign_view b
-            ≡ and_signature (signed_with s.items (signature_view signature)) (sign_view self))
+            ≡ push_signature (signed_with s.items (signature_view signature)) (sign_view self))
             result }
     {
         let structure = self
@@ -535,8 +535,8 @@ impl CoseSignBuilder {
         F: FnOnce(&[u8]) -> Result<Vec<u8>, E> + Drop,
         E: Drop,
         requires { F.IsAlwaysCallable signer }
-        ensures { TriesToCreate F.FnOnce signer (signer_carried (sign_view self)
-            (signature_view signature) external_aad.now) (λ s b. sign_view b ≡ and_signature
+        ensures { TriesToCreate F.FnOnce signer (signer_attached (sign_view self)
+            (signature_view signature) external_aad.now) (λ s b. sign_view b ≡ push_signature
             (signed_with s.items (signature_view signature)) (sign_view self)) result }
     {
         let structure = self.0.tbs_data(alloc, external_aad, &signature);
@@ -563,7 +563,7 @@ impl CoseSignBuilder {
         requires detached { self.payload ≡ None }
         ensures { TriesToCreate F.FnOnce signer (signer_structure (sign_view self)
             (signature_view signature) external_aad.now payload.now) (λ s b. sign_view b
-            ≡ and_signature (signed_with s.items (signature_view signature)) (sign_view self))
+            ≡ push_signature (signed_with s.items (signature_view signature)) (sign_view self))
             result }
     {
         let structure = self

@@ -2,19 +2,19 @@
 
 ghost use Rattle.std.specs.Prelude.{◌≡◌, IfOk, IfErr, Some, None};
 ghost use Rattle.coset_codec.specs.declared.error.CoseError.TheVariants.{OutOfMemory};
-ghost use Rattle.coset_codec.specs.Answers.{Writes};
+ghost use Rattle.coset_codec.specs.Results.{Writes};
 ghost use Rattle.coset_core.specs.Messages.{unread};
 ghost use Rattle.coset_core.specs.Views.{header_view};
-ghost use Rattle.coset_core.specs.Calls.{AsksAbout, Creates, TriesToCreate};
-ghost use Rattle.coset_sign.specs.Sign1.{empty_sign1, sign1, sign1_view, sign1_carried, sign1_structure, with_signature};
+ghost use Rattle.coset_core.specs.Calls.{CallsWith, Creates, TriesToCreate};
+ghost use Rattle.coset_sign.specs.Sign1.{empty_sign1, sign1, sign1_view, sign1_attached, sign1_structure, with_signature};
 
 use crate::signature::{SignatureContext, sig_structure_of};
 use coset_codec::read::{Decoder, drop_refused};
 use coset_codec::util::copy_bstr;
 use coset_codec::write::{Encode, encode_four};
 use coset_codec::{CallError, Codec, Result, TaggedCodec};
-use coset_core::calls::{create_with, verify_with};
-use coset_core::{Header, ProtectedHeader, ProtectedRef, read_headed};
+use coset_core::calls::{call_with, create_with};
+use coset_core::{Header, ProtectedHeader, ProtectedRef, read_with_headers};
 use std::alloc::{AllocError, Global};
 use std::marker::Model;
 
@@ -36,7 +36,7 @@ pub struct CoseSign1 {
 }
 
 /// The expected item, as the error for a wrong number of elements names it.
-const PLACES: &str = "array with 4 items";
+const EXPECTED_ARRAY: &str = "array with 4 items";
 
 impl CoseSign1 {
     /// Returns an empty message: empty headers, no payload, an empty signature. Allocates nothing.
@@ -70,7 +70,7 @@ impl CoseSign1 {
     /// - `DuplicateMapKey` if the protected header has no kept bytes and has a label twice in its
     ///   `rest`. Nested headers count too, except those inside kept bytes.
     pub fn tbs_data(&self, alloc: Global, external_aad: &[u8]) -> Result<Vec<u8>>
-        ensures { Writes (sign1_carried (sign1_view self.now) external_aad.now) (λ b. b.items)
+        ensures { Writes (sign1_attached (sign1_view self.now) external_aad.now) (λ b. b.items)
             result }
     {
         match &self.payload {
@@ -117,11 +117,11 @@ impl CoseSign1 {
         F: FnOnce(&[u8], &[u8]) -> Result<(), E> + Drop,
         E: Drop,
         requires { F.IsAlwaysCallable verifier }
-        ensures { AsksAbout F.FnOnce verifier (sign1_view self.now).signature
-            (sign1_carried (sign1_view self.now) external_aad.now) result }
+        ensures { CallsWith F.FnOnce verifier (sign1_view self.now).signature
+            (sign1_attached (sign1_view self.now) external_aad.now) result }
     {
         let structure = self.tbs_data(alloc, external_aad);
-        verify_with(&self.signature, structure, verifier)
+        call_with(&self.signature, structure, verifier)
     }
 
     /// Does the same as [`CoseSign1::verify_signature`] for a detached payload. The message itself
@@ -141,11 +141,11 @@ impl CoseSign1 {
         E: Drop,
         requires callable { F.IsAlwaysCallable verifier }
         requires detached { self.now.payload ≡ None }
-        ensures { AsksAbout F.FnOnce verifier (sign1_view self.now).signature
+        ensures { CallsWith F.FnOnce verifier (sign1_view self.now).signature
             (sign1_structure (sign1_view self.now) external_aad.now payload.now) result }
     {
         let structure = self.tbs_detached_data(alloc, payload, external_aad);
-        verify_with(&self.signature, structure, verifier)
+        call_with(&self.signature, structure, verifier)
     }
 
     /// Returns a message equal to this one, kept bytes included.
@@ -195,12 +195,12 @@ impl Codec for CoseSign1 {
 
     fn read(alloc: Global, input: &mut Decoder<'_>) -> Result<CoseSign1> {
         let mut message = CoseSign1::new(alloc);
-        match read_headed(
+        match read_with_headers(
             &mut message.protected,
             &mut message.unprotected,
             alloc,
             input,
-            PLACES,
+            EXPECTED_ARRAY,
         ) {
             Ok((payload, (signature, ()))) => {
                 message.payload = payload;
@@ -353,7 +353,7 @@ impl CoseSign1Builder {
     where
         F: FnOnce(&[u8]) -> Vec<u8> + Drop,
         requires { F.IsAlwaysCallable signer }
-        ensures { Creates F.FnOnce signer (sign1_carried (sign1_view self) external_aad.now)
+        ensures { Creates F.FnOnce signer (sign1_attached (sign1_view self) external_aad.now)
             (λ s b. sign1_view b ≡ with_signature s.items (sign1_view self)) result }
     {
         let tbs = self.0.tbs_data(alloc, external_aad)?;
@@ -399,7 +399,7 @@ impl CoseSign1Builder {
         F: FnOnce(&[u8]) -> Result<Vec<u8>, E> + Drop,
         E: Drop,
         requires { F.IsAlwaysCallable signer }
-        ensures { TriesToCreate F.FnOnce signer (sign1_carried (sign1_view self) external_aad.now)
+        ensures { TriesToCreate F.FnOnce signer (sign1_attached (sign1_view self) external_aad.now)
             (λ s b. sign1_view b ≡ with_signature s.items (sign1_view self)) result }
     {
         let signature = create_with(self.0.tbs_data(alloc, external_aad), signer)?;

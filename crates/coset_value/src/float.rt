@@ -40,12 +40,12 @@ impl Float {
 fn half_to_f64(bits: u16) -> f64
     ensures { IsDouble (half bits) result }
 {
-    let size = half_size(bits / 1_024 % 32, bits % 1_024);
+    let size = half_magnitude(bits / 1_024 % 32, bits % 1_024);
     if bits / 1_024 >= 32 { -size } else { size }
 }
 
 /// Returns the double of a half without its sign, from the half's exponent and fraction bits.
-fn half_size(exponent: u16, fraction: u16) -> f64
+fn half_magnitude(exponent: u16, fraction: u16) -> f64
     requires exponents { exponent < 32 }
     requires fractions { fraction < 2 ^ 10 }
     ensures { IsHalf false exponent fraction result }

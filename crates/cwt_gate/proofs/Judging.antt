@@ -4,16 +4,16 @@ use mir.Val.{SFits, of_z, to_z}
 use Rattle.std.specs.Prelude.{IsErrAnd}
 use Rattle.std.proofs.lemmas.Int.{to_z-of_z}
 use Rattle.std.proofs.Common.{◌≡◌, ℕ, ℤ, Bool, List, [], Some, None, Result, Ok, Err, sym, subst}
-use Rattle.coset.specs.Answers.{Describes, IsRefused}
+use Rattle.coset.specs.Results.{Describes, IsRefused}
 use Rattle.coset.specs.CallError.{CallError}
 use Rattle.coset.specs.CallError.TheVariants.{Coset, Caller}
-use Rattle.coset.specs.Calls.{AsksAbout}
+use Rattle.coset.specs.Calls.{CallsWith}
 use Rattle.coset.specs.ClaimsSet.{ClaimsSet}
 use Rattle.coset.specs.CoseError.{CoseError}
 use Rattle.coset.specs.Encoding.{HasNoImage}
 use Rattle.coset.specs.Item.{Item}
-use Rattle.coset.specs.Sign1.{Sign1View, sign1, sign1_carried, sign1_structure}
-use Rattle.cwt_gate.specs.Gate.{GivesClaims, Judges, Says, Verifies, refusal_of}
+use Rattle.coset.specs.Sign1.{Sign1View, sign1, sign1_attached, sign1_structure}
+use Rattle.cwt_gate.specs.Gate.{GivesClaims, Judges, ReturnsFor, Verifies, refusal_of}
 use Rattle.cwt_gate.specs.Token.{token}
 use Rattle.cwt_gate.specs.declared.error.GateError.{GateError}
 use Rattle.cwt_gate.specs.declared.error.GateError.TheVariants as gate
@@ -23,7 +23,7 @@ abbrev pub AlwaysSigned : Type 0
 AlwaysSigned = (external_aad payload : List ℕ) (v : Item) (m : Sign1View) → sign1.describes v m → sign1_structure m external_aad payload ≡ None → ⊥
 
 -- So a token is never refused for having no signed bytes.
-unsigned : AlwaysSigned → (b : List ℕ) (m : Sign1View) (e : CoseError) → Describes token b m → HasNoImage (sign1_carried m []) e → IsRefused token b e
+unsigned : AlwaysSigned → (b : List ℕ) (m : Sign1View) (e : CoseError) → Describes token b m → HasNoImage (sign1_attached m []) e → IsRefused token b e
 unsigned law b m e d none = λ other. absurd (law [] _ _ m d.2 (none other).1)
 
 -- A test has the same result for a time that was converted to a machine integer and back.
@@ -37,18 +37,18 @@ passed_on P (Err x) e is h = subst (λ y. P (Err y)) (sym is) h
 
 module _ {F E : Type 0} (g : Verifies F E) (f : F) where
   -- The closure was called for the message with payload `p`, and accepted it.
-  pub says_yes : (m : Sign1View) (p : List ℕ) → m.payload ≡ Some p → AsksAbout g f m.signature (sign1_carried m []) (Ok tt) → Says g f m p (Ok tt)
+  pub says_yes : (m : Sign1View) (p : List ℕ) → m.payload ≡ Some p → CallsWith g f m.signature (sign1_attached m []) (Ok tt) → ReturnsFor g f m p (Ok tt)
   says_yes m p carried asked = record { carried = carried; tbs = asked.0; is_tbs = asked.1; said = asked.2 }
 
   -- The closure refused the message, or the signed bytes could not be made.
-  refused : (m : Sign1View) (p : List ℕ) (e : CallError E) → m.payload ≡ Some p → AsksAbout g f m.signature (sign1_carried m []) (Err e)
+  refused : (m : Sign1View) (p : List ℕ) (e : CallError E) → m.payload ≡ Some p → CallsWith g f m.signature (sign1_attached m []) (Err e)
       → GivesClaims g f m (Err (refusal_of e))
   refused m p (Coset e) carried asked = asked
   refused m p (Caller e) carried asked = (p, record { carried = carried; tbs = asked.0; is_tbs = asked.1; said = asked.2 })
 
   pub not_verified :
       (m : Sign1View) (p : List ℕ) (e : CallError E) (r : Result ClaimsSet (GateError E)) → IsErrAnd r (λ x. x ≡ refusal_of e) → m.payload ≡ Some p
-      → AsksAbout g f m.signature (sign1_carried m []) (Err e) → GivesClaims g f m r
+      → CallsWith g f m.signature (sign1_attached m []) (Err e) → GivesClaims g f m r
   not_verified m p e r is carried asked = passed_on (GivesClaims g f m) r (refusal_of e) is (refused m p e carried asked)
 
   -- If a message has no claims, its token is refused for the same reason.

@@ -2,7 +2,7 @@
 use Rattle.std.specs.Prelude.{IsErrAnd}
 use Rattle.std.proofs.Common.{◌≡◌, ◌≤◌, ◌<◌, ◌+◌, ◌∙◌, ◌||◌, ℕ, suc, List, [], ◌∷◌, length, Bool, true, false, None, Result, Ok, Err, refl}
 use Rattle.std.proofs.Common.{sym, ap, subst, inl, inr, arith}
-use Rattle.coset.specs.Answers.{Describes, IsOnlyItem, ReadsSlice, RefusesSlice}
+use Rattle.coset.specs.Results.{Describes, IsOnlyItem, ReadsSlice, RefusesSlice}
 use Rattle.coset.specs.AsWritten.{WhenRead}
 use Rattle.coset.specs.CoseError.{CoseError}
 use Rattle.coset.specs.EncStructure.{Encrypts}
@@ -15,9 +15,9 @@ use Rattle.coset.specs.MacContext.TheVariants as mac
 use Rattle.coset.specs.EncryptionContext.TheVariants as enc
 use Rattle.coset.specs.MacStructure.{Authenticates}
 use Rattle.coset.specs.Sign1.{sign1, sign1_laws, sign1_structure}
-use Rattle.cwt_gate.specs.Door.{Arrives, IsAdmitted, IsIn, OpensAll, OpensOne, RefusesLayer, RefusesLayers, is_allowed, is_authentic, is_clear}
+use Rattle.cwt_gate.specs.JudgeWith.{Arrives, IsAdmitted, IsIn, OpensAll, OpensOne, RefusesLayer, RefusesLayers, is_allowed, is_authentic, is_clear}
 use Rattle.cwt_gate.specs.Keys.{KeysView, Opens}
-use Rattle.cwt_gate.specs.Layers.{DescribesAs, FaultsAs, LayerView, begins_layer, encrypted, form_of, layer, layer_item, layer_view, maced}
+use Rattle.cwt_gate.specs.Layers.{DescribesAs, FaultsAs, LayerView, begins_layer, encrypted, form_of, layer, layer_item, layer_view, macced}
 use Rattle.cwt_gate.specs.Layers.{message_in, protected_of, signed, structure_of, unprotected_of}
 use Rattle.cwt_gate.specs.Policy.{PolicyView, allows, understands}
 use Rattle.cwt_gate.specs.declared.error.GateError.{GateError}
@@ -40,26 +40,26 @@ pub record HaveStructures : Type 0 where
 
 has_structure : HaveStructures → (x : Form × Item) (l : LayerView) (c : List ℕ) → DescribesAs x l → structure_of l c ≡ None → ⊥
 has_structure laws (Sign1, v) (signed m) c d = laws.sign1 [] c v m d
-has_structure laws (Sign1, v) (maced m) c d = absurd d
+has_structure laws (Sign1, v) (macced m) c d = absurd d
 has_structure laws (Sign1, v) (encrypted m) c d = absurd d
-has_structure laws (Mac0, v) (maced m) c d = laws.mac0 v m d mac.CoseMac0 [] c
+has_structure laws (Mac0, v) (macced m) c d = laws.mac0 v m d mac.CoseMac0 [] c
 has_structure laws (Mac0, v) (signed m) c d = absurd d
 has_structure laws (Mac0, v) (encrypted m) c d = absurd d
 has_structure laws (Encrypt0, v) (encrypted m) c d = laws.encrypt0 v m d enc.CoseEncrypt0 []
 has_structure laws (Encrypt0, v) (signed m) c d = absurd d
-has_structure laws (Encrypt0, v) (maced m) c d = absurd d
+has_structure laws (Encrypt0, v) (macced m) c d = absurd d
 
 -- An item that describes a layer has no fault.
 as_sound : (x : Form × Item) (l : LayerView) (e : CoseError) → DescribesAs x l → FaultsAs x e → ⊥
 as_sound (Sign1, v) (signed m) e d f = sign1_laws.sound v m e d f
-as_sound (Sign1, v) (maced m) e d f = absurd d
+as_sound (Sign1, v) (macced m) e d f = absurd d
 as_sound (Sign1, v) (encrypted m) e d f = absurd d
-as_sound (Mac0, v) (maced m) e d f = mac0_laws.sound v m e d f
+as_sound (Mac0, v) (macced m) e d f = mac0_laws.sound v m e d f
 as_sound (Mac0, v) (signed m) e d f = absurd d
 as_sound (Mac0, v) (encrypted m) e d f = absurd d
 as_sound (Encrypt0, v) (encrypted m) e d f = encrypt0_laws.sound v m e d f
 as_sound (Encrypt0, v) (signed m) e d f = absurd d
-as_sound (Encrypt0, v) (maced m) e d f = absurd d
+as_sound (Encrypt0, v) (macced m) e d f = absurd d
 
 -- The result for bytes that are one item `v`, if the message `m` in it has a fault.
 pub unread :

@@ -1,7 +1,7 @@
 -- Claims, by the treatment of those whose numbers IANA hasn't assigned.
 use Rattle.std.specs.Prelude.{IfErr}
 use Rattle.std.proofs.Common.{◌≡◌, ℕ, List, Result, Ok, Err, sym, subst}
-use Rattle.coset.specs.Answers.{DescribesNothing, IsRefused, RefusesSlice}
+use Rattle.coset.specs.Results.{DescribesNothing, IsRefused, RefusesSlice}
 use Rattle.coset.specs.Claims.{claims}
 use Rattle.coset.specs.CoseError.{CoseError}
 use Rattle.coset.specs.Errors.{UnlessMemory}

@@ -2,7 +2,7 @@
 use Rattle.std.specs.Prelude.{◌≡◌, ℕ, ℤ, List, [], true, false, Some, None, Result, Ok, Err}
 use Rattle.std.specs.Borrow.{Bor}
 use Rattle.std.specs.Fn.{Once, FnOnceReturnsAtPair}
-use Rattle.coset.specs.Answers.{Describes, IsRefused}
+use Rattle.coset.specs.Results.{Describes, IsRefused}
 use Rattle.coset.specs.CallError.{CallError}
 use Rattle.coset.specs.CallError.TheVariants as calls
 use Rattle.coset.specs.Calls.{IsStructure}
@@ -10,7 +10,7 @@ use Rattle.coset.specs.Claims.{ClaimsView, claims, claims_view}
 use Rattle.coset.specs.ClaimsSet.{ClaimsSet}
 use Rattle.coset.specs.CoseError.{CoseError}
 use Rattle.coset.specs.Encoding.{HasNoImage}
-use Rattle.coset.specs.Sign1.{Sign1View, sign1_carried}
+use Rattle.coset.specs.Sign1.{Sign1View, sign1_attached}
 use Rattle.cwt_gate.specs.Moment.{has_expired, has_fraction, is_early}
 use Rattle.cwt_gate.specs.Token.{token}
 use Rattle.cwt_gate.specs.declared.error.GateError.{GateError}
@@ -27,28 +27,28 @@ refusal_of (calls.Caller e) = Caller e
 
 -- The message `m` has the payload `p`. Called with its signature and the signed bytes, for an empty `external_aad`, `f`
 -- returns `answer` (RFC 8152, section 4.4).
-pub record Says {F E : Type 0} (g : Verifies F E) (f : F) (m : Sign1View) (p : List ℕ) (answer : Result (Unit {0}) E) : Type 0 where
+pub record ReturnsFor {F E : Type 0} (g : Verifies F E) (f : F) (m : Sign1View) (p : List ℕ) (answer : Result (Unit {0}) E) : Type 0 where
   pub carried : m.payload ≡ Some p
   pub tbs : List ℕ
-  pub is_tbs : IsStructure (sign1_carried m []) tbs
+  pub is_tbs : IsStructure (sign1_attached m []) tbs
   pub said : FnOnceReturnsAtPair g f m.signature tbs answer
 
 -- `f` accepts the message, and its payload describes these claims.
 abbrev pub Accepts : {F E : Type 0} → Verifies F E → F → Sign1View → ClaimsView → Type 0
-Accepts g f m c = (p : List ℕ) × Says g f m p (Ok tt) × Describes claims p c
+Accepts g f m c = (p : List ℕ) × ReturnsFor g f m p (Ok tt) × Describes claims p c
 
 -- `f` refuses the message.
 abbrev pub Refuses : {F E : Type 0} → Verifies F E → F → Sign1View → E → Type 0
-Refuses g f m e = (p : List ℕ) × Says g f m p (Err e)
+Refuses g f m e = (p : List ℕ) × ReturnsFor g f m p (Err e)
 
 -- `f` accepts the message, and its payload is refused.
 abbrev pub CarriesNoClaims : {F E : Type 0} → Verifies F E → F → Sign1View → CoseError → Type 0
-CarriesNoClaims g f m e = (p : List ℕ) × Says g f m p (Ok tt) × IsRefused claims p e
+CarriesNoClaims g f m e = (p : List ℕ) × ReturnsFor g f m p (Ok tt) × IsRefused claims p e
 
 -- The result for a message: its claims if `f` accepts it, or the reason why there are none.
 abbrev pub GivesClaims : {F E : Type 0} → Verifies F E → F → Sign1View → Result ClaimsSet (GateError E) → Type 0
 GivesClaims g f m (Ok x) = Accepts g f m (claims_view x)
-GivesClaims g f m (Err (Token e)) = HasNoImage (sign1_carried m []) e
+GivesClaims g f m (Err (Token e)) = HasNoImage (sign1_attached m []) e
 GivesClaims g f m (Err NoPayload) = m.payload ≡ None
 GivesClaims g f m (Err (Caller e)) = Refuses g f m e
 GivesClaims g f m (Err (Claims e)) = CarriesNoClaims g f m e

@@ -5,7 +5,7 @@ use Rattle.coset.specs.Calls.{IsStructure}
 use Rattle.coset.specs.Encoding.{HasNoImage}
 use Rattle.coset.specs.Headers.{HeaderView, ProtectedView, fields_in}
 use Rattle.coset.specs.Views.{header_view, protected_view}
-use Rattle.cwt_gate.specs.Layers.{LayerView, signed, maced, encrypted, carried, form_of, structure_of}
+use Rattle.cwt_gate.specs.Layers.{LayerView, signed, macced, encrypted, attached, form_of, structure_of}
 use Rattle.cwt_gate.specs.declared.error.GateError.{GateError}
 use Rattle.cwt_gate.specs.declared.error.GateError.TheVariants.{Token, NoPayload, Caller}
 use Rattle.cwt_gate.specs.declared.form.Form.{Form}
@@ -56,31 +56,31 @@ accept_anything = record { verifies = λ s. Unit {0}; verifies_tag = λ s. Unit 
 -- The parts that keys receive of the layer `l`, if it carries `c` and its structure has the bytes `t`.
 abbrev pub seal_of : LayerView → List ℕ → List ℕ → SealView
 seal_of (signed m) c t = record { protected = m.protected; unprotected = m.unprotected; proof = m.signature; structure = t }
-seal_of (maced m) c t = record { protected = m.protected; unprotected = m.unprotected; proof = m.tag; structure = t }
+seal_of (macced m) c t = record { protected = m.protected; unprotected = m.unprotected; proof = m.tag; structure = t }
 seal_of (encrypted m) c t = record { protected = m.protected; unprotected = m.unprotected; proof = c; structure = t }
 
 -- The layer carries some content `c`, and `R` holds for `c` and for the parts that keys receive.
-abbrev pub Hands : LayerView → (List ℕ → SealView → Type 0) → Type 0
-Hands l R = (c t : List ℕ) × (carried l ≡ Some c) × IsStructure (structure_of l c) t × R c (seal_of l c t)
+abbrev pub Receives : LayerView → (List ℕ → SealView → Type 0) → Type 0
+Receives l R = (c t : List ℕ) × (attached l ≡ Some c) × IsStructure (structure_of l c) t × R c (seal_of l c t)
 
 -- The keys accept the parts `s` of a layer that carries `c`. Its content `p` is `c` itself, or the decrypted plaintext.
 abbrev pub Accept : {E : Type 0} → KeysView E → LayerView → List ℕ → List ℕ → SealView → Type 0
 Accept k (signed m) p c s = k.verifies s × (p ≡ c)
-Accept k (maced m) p c s = k.verifies_tag s × (p ≡ c)
+Accept k (macced m) p c s = k.verifies_tag s × (p ≡ c)
 Accept k (encrypted m) p c s = k.decrypts s p
 
 -- The keys accept the layer `l`, and `p` is its content.
-abbrev pub Holds : {E : Type 0} → KeysView E → LayerView → List ℕ → Type 0
-Holds k l p = Hands l (λ c s. Accept k l p c s)
+abbrev pub HasContent : {E : Type 0} → KeysView E → LayerView → List ℕ → Type 0
+HasContent k l p = Receives l (λ c s. Accept k l p c s)
 
 -- The keys may return the error `e` for the layer `l`, by its form.
 abbrev pub Refuses : {E : Type 0} → KeysView E → LayerView → E → Type 0
-Refuses k l e = Hands l (λ c s. k.refuses (form_of l) s e)
+Refuses k l e = Receives l (λ c s. k.refuses (form_of l) s e)
 
 -- The result of opening a layer: its content if the keys accept it, or the reason why it isn't opened.
 abbrev pub Opens : {E : Type 0} → KeysView E → LayerView → Result (Vec ℕ Global) (GateError E) → Type 0
-Opens k l (Ok p) = Holds k l p.items
-Opens k l (Err (Token e)) = (c : List ℕ) × (carried l ≡ Some c) × HasNoImage (structure_of l c) e
-Opens k l (Err NoPayload) = carried l ≡ None
+Opens k l (Ok p) = HasContent k l p.items
+Opens k l (Err (Token e)) = (c : List ℕ) × (attached l ≡ Some c) × HasNoImage (structure_of l c) e
+Opens k l (Err NoPayload) = attached l ≡ None
 Opens k l (Err (Caller e)) = Refuses k l e
 Opens k l (Err e) = ⊥

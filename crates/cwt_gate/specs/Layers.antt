@@ -16,40 +16,40 @@ use Rattle.cwt_gate.specs.declared.form.Form.TheVariants.{Sign1, Mac0, Encrypt0}
 -- The view of a layer.
 pub data LayerView : Type 0 where
   signed : Sign1View → LayerView
-  maced : Mac0View → LayerView
+  macced : Mac0View → LayerView
   encrypted : Encrypt0View → LayerView
 
 abbrev pub layer_view : declared.Layer → LayerView
 layer_view (layers.Sign1 m) = signed (sign1_view m)
-layer_view (layers.Mac0 m) = maced (mac0_view m)
+layer_view (layers.Mac0 m) = macced (mac0_view m)
 layer_view (layers.Encrypt0 m) = encrypted (encrypt0_view m)
 
 abbrev pub form_of : LayerView → Form
 form_of (signed m) = Sign1
-form_of (maced m) = Mac0
+form_of (macced m) = Mac0
 form_of (encrypted m) = Encrypt0
 
 abbrev pub protected_of : LayerView → ProtectedView
 protected_of (signed m) = m.protected
-protected_of (maced m) = m.protected
+protected_of (macced m) = m.protected
 protected_of (encrypted m) = m.protected
 
 abbrev pub unprotected_of : LayerView → HeaderView
 unprotected_of (signed m) = m.unprotected
-unprotected_of (maced m) = m.unprotected
+unprotected_of (macced m) = m.unprotected
 unprotected_of (encrypted m) = m.unprotected
 
 -- The payload of a message with a signature or a MAC, or the ciphertext of an encrypted one.
-abbrev pub carried : LayerView → Option (List ℕ)
-carried (signed m) = m.payload
-carried (maced m) = m.payload
-carried (encrypted m) = m.ciphertext
+abbrev pub attached : LayerView → Option (List ℕ)
+attached (signed m) = m.payload
+attached (macced m) = m.payload
+attached (encrypted m) = m.ciphertext
 
 -- The structure for the layer's signature, MAC or ciphertext, if it carries `c` and `external_aad` is empty (RFC 8152,
 -- sections 4.4, 6.3 and 5.3).
 abbrev pub structure_of : LayerView → List ℕ → Option Item
 structure_of (signed m) c = sign1_structure m [] c
-structure_of (maced m) c = mac0_structure m [] c
+structure_of (macced m) c = mac0_structure m [] c
 structure_of (encrypted m) c = encrypt0_structure m []
 
 -- ---- shapes
@@ -77,19 +77,19 @@ names_form None = false
 names_form (Some t) = is_some (named_form t.0)
 
 -- Removes the tag of web tokens if the tag of a form follows (RFC 8392, section 6). Any other item stays as it is.
-abbrev pub in_cwt_tag : Item → Option (ℕ × Item) → Item
-in_cwt_tag v None = v
-in_cwt_tag v (Some t) = if t.0 == 61 then (if names_form (as_tag t.1) then t.1 else v) else v
+abbrev pub without_cwt_tag : Item → Option (ℕ × Item) → Item
+without_cwt_tag v None = v
+without_cwt_tag v (Some t) = if t.0 == 61 then (if names_form (as_tag t.1) then t.1 else v) else v
 
 -- The item of a layer. Only the outermost layer may be under the tag of web tokens.
 abbrev pub layer_item : Bool → Item → Item
-layer_item true v = in_cwt_tag v (as_tag v)
+layer_item true v = without_cwt_tag v (as_tag v)
 layer_item false v = v
 
 -- The item is the message of a layer of this form.
 abbrev pub DescribesAs : Form × Item → LayerView → Type 0
 DescribesAs (Sign1, v) (signed m) = sign1.describes v m
-DescribesAs (Mac0, v) (maced m) = mac0.describes v m
+DescribesAs (Mac0, v) (macced m) = mac0.describes v m
 DescribesAs (Encrypt0, v) (encrypted m) = encrypt0.describes v m
 DescribesAs x l = ⊥
 

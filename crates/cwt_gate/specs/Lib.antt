@@ -4,5 +4,5 @@ pub mod Gate
 pub mod Layers
 pub mod Keys
 pub mod Policy
-pub mod Door
+pub mod JudgeWith
 pub mod Texts

@@ -10,7 +10,7 @@ use Rattle.coset.specs.Claims as claims
 use Rattle.coset.specs.Headers.{HeaderView, header_of, fields_in, are_none}
 use Rattle.coset.specs.Known.{Others, known}
 use Rattle.coset.specs.LabelViews.{algorithm_view}
-use Rattle.coset.specs.Names.{Name, number, text_label, RegisteredName, as_name, same_name}
+use Rattle.coset.specs.LabelData.{LabelView, number, text_label, RegisteredLabelView, as_label, same_label}
 use Rattle.coset.specs.Shape.{Shape}
 use Rattle.coset.specs.Views.{critical_view}
 use Rattle.cwt_gate.specs.Moment.{has_expired, is_early, is_too_old}
@@ -27,10 +27,10 @@ use Rattle.cwt_gate.specs.declared.policy.Unassigned.TheVariants.{Refused, LeftO
 
 -- The view of a policy.
 pub record PolicyView : Type 0 where
-  pub signatures : List RegisteredName
-  pub macs : List RegisteredName
-  pub ciphers : List RegisteredName
-  pub critical : List RegisteredName
+  pub signatures : List RegisteredLabelView
+  pub macs : List RegisteredLabelView
+  pub ciphers : List RegisteredLabelView
+  pub critical : List RegisteredLabelView
   pub plain : Form
   pub authenticated_by : Authentication
   pub unassigned : Unassigned
@@ -82,11 +82,11 @@ is_there_and test None = false
 is_there_and test (Some x) = test x
 
 -- Returns true if the label is one of these.
-abbrev pub is_one_of : List RegisteredName → RegisteredName → Bool
-is_one_of labels l = list_any (λ m. claims.same_name m l) labels
+abbrev pub is_one_of : List RegisteredLabelView → RegisteredLabelView → Bool
+is_one_of labels l = list_any (λ m. claims.same_label m l) labels
 
 -- The algorithms that the policy allows for layers of this form.
-abbrev pub algorithms_for : PolicyView → Form → List RegisteredName
+abbrev pub algorithms_for : PolicyView → Form → List RegisteredLabelView
 algorithms_for p Sign1 = p.signatures
 algorithms_for p Mac0 = p.macs
 algorithms_for p Encrypt0 = p.ciphers
@@ -108,21 +108,21 @@ parameters (header_of f ss ts) =
     ∷ (pos 6, not (length f.partial_iv == 0)) ∷ (pos 7, not (are_none ss)) ∷ (pos 11, not (are_none ts)) ∷ (pos 12, is_some f.countersignature0_v2) ∷ []
 
 -- The number of a label, or `None` if it is a text.
-abbrev pub number_in : Name → Option ℤ
+abbrev pub number_in : LabelView → Option ℤ
 number_in (number i) = Some i
 number_in (text_label s) = None
 
 -- Returns true if the label is that of a field of the header, and the field is set.
-abbrev pub is_parameter : HeaderView → Name → Bool
+abbrev pub is_parameter : HeaderView → LabelView → Bool
 is_parameter h l = is_there_and (λ i. list_any (λ p. p.1 && int_eq p.0 i) (parameters h)) (number_in l)
 
 -- Returns true if the header has this label.
-abbrev pub has_label : HeaderView → Name → Bool
-has_label h l = is_parameter h l || list_any (λ e. same_name e.0 l) (fields_in h).rest
+abbrev pub has_label : HeaderView → LabelView → Bool
+has_label h l = is_parameter h l || list_any (λ e. same_label e.0 l) (fields_in h).rest
 
 -- Returns true if the policy has the label and the header contains it.
-abbrev pub is_understood : PolicyView → HeaderView → RegisteredName → Bool
-is_understood p h l = is_one_of p.critical l && has_label h (as_name l)
+abbrev pub is_understood : PolicyView → HeaderView → RegisteredLabelView → Bool
+is_understood p h l = is_one_of p.critical l && has_label h (as_label l)
 
 -- Returns true if each critical label of the protected header `h` is understood, and the unprotected header lists none.
 abbrev pub understands : PolicyView → HeaderView → HeaderView → Bool
@@ -142,10 +142,10 @@ authenticates AnyLayer form = true
 -- ---- claims
 
 -- Returns true if no name is wanted, or if the claims have the wanted name.
-abbrev pub is_meant : Option (List ℕ) → Option (List ℕ) → Bool
-is_meant None named = true
-is_meant (Some a) None = false
-is_meant (Some a) (Some b) = pointwise ◌==◌ a b
+abbrev pub matches_expected : Option (List ℕ) → Option (List ℕ) → Bool
+matches_expected None named = true
+matches_expected (Some a) None = false
+matches_expected (Some a) (Some b) = pointwise ◌==◌ a b
 
 -- The shape of claims by the treatment of those whose numbers are neither assigned nor for private use. They are
 -- refused, or left out and returned by label (RFC 8392, section 3).
@@ -161,8 +161,8 @@ reasons p now c =
     ∷ (is_early p.leeway now c.not_before, Gate NotYetValid)
     ∷ (p.issued && is_early p.leeway now c.issued_at, IssuedLater)
     ∷ (is_too_old p.max_age p.leeway now c.issued_at, TooOld)
-    ∷ (not (is_meant p.issuer c.issuer), Issuer)
-    ∷ (not (is_meant p.audience c.audience), Audience)
+    ∷ (not (matches_expected p.issuer c.issuer), Issuer)
+    ∷ (not (matches_expected p.audience c.audience), Audience)
     ∷ []
 
 -- The first element that is paired with true, or `None`.

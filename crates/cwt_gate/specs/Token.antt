@@ -17,13 +17,13 @@ untagged (tag t v) = v
 untagged v = v
 
 -- Returns true if the item is under the tag of web tokens, and then under that of messages with one signature.
-abbrev pub is_wrapped : Item → Bool
-is_wrapped v = is_under 61 v && is_under 18 (untagged v)
+abbrev pub is_cwt_tagged : Item → Bool
+is_cwt_tagged v = is_under 61 v && is_under 18 (untagged v)
 
 -- The item of the message in a token. It is under both tags, or under the tag of messages with one signature alone. Any
 -- other item is itself the message, even under another tag.
 abbrev pub message_in : Item → Item
-message_in v = if is_under 18 v then untagged v else (if is_wrapped v then untagged (untagged v) else v)
+message_in v = if is_under 18 v then untagged v else (if is_cwt_tagged v then untagged (untagged v) else v)
 
 -- COSE_Sign1 / #6.18(COSE_Sign1) / #6.61(#6.18(COSE_Sign1)). Writing adds no tag.
 abbrev pub token : Shape Sign1View

@@ -2,14 +2,14 @@
 //! section 3).
 
 ghost use Rattle.std.specs.Prelude.{◌≡◌};
-ghost use Rattle.coset.specs.Answers.{ReadsSlice, RefusesSlice};
+ghost use Rattle.coset.specs.Results.{ReadsSlice, RefusesSlice};
 ghost use Rattle.coset.specs.Claims.{claims_view};
 ghost use Rattle.coset.specs.Known.{known_view};
 ghost use Rattle.cwt_gate.specs.Policy.{IsFirst, claims_by, policy_view, reasons};
 
 use crate::error::{GateError, PolicyError};
 use crate::moment::{has_expired, is_early, is_too_old};
-use crate::policy::{Policy, Unassigned, is_meant};
+use crate::policy::{Policy, Unassigned, matches_expected};
 use coset::cwt::{ClaimsSet, KnownClaims};
 use coset::{CborSerializable, Result};
 use std::alloc::Global;
@@ -41,7 +41,7 @@ pub(crate) fn read_claims(
 ///
 /// # Errors
 /// The first reason against the claims.
-pub(crate) fn let_in<E: Drop>(
+pub(crate) fn check_claims<E: Drop>(
     policy: &Policy<'_>,
     now: i64,
     claims: &ClaimsSet,
@@ -63,10 +63,10 @@ pub(crate) fn let_in<E: Drop>(
     if is_too_old(policy.max_age, policy.leeway, now, &claims.issued_at) {
         return Err(PolicyError::TooOld);
     }
-    if !is_meant(&policy.issuer, &claims.issuer) {
+    if !matches_expected(&policy.issuer, &claims.issuer) {
         return Err(PolicyError::Issuer);
     }
-    if !is_meant(&policy.audience, &claims.audience) {
+    if !matches_expected(&policy.audience, &claims.audience) {
         return Err(PolicyError::Audience);
     }
     Ok(())

@@ -1,10 +1,10 @@
 //! The functions that judge tokens.
 
-ghost use Rattle.cwt_gate.specs.Door.{JudgesWith};
+ghost use Rattle.cwt_gate.specs.JudgeWith.{JudgesWith};
 ghost use Rattle.cwt_gate.specs.Gate.{Judges};
 ghost use Rattle.cwt_gate.specs.Policy.{policy_view};
 
-use crate::claims::{let_in, read_claims};
+use crate::claims::{check_claims, read_claims};
 use crate::error::{GateError, PolicyError};
 use crate::keys::Keys;
 use crate::layers::open_all;
@@ -97,6 +97,6 @@ pub fn judge_with<K: Keys>(
         Ok(known) => known,
         Err(error) => return Err(PolicyError::Gate(GateError::Claims(error))),
     };
-    let_in(policy, now, &known.claims)?;
+    check_claims(policy, now, &known.claims)?;
     Ok(known)
 }

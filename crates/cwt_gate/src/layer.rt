@@ -1,7 +1,7 @@
 //! One layer of a token: read from its bytes, and opened by the caller's keys.
 
 ghost use Rattle.std.specs.Prelude.{◌≡◌};
-ghost use Rattle.coset.specs.Answers.{ReadsSlice, RefusesSlice};
+ghost use Rattle.coset.specs.Results.{ReadsSlice, RefusesSlice};
 ghost use Rattle.coset.specs.Encrypt0.{encrypt0_view};
 ghost use Rattle.coset.specs.Mac0.{mac0_view};
 ghost use Rattle.coset.specs.Parts.{as_tag};
@@ -9,7 +9,7 @@ ghost use Rattle.coset.specs.Pulls.{pull_item};
 ghost use Rattle.coset.specs.Sign1.{sign1_view};
 ghost use Rattle.coset.specs.Views.{header_view};
 ghost use Rattle.cwt_gate.specs.Keys.{Opens};
-ghost use Rattle.cwt_gate.specs.Layers.{LayerView, encrypted, form_of, in_cwt_tag, layer, layer_item, layer_view, maced, message_in, names_form, protected_of, signed, unprotected_of};
+ghost use Rattle.cwt_gate.specs.Layers.{LayerView, encrypted, form_of, without_cwt_tag, layer, layer_item, layer_view, macced, message_in, names_form, protected_of, signed, unprotected_of};
 
 use crate::error::GateError;
 use crate::form::{Form, named_form};
@@ -47,9 +47,9 @@ fn names_form(item: Pull<'_>) -> bool
 }
 
 /// Removes the tag of web tokens if the tag of a form follows; any other item is returned as it is.
-fn in_cwt_tag(item: Pull<'_>) -> Pull<'_>
+fn without_cwt_tag(item: Pull<'_>) -> Pull<'_>
     ensures { pull_item result
-        ≡ in_cwt_tag (pull_item item.entry) (as_tag (pull_item item.entry)) }
+        ≡ without_cwt_tag (pull_item item.entry) (as_tag (pull_item item.entry)) }
 {
     match item.tag() {
         Some((number, inner)) => {
@@ -68,7 +68,11 @@ fn in_cwt_tag(item: Pull<'_>) -> Pull<'_>
 fn layer_item(outermost: bool, item: Pull<'_>) -> Pull<'_>
     ensures { pull_item result ≡ layer_item outermost (pull_item item.entry) }
 {
-    if outermost { in_cwt_tag(item) } else { item }
+    if outermost {
+        without_cwt_tag(item)
+    } else {
+        item
+    }
 }
 
 /// Returns the form that the item's tag names, and the item of the message. An item without such a
@@ -153,7 +157,7 @@ impl Layer {
     {
         match self {
             Layer::Sign1(message) => open_signed(alloc, keys, message),
-            Layer::Mac0(message) => open_maced(alloc, keys, message),
+            Layer::Mac0(message) => open_macced(alloc, keys, message),
             Layer::Encrypt0(message) => open_encrypted(alloc, keys, &message),
         }
     }
@@ -187,12 +191,12 @@ fn open_signed<K: Keys>(
 }
 
 /// Returns the payload of a message, if the keys accept its MAC.
-fn open_maced<K: Keys>(
+fn open_macced<K: Keys>(
     alloc: Global,
     keys: &K,
     mut message: CoseMac0,
 ) -> Result<Vec<u8>, GateError<K::Error>>
-    ensures { Opens (K.view keys.now) (maced (mac0_view message)) result }
+    ensures { Opens (K.view keys.now) (macced (mac0_view message)) result }
 {
     let Some(payload) = message.payload.take() else {
         return Err(GateError::NoPayload);

@@ -1,7 +1,7 @@
 //! The layers of a token, from the outermost in (RFC 8392, section 7.2).
 
 ghost use Rattle.std.specs.Prelude.{◌≡◌};
-ghost use Rattle.cwt_gate.specs.Door.{OpensAll, OpensOne};
+ghost use Rattle.cwt_gate.specs.JudgeWith.{OpensAll, OpensOne};
 ghost use Rattle.cwt_gate.specs.Layers.{begins_layer};
 ghost use Rattle.cwt_gate.specs.Policy.{policy_view};
 
@@ -13,7 +13,7 @@ use coset::laws::{signed_when_read, structure_when_read};
 use std::alloc::Global;
 
 /// The greatest number of layers that are opened.
-const MOST: usize = 4;
+const MAX_LAYERS: usize = 4;
 
 /// The content of an opened layer, or of all opened layers of a token.
 #[derive(Drop)]
@@ -83,7 +83,7 @@ pub(crate) fn open_all<K: Keys>(
     let mut opened = open_one(alloc, policy, keys, true, token)?;
     let mut layers = 1;
     while begins_layer(&opened.content) {
-        if layers == MOST {
+        if layers == MAX_LAYERS {
             return Err(PolicyError::TooDeep);
         }
         let inner = open_one(alloc, policy, keys, false, &opened.content)?;

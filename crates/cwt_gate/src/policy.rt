@@ -2,14 +2,14 @@
 
 ghost use Rattle.std.specs.Prelude.{◌≡◌, map, option_map, string_bytes};
 ghost use Rattle.coset.specs.LabelViews.{algorithm_view, entry_view};
-ghost use Rattle.coset.specs.Names.{as_name, same_name};
+ghost use Rattle.coset.specs.LabelData.{as_label, same_label};
 ghost use Rattle.coset.specs.Views.{critical_view, header_view};
-ghost use Rattle.cwt_gate.specs.Policy.{algorithms_for, allows, authenticates, has_label, is_meant, is_parameter, is_understood, number_in, parameters, policy_view, strict, understands};
+ghost use Rattle.cwt_gate.specs.Policy.{algorithms_for, allows, authenticates, has_label, matches_expected, is_parameter, is_understood, number_in, parameters, policy_view, strict, understands};
 
 use crate::form::Form;
 use coset::cbor::value::Value;
 use coset::iana::{EnumI64, HeaderParameter};
-use coset::laws::orders_tell_apart;
+use coset::laws::orders_match_equality;
 use coset::{Algorithm, Header, Label, RegisteredLabelWithPrivate};
 
 /// A critical label, which must be understood.
@@ -163,8 +163,8 @@ impl Policy<'_> {
 }
 
 /// Returns true if no name is wanted, or if the claims have the wanted name.
-pub(crate) fn is_meant(wanted: &Option<&str>, named: &Option<String>) -> bool
-    ensures { result ≡ is_meant (option_map (λ s. s.now) wanted.now)
+pub(crate) fn matches_expected(wanted: &Option<&str>, named: &Option<String>) -> bool
+    ensures { result ≡ matches_expected (option_map (λ s. s.now) wanted.now)
         (option_map string_bytes named.now) }
 {
     match (wanted, named) {
@@ -176,14 +176,14 @@ pub(crate) fn is_meant(wanted: &Option<&str>, named: &Option<String>) -> bool
 
 /// Returns true if the header has the label.
 fn has_label(header: &Header, label: &Critical) -> bool
-    ensures { result ≡ has_label (header_view header.now) (as_name (critical_view label.now)) }
+    ensures { result ≡ has_label (header_view header.now) (as_label (critical_view label.now)) }
 {
     is_parameter(header, label) || header.rest.iter().any(|pair| is_labelled(pair, label))
 }
 
 /// Returns the number of the label, or `None` if it is a text.
 fn number_of(label: &Critical) -> Option<i64>
-    ensures { result ≡ number_in (as_name (critical_view label.now)) }
+    ensures { result ≡ number_in (as_label (critical_view label.now)) }
 {
     match label {
         RegisteredLabelWithPrivate::Assigned(parameter) => Some(parameter.to_i64()),
@@ -212,7 +212,7 @@ fn parameters(header: &Header) -> [(i64, bool); 9]
 
 /// Returns true if the label is that of a field of the header, and the field is set.
 fn is_parameter(header: &Header, label: &Critical) -> bool
-    ensures { result ≡ is_parameter (header_view header.now) (as_name (critical_view label.now)) }
+    ensures { result ≡ is_parameter (header_view header.now) (as_label (critical_view label.now)) }
 {
     let Some(label) = number_of(label) else {
         return false;
@@ -224,10 +224,10 @@ fn is_parameter(header: &Header, label: &Critical) -> bool
 
 /// Returns true if the pair has this label.
 fn is_labelled(pair: &(Label, Value), label: &Critical) -> bool
-    ensures { result ≡ same_name (entry_view pair.now).0
-        (as_name (critical_view label.now)) }
+    ensures { result ≡ same_label (entry_view pair.now).0
+        (as_label (critical_view label.now)) }
 {
-    orders_tell_apart();
+    orders_match_equality();
     match (&pair.0, label) {
         (Label::Int(held), RegisteredLabelWithPrivate::Assigned(parameter)) => *held
             == parameter.to_i64(),

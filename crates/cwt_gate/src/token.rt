@@ -2,10 +2,10 @@
 //! section 6).
 
 ghost use Rattle.std.specs.Prelude.{◌≡◌};
-ghost use Rattle.coset.specs.Answers.{ReadsSlice, RefusesSlice};
+ghost use Rattle.coset.specs.Results.{ReadsSlice, RefusesSlice};
 ghost use Rattle.coset.specs.Sign1.{sign1_view};
 ghost use Rattle.coset.specs.View.{value_item};
-ghost use Rattle.cwt_gate.specs.Token.{is_under, is_wrapped, message_in, token as token_shape, untagged};
+ghost use Rattle.cwt_gate.specs.Token.{is_under, is_cwt_tagged, message_in, token as token_shape, untagged};
 
 use coset::cbor::value::Value;
 use coset::{AsCborValue, CborSerializable, CoseSign1, Result};
@@ -47,8 +47,8 @@ fn untagged(value: Value) -> Value
 
 /// Returns true if the value is under the tag of web tokens, and then under the tag of
 /// `COSE_Sign1`.
-fn is_wrapped(value: &Value) -> bool
-    ensures { result ≡ is_wrapped (value_item value.now) }
+fn is_cwt_tagged(value: &Value) -> bool
+    ensures { result ≡ is_cwt_tagged (value_item value.now) }
 {
     match value {
         Value::Tag(found, inner) => *found == CWT && is_under(COSE_SIGN1, inner),
@@ -63,7 +63,7 @@ fn message_in(value: Value) -> Value
     if is_under(COSE_SIGN1, &value) {
         return untagged(value);
     }
-    if is_wrapped(&value) {
+    if is_cwt_tagged(&value) {
         return untagged(untagged(value));
     }
     value

@@ -9,8 +9,8 @@ use Rattle.coset_value.specs.declared.value.Value.{Value}
 use Rattle.coset_codec.specs.Errors.{IsUnexpected}
 use Rattle.coset_codec.specs.Shape.{Shape, mapped, such_that, int64, bstr}
 use Rattle.coset_codec.specs.ShapeLaws.{Lawful, mapped_laws, such_that_laws, int64_laws, bstr_laws}
-use Rattle.coset_codec.specs.Maps.{Names, Fields, field, no_field, optional, labelled}
-use Rattle.coset_codec.specs.MapLaws.{LawfulNames, LawfulFields, Flat, field_laws, no_field_laws, optional_laws, labelled_laws}
+use Rattle.coset_codec.specs.Maps.{MapLabels, Fields, field, no_field, optional, labelled}
+use Rattle.coset_codec.specs.MapLaws.{LawfulMapLabels, LawfulFields, Flat, field_laws, no_field_laws, optional_laws, labelled_laws}
 use Rattle.example_types.specs.declared.settings.Name.{Name}
 use Rattle.example_types.specs.declared.settings.Settings.{Settings}
 use Rattle.example_types.specs.declared.settings.PartialSettings.{PartialSettings}
@@ -33,7 +33,7 @@ abbrev pub view : Settings → View
 view s = record { level = s.level; name = option_map (λ b. b.items) s.name; limit = s.limit; rest = map entry_view s.rest.items }
 
 -- Every 64-bit integer is a label.
-abbrev pub names : Names ℤ
+abbrev pub names : MapLabels ℤ
 names = record { shape = int64; same = int_eq }
 
 -- ? 1 => int, ? 2 => bstr, ? 4 => int
@@ -61,7 +61,7 @@ settings = mapped of_parts parts (such_that IsUnexpected HasLevel (labelled name
 
 -- The laws.
 
-pub names_laws : LawfulNames ℤ names
+pub names_laws : LawfulMapLabels ℤ names
 names_laws = record { shape = int64_laws; same_is = λ l m h. (signed_Decides l m).0 h; same_self = λ l. (signed_Decides l l).1 refl }
 
 flat_one : Flat ℤ names (pos 1)

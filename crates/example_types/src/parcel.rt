@@ -22,7 +22,7 @@ pub struct Parcel {
 }
 
 impl Codec for Parcel {
-    ghost use Rattle.coset_codec.specs.EqDecides.{bstr_decides, vec_decides, last_told, lists_decides, part_told, parts_told};
+    ghost use Rattle.coset_codec.specs.EqDecides.{bstr_decides, vec_decides, last_decides, lists_decides, part_decides, parts_decide};
     ghost use Rattle.std.specs.Cmp.{signed_Decides};
     ghost use Rattle.std.specs.Prelude.{refl};
     ghost use Rattle.example_types.specs.Parcel.{View as ParcelView, of_parts, parcel_laws, parts};
@@ -36,9 +36,10 @@ impl Codec for Parcel {
 
     ghost laws = { parcel_laws };
 
-    ghost equal = { λ a b. parts_told of_parts parts (λ x. refl)
-        (part_told (signed_Decides a.number b.number) (part_told (vec_decides a.receiver b.receiver)
-        (part_told (bstr_decides a.note b.note) (last_told (lists_decides mark_view _
+    ghost equal = { λ a b. parts_decide of_parts parts (λ x. refl)
+        (part_decides (signed_Decides a.number b.number)
+        (part_decides (vec_decides a.receiver b.receiver)
+        (part_decides (bstr_decides a.note b.note) (last_decides (lists_decides mark_view _
         (λ x y. signed_Decides x.0 y.0) a.marks.items b.marks.items))))) };
 
     fn read(alloc: Global, input: &mut Decoder<'_>) -> Result<Parcel> {

@@ -48,7 +48,7 @@ pub struct Reading {
 }
 
 impl Codec for Reading {
-    ghost use Rattle.coset_codec.specs.EqDecides.{bstr_decides, last_told, lists_decides, part_told, parts_told};
+    ghost use Rattle.coset_codec.specs.EqDecides.{bstr_decides, last_decides, lists_decides, part_decides, parts_decide};
     ghost use Rattle.std.specs.Cmp.{signed_Decides};
     ghost use Rattle.std.specs.Prelude.{refl};
     ghost use Rattle.example_types.specs.Reading.{View as ReadingView, of_parts, parts, reading_laws};
@@ -61,9 +61,10 @@ impl Codec for Reading {
 
     ghost laws = { reading_laws };
 
-    ghost equal = { λ a b. parts_told of_parts parts (λ x. refl)
-        (part_told (signed_Decides a.number b.number) (part_told (bstr_decides a.payload b.payload)
-        (last_told (lists_decides mark_view _ (λ x y. signed_Decides x.0 y.0)
+    ghost equal = { λ a b. parts_decide of_parts parts (λ x. refl)
+        (part_decides (signed_Decides a.number b.number)
+        (part_decides (bstr_decides a.payload b.payload)
+        (last_decides (lists_decides mark_view _ (λ x y. signed_Decides x.0 y.0)
         a.marks.items b.marks.items)))) };
 
     fn read(alloc: Global, input: &mut Decoder<'_>) -> Result<Reading> {

@@ -6,7 +6,7 @@
 //! report = [ sender : bstr, readings : [* reading] ]
 //! ```
 
-ghost use Rattle.coset_codec.specs.Answers.{Reads};
+ghost use Rattle.coset_codec.specs.Results.{Reads};
 ghost use Rattle.coset_codec.specs.Inputs.{state, ReadsForward};
 ghost use Rattle.example_types.specs.Report.{view, report};
 
@@ -80,7 +80,7 @@ impl Encode for Report {
 
 impl FromPull for Report {
     fn from_pull(alloc: Global, pull: Pull<'_>) -> Result<Report> {
-        read_report(alloc, &mut Decoder::new(ItemSource::Lent(pull)))
+        read_report(alloc, &mut Decoder::new(ItemSource::Borrowed(pull)))
     }
 
     fn from_input(alloc: Global, input: &mut Decoder<'_>) -> Result<Report> {

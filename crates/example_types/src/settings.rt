@@ -73,9 +73,9 @@ impl MapVisitor for PartialSettings {
     ghost use Rattle.example_types.specs.Settings.{fields, names_laws, fields_laws};
     ghost use Rattle.std.specs.Prelude.{Option, List, ℕ};
 
-    ghost Name = { ℤ };
+    ghost LabelView = { ℤ };
 
-    ghost Got = { Option ℤ × (Option (List ℕ) × (Option ℤ × Unit {0})) };
+    ghost FieldValues = { Option ℤ × (Option (List ℕ) × (Option ℤ × Unit {0})) };
 
     ghost names = { names };
 
@@ -127,7 +127,7 @@ impl Codec for Settings {
     ghost use Rattle.std.specs.Prelude.{refl};
     ghost use Rattle.coset_value.specs.SameLaws.{item_eq-decides};
     ghost use Rattle.coset_value.specs.View.{value_item};
-    ghost use Rattle.coset_codec.specs.EqDecides.{bstr_decides, lists_decides, part_told, parts_told};
+    ghost use Rattle.coset_codec.specs.EqDecides.{bstr_decides, lists_decides, part_decides, parts_decide};
     ghost use Rattle.example_types.specs.Settings.{entry_view};
     ghost use Rattle.example_types.specs.Settings.{View as SettingsView, settings_laws};
 
@@ -139,12 +139,12 @@ impl Codec for Settings {
 
     ghost laws = { settings_laws };
 
-    ghost equal = { λ a b. parts_told
+    ghost equal = { λ a b. parts_decide
         (λ p. record { level = p.0; name = p.1.0; limit = p.1.1.0; rest = p.1.1.1 })
         (λ x. (x.level, (x.name, (x.limit, x.rest)))) (λ x. refl)
-        (part_told (signed_Decides a.level b.level) (part_told (bstr_decides a.name b.name)
-        (part_told (Prim.search rules) (lists_decides entry_view _
-        (λ x y. part_told (signed_Decides x.0.0 y.0.0) (item_eq-decides (value_item x.1)
+        (part_decides (signed_Decides a.level b.level) (part_decides (bstr_decides a.name b.name)
+        (part_decides (Prim.search rules) (lists_decides entry_view _
+        (λ x y. part_decides (signed_Decides x.0.0 y.0.0) (item_eq-decides (value_item x.1)
         (value_item y.1)))
         a.rest.items b.rest.items)))) };
 

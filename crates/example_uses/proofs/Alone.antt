@@ -2,12 +2,12 @@
 use Rattle.std.proofs.Common.{◌≡◌, ◌∙◌, ℕ, ℤ, List, [], ◌∷◌, Some, None, Ok, Err, Vec, ap, inr, refl, subst}
 use Rattle.std.specs.Prelude.{IfSome}
 use Rattle.std.specs.Global.{Global}
-use Rattle.coset_codec.specs.Answers.{Describes}
+use Rattle.coset_codec.specs.Results.{Describes}
 use Rattle.coset_codec.specs.AsWritten.{WhenRead}
 use Rattle.coset_codec.specs.ReadAgain.{IsWritten}
 use Rattle.coset_codec.specs.declared.error.CallError.{CallError}
 use Rattle.coset_codec.specs.declared.error.CallError.TheVariants.{Coset, Caller}
-use Rattle.coset_label.specs.Names.{RegisteredName, assigned}
+use Rattle.coset_label.specs.LabelData.{RegisteredLabelView, assigned}
 use Rattle.coset_label.specs.Labels.{algorithm}
 use Rattle.coset_core.specs.Calls.{IsStructure}
 use Rattle.coset_core.specs.Fields.{partial_header}
@@ -37,14 +37,14 @@ mac0-has n payload t e = absurd (cc)
 
 -- The MAC that the closure made from the structure.
 pub tagged :
-    {F E : Type 0} (g : Maker F E) (f : F) (a : RegisteredName) (external_aad payload : List ℕ) (empty built : Mac0View) → empty ≡ untagged a payload
+    {F E : Type 0} (g : Maker F E) (f : F) (a : RegisteredLabelView) (external_aad payload : List ℕ) (empty built : Mac0View) → empty ≡ untagged a payload
     → IfSome empty.payload (λ p. Made g f (mac0_structure empty external_aad p) (λ t. built ≡ with_tag t.items empty))
     → Made g f (mac0_structure (untagged a payload) external_aad payload) (λ t. built ≡ with_tag t.items (untagged a payload))
 tagged g f a x p empty built is made =
     subst (λ u. IfSome u.payload (λ q. Made g f (mac0_structure u x q) (λ t. built ≡ with_tag t.items u))) is made
 
 pub is_mac_alone :
-    {F E : Type 0} (g : Maker F E) (f : F) (a : RegisteredName) (external_aad payload b : List ℕ) (empty built : Mac0View) → empty ≡ untagged a payload
+    {F E : Type 0} (g : Maker F E) (f : F) (a : RegisteredLabelView) (external_aad payload b : List ℕ) (empty built : Mac0View) → empty ≡ untagged a payload
     → IfSome empty.payload (λ p. Made g f (mac0_structure empty external_aad p) (λ t. built ≡ with_tag t.items empty)) → IsWritten mac0 built b
     → IsMacAlone g f a external_aad payload b
 is_mac_alone g f a x p b empty built is made w =
@@ -83,7 +83,7 @@ encrypt0-has n [] c e = absurd (cc)
 encrypt0-has n (b ∷ iv) c e = absurd (cc)
 
 pub is_sealed_alone :
-    {F E : Type 0} (g : Asker F (Vec ℕ Global) E) (f : F) (a : RegisteredName) (iv external_aad plaintext : List ℕ) (b : Vec ℕ Global)
+    {F E : Type 0} (g : Asker F (Vec ℕ Global) E) (f : F) (a : RegisteredLabelView) (iv external_aad plaintext : List ℕ) (b : Vec ℕ Global)
     (empty built : Encrypt0View) → empty ≡ unsealed a iv
     → MadeOf g f plaintext (encrypt0_structure empty external_aad) (λ c. built ≡ with_ciphertext c.items empty) → IsWritten encrypt0 built b.items
     → EncryptsAlone g f a iv external_aad plaintext (Ok b)

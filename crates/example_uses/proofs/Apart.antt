@@ -2,12 +2,12 @@
 use Rattle.std.proofs.Common.{◌≡◌, ◌∙◌, ℕ, ℤ, List, Bool, true, false, Option, Some, None, Err, Vec, Global, ap, inl, is_some, option_map, refl, subst}
 use Rattle.std.proofs.Common.{sym, true≢false}
 use Rattle.std.specs.Prelude.{◌≢◌}
-use Rattle.coset_codec.specs.Answers.{Describes}
+use Rattle.coset_codec.specs.Results.{Describes}
 use Rattle.coset_codec.specs.AsWritten.{WhenRead}
 use Rattle.coset_codec.specs.ReadAgain.{IsWritten}
 use Rattle.coset_codec.specs.declared.error.CallError.{CallError}
 use Rattle.coset_codec.specs.declared.error.CallError.TheVariants.{Coset, Caller}
-use Rattle.coset_label.specs.Names.{RegisteredName, assigned}
+use Rattle.coset_label.specs.LabelData.{RegisteredLabelView, assigned}
 use Rattle.coset_label.specs.Labels.{algorithm}
 use Rattle.coset_core.specs.Calls.{IsStructure}
 use Rattle.coset_core.specs.Fields.{partial_header}
@@ -22,7 +22,7 @@ use Rattle.example_uses.proofs.Spellings.{only_memory}
 -- ---- making a message
 
 pub signed_apart :
-    {F E : Type 0} (g : Maker F E) (f : F) (a : RegisteredName) (external_aad payload b : List ℕ) (unsigned built : Sign1View) → unsigned ≡ apart a
+    {F E : Type 0} (g : Maker F E) (f : F) (a : RegisteredLabelView) (external_aad payload b : List ℕ) (unsigned built : Sign1View) → unsigned ≡ apart a
     → Made g f (sign1_structure unsigned external_aad payload) (λ s. built ≡ with_signature s.items unsigned) → IsWritten sign1 built b
     → IsSignedApart g f a external_aad payload b
 signed_apart g f a x p b unsigned built is m w =

@@ -5,7 +5,7 @@ use Rattle.std.proofs.Common.{sym, subst, true, true≢false}
 use Rattle.std.specs.Prelude.{IfErr, IfOk, IfSome, IsOk}
 use Rattle.std.specs.Borrow.{Bor}
 use Rattle.coset_value.specs.Item.{Item}
-use Rattle.coset_codec.specs.Answers.{Describes}
+use Rattle.coset_codec.specs.Results.{Describes}
 use Rattle.coset_codec.specs.AsWritten.{WhenRead}
 use Rattle.coset_codec.specs.Encoding.{HasNoImage}
 use Rattle.coset_codec.specs.declared.error.CallError.{CallError}
@@ -17,7 +17,7 @@ use Rattle.coset_msg.specs.EncStructure.{Encrypts}
 use Rattle.coset_msg.specs.declared.enc_structure.EncryptionContext.TheVariants.{CoseEncrypt0}
 use Rattle.coset_msg.specs.Encrypt0.{Encrypt0View, encrypt0, encrypt0_structure}
 use Rattle.coset_core.specs.Calls.{IsStructure}
-use Rattle.coset_sign.specs.Sign1.{Sign1View, sign1, sign1_carried, sign1_structure}
+use Rattle.coset_sign.specs.Sign1.{Sign1View, sign1, sign1_attached, sign1_structure}
 use Rattle.example_uses.specs.Exchange.{CarriesSame, IsSent}
 use Rattle.example_uses.specs.Oscore.{IsDecrypted}
 use Rattle.example_uses.specs.Refusals.{IsNotDecrypted, IsNotOpened, IsNotSent, IsNotVerified, unsigned}
@@ -68,7 +68,7 @@ module _ (ERR : Bor (List ℕ) → Bor (List ℕ) → Refused → Type 0) (accep
   -- Why a message that was read isn't verified.
   pub not_verified :
       ((external_aad payload : List ℕ) → WhenRead sign1 (λ m. sign1_structure m external_aad payload ≡ None → ⊥))
-      → (external_aad b : List ℕ) (m : Sign1View) (e : CallError Refused) → Describes sign1 b m → Denied ERR m.signature (sign1_carried m external_aad) e
+      → (external_aad b : List ℕ) (m : Sign1View) (e : CallError Refused) → Describes sign1 b m → Denied ERR m.signature (sign1_attached m external_aad) e
       → Refuses → IsNotVerified accepts external_aad b e
   not_verified law a b m (Coset e) d asked says = λ other. absurd (law a _ d.0 m d.2 (asked other).1)
   not_verified law a b m (Caller r) d asked says =
@@ -78,7 +78,7 @@ module _ (ERR : Bor (List ℕ) → Bor (List ℕ) → Refused → Type 0) (accep
   -- A message that was sent is refused only with `OutOfMemory`.
   pub memory_alone :
       ShortestIsInRange → LeastIsShortest → {a payload b : List ℕ} (sent : IsSent accepts a payload b) (n : Sign1View) → CarriesSame n sent.message
-      → (e : CallError Refused) → Denied ERR n.signature (sign1_carried n a) e → Refuses → e ≡ Coset OutOfMemory
+      → (e : CallError Refused) → Denied ERR n.signature (sign1_attached n a) e → Refuses → e ≡ Coset OutOfMemory
   memory_alone in_range least {a} sent n same (Coset e) asked says = ap Coset (only_memory e (λ other. has_structure sent n same (asked other).1))
   memory_alone in_range least {a} sent n same (Caller r) asked says =
       absurd (true≢false (sym ((judged says n.signature asked.0 r asked.2).accepted.1 (is_accepted in_range least sent n same asked.0 asked.1))))
@@ -107,12 +107,12 @@ module _ (signs : List ℕ → List ℕ → Type 0) (refuses : List ℕ → Refu
   pub not_signed :
       {ERR : Bor (List ℕ) → Refused → Type 0} (external_aad : List ℕ) (h : HeaderView) (payload : List ℕ) (m : Sign1View) → m ≡ unsigned h payload
       → (e : CallError Refused)
-      → DeniedOne ERR (sign1_carried m external_aad) e → ((p : Bor (List ℕ)) (r : Refused) → ERR p r → Signs signs refuses p.now (Err r))
+      → DeniedOne ERR (sign1_attached m external_aad) e → ((p : Bor (List ℕ)) (r : Refused) → ERR p r → Signs signs refuses p.now (Err r))
       → IsNotSent refuses external_aad h payload e
-  not_signed a h payload m is (Coset e) tried says = inl (subst (λ x. HasNoImage (sign1_carried x a) e) is tried)
+  not_signed a h payload m is (Coset e) tried says = inl (subst (λ x. HasNoImage (sign1_attached x a) e) is tried)
   not_signed a h payload m is (Caller r) tried says = (
     tried.0,
-    subst (λ x. IsStructure (sign1_carried x a) tried.0) is tried.1,
+    subst (λ x. IsStructure (sign1_attached x a) tried.0) is tried.1,
     (at_one (λ x. Signs signs refuses x (Err r)) (λ p k. says p r k) tried.0 tried.2).refused,
   )
 

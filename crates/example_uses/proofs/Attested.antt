@@ -10,7 +10,7 @@ use Rattle.coset_codec.specs.declared.error.CoseError.TheVariants.{OutOfMemory}
 use Rattle.coset_value.specs.Item.{Item}
 use Rattle.coset_value.specs.View.{value_item, value_pairs}
 use Rattle.coset_value.specs.declared.value.Value.{Value}
-use Rattle.cwt_gate.specs.Door.{JudgesWith}
+use Rattle.cwt_gate.specs.JudgeWith.{JudgesWith}
 use Rattle.cwt_gate.specs.Keys.{KeysView}
 use Rattle.cwt_gate.specs.declared.error.PolicyError.{PolicyError}
 use Rattle.example_uses.specs.Attestation.{JudgesAttestation, ReadsSubmodule, attestation_policy, held_under, is_text, submodule_of}

@@ -1,7 +1,7 @@
 -- Countersignatures in a message, and their structures.
 use Rattle.std.proofs.Common.{◌≡◌, ◌∙◌, ℕ, List, [], ◌∷◌, Option, Some, None, Err, map, option_map, ap, inl, inr, refl, subst, sym}
 use Rattle.std.specs.Borrow.{Bor}
-use Rattle.coset_codec.specs.Answers.{Describes}
+use Rattle.coset_codec.specs.Results.{Describes}
 use Rattle.coset_codec.specs.AsWritten.{WhenRead}
 use Rattle.coset_codec.specs.declared.error.CallError.{CallError}
 use Rattle.coset_codec.specs.declared.error.CallError.TheVariants.{Coset, Caller}

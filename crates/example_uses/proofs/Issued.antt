@@ -2,12 +2,12 @@
 use Rattle.std.proofs.Common.{◌≡◌, ℕ, ℤ, List, [], ◌∷◌, ◌++◌, Option, Some, None, Result, Ok, Err, true, option_map, refl, subst, inl, inr}
 use Rattle.std.specs.Prelude.{IfErr}
 use Rattle.coset_value.specs.Item.{Item, Items, array, bytes, dict, item}
-use Rattle.coset_codec.specs.Maps.{entries_image, named_image}
+use Rattle.coset_codec.specs.Maps.{entries_image, labelled_image}
 use Rattle.coset_codec.specs.ReadAgain.{IsWritten}
 use Rattle.coset_codec.specs.Shape.{both, bstr, tstr}
 use Rattle.coset_codec.specs.declared.error.CallError.{CallError}
 use Rattle.coset_codec.specs.declared.error.CallError.TheVariants.{Coset, Caller}
-use Rattle.coset_label.specs.Names.{RegisteredName, assigned, private_use, text_name}
+use Rattle.coset_label.specs.LabelData.{RegisteredLabelView, assigned, private_use, text_name}
 use Rattle.coset_core.specs.Built.{with_algorithm}
 use Rattle.coset_core.specs.Fields.{partial_header}
 use Rattle.coset_core.specs.Headers.{HeaderView, empty_header, layered_header, layered_protected, protected_bytes}
@@ -16,7 +16,7 @@ use Rattle.coset_claims.specs.Claims.{ClaimsView, FieldTuple, claim_name, claims
 use Rattle.coset_claims.specs.Timestamp.{TimestampView, fractional_seconds, timestamp, whole_seconds}
 use Rattle.coset_codec.proofs.EncodingMaps.{optional-has}
 use Rattle.coset_sign.specs.SignatureStructure.{signature_structure}
-use Rattle.coset_sign.specs.Sign1.{sign1, sign1_carried, with_signature}
+use Rattle.coset_sign.specs.Sign1.{sign1, sign1_attached, with_signature}
 use Rattle.coset_sign.specs.declared.signature.SignatureContext.TheVariants.{CoseSign1}
 use Rattle.example_uses.specs.Refusals.{IsNotIssued, IsNotSent, unsigned}
 use Rattle.example_uses.specs.declared.cipher.Refused.{Refused}
@@ -32,7 +32,7 @@ unwritten f (Some b) vs e = absurd (cc)
 
 -- A message without an image has no structure either.
 pub unsigned_unwritten : (h : HeaderView) (payload s external_aad : List ℕ) → sign1.image (with_signature s (unsigned h payload)) ≡ None
-    → sign1_carried (unsigned h payload) external_aad ≡ None
+    → sign1_attached (unsigned h payload) external_aad ≡ None
 unfolding layered_protected layered_header partial_header
 unsigned_unwritten h payload s a e = unwritten (λ p. signature_structure CoseSign1 p None a payload) (protected_bytes (unread h)) _ e
 
@@ -67,19 +67,20 @@ fields-have x =
     (both-has _ _ _ (optional-has _ moment-has x.1.1.1.1.0)
     (both-has _ _ _ (optional-has _ moment-has x.1.1.1.1.1.0) (both-has _ _ _ (optional-has _ bytes-have x.1.1.1.1.1.1.0) (λ e. absurd (cc))))))))
 
-name-has : (l : RegisteredName) → claim_name.image l ≡ None → ⊥
+name-has : (l : RegisteredLabelView) → claim_name.image l ≡ None → ⊥
 unfolding claim_name
 name-has (assigned i) e = absurd (cc)
 name-has (private_use i) e = absurd (cc)
 name-has (text_name s) e = absurd (cc)
 
-rest-has : (es : List (RegisteredName × Item)) → named_image claim_name.image es ≡ None → ⊥
+rest-has : (es : List (RegisteredLabelView × Item)) → labelled_image claim_name.image es ≡ None → ⊥
 rest-has [] e = absurd (cc)
 rest-has (x ∷ es) e = both-has _ _ _ (name-has x.0) (rest-has es) e
 
-entries-have : (rest : List (RegisteredName × Item)) (o : Option (List (RegisteredName × Item))) → (o ≡ None → ⊥) → entries_image names true rest o ≡ None → ⊥
+entries-have : (rest : List (RegisteredLabelView × Item)) (o : Option (List (RegisteredLabelView × Item))) → (o ≡ None → ⊥) → entries_image names true rest o
+    ≡ None → ⊥
 entries-have rest None h e = h refl
-entries-have rest (Some es) h e = mapped-has dict (named_image claim_name.image (es ++ rest)) (rest-has (es ++ rest)) e
+entries-have rest (Some es) h e = mapped-has dict (labelled_image claim_name.image (es ++ rest)) (rest-has (es ++ rest)) e
 
 pub claims-have : (c : ClaimsView) → claims.image c ≡ None → ⊥
 unfolding claims

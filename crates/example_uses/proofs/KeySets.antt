@@ -9,7 +9,7 @@ use Rattle.std.proofs.Common.{◌≡◌, ◌≤◌, ◌++◌, ℕ, List, [], ◌
 use Rattle.std.proofs.lemmas.List.Elements.{Contains-append_right}
 use Rattle.std.proofs.lemmas.Slice.Eq.{bytes_eq-Decides, slice_eq-Decides}
 use Rattle.coset_value.specs.Item.{Item, depth}
-use Rattle.coset_codec.specs.Answers.{Writes}
+use Rattle.coset_codec.specs.Results.{Writes}
 use Rattle.coset_codec.specs.Errors.{UnlessMemory}
 use Rattle.coset_codec.specs.Lists.{EachWith}
 use Rattle.coset_codec.specs.ReadAgain.{ReadsAgain}
@@ -17,7 +17,7 @@ use Rattle.coset_codec.specs.ShapeLaws.{some-none}
 use Rattle.coset_codec.specs.declared.error.CoseError.{CoseError}
 use Rattle.coset_codec.specs.declared.error.CoseError.TheVariants.{OutOfMemory}
 use Rattle.coset_label.specs.declared.ordering.CborOrdering.{CborOrdering}
-use Rattle.coset_key.specs.Canonical.{AgreeButForOrder, CanonicalApart}
+use Rattle.coset_key.specs.Canonical.{AgreeButForOrder, CanonicalInjective}
 use Rattle.coset_key.specs.Keys.{KeyView, key}
 use Rattle.example_uses.specs.KeySets.{IsHeldOf}
 use Rattle.example_uses.proofs.Spellings.{only_memory}
@@ -34,7 +34,7 @@ others k ks r = λ x m. r x (Contains-append_right (k ∷ []) ks x m)
 
 -- The stored bytes of two sets are the same exactly if their keys agree one by one.
 pub each_apart :
-    (o : CborOrdering) → CanonicalApart o → (ks ls : List KeyView) (bs cs : List (List ℕ)) → AreRead ks → AreRead ls
+    (o : CborOrdering) → CanonicalInjective o → (ks ls : List KeyView) (bs cs : List (List ℕ)) → AreRead ks → AreRead ls
     → EachWith (IsHeldOf o) ks bs → EachWith (IsHeldOf o) ls cs → (bs ≡ cs) ↔ EachWith AgreeButForOrder ks ls
 each_apart o apart [] [] [] [] r s h j = (λ e. tt, λ a. refl)
 each_apart o apart [] (l ∷ ls) [] (c ∷ cs) r s h j = (λ e. absurd (cc), λ a. absurd a)

@@ -4,9 +4,9 @@ use Rattle.std.specs.Cmp.Lexicographic.{bytes_decides}
 use Rattle.std.proofs.Common.{◌≡◌, ◌∷◌, ℕ, ℤ, List, [], Bool, Option, Some, None, Result, Ok, Err, ap, refl, sym, true, false, true≢false}
 use Rattle.coset_claims.specs.Claims.{claims_view}
 use Rattle.coset_claims.specs.declared.known.KnownClaims.{KnownClaims}
-use Rattle.cwt_gate.specs.Door.{JudgesWith}
+use Rattle.cwt_gate.specs.JudgeWith.{JudgesWith}
 use Rattle.cwt_gate.specs.Keys.{KeysView}
-use Rattle.cwt_gate.specs.Policy.{first_true, is_meant, reasons}
+use Rattle.cwt_gate.specs.Policy.{first_true, matches_expected, reasons}
 use Rattle.cwt_gate.specs.declared.error.PolicyError.{PolicyError}
 use Rattle.example_uses.specs.LetIn.{IsLetIn, policy_of}
 
@@ -25,7 +25,7 @@ not-false true e = refl
 not-false false e = absurd (true≢false e)
 
 -- If the policy has an audience, the claims name it.
-meant : (a : List ℕ) (named : Option (List ℕ)) → is_meant (Some a) named ≡ true → named ≡ Some a
+meant : (a : List ℕ) (named : Option (List ℕ)) → matches_expected (Some a) named ≡ true → named ≡ Some a
 meant a None e = absurd (true≢false (sym e))
 meant a (Some b) e = ap Some (sym ((bytes_decides a b).0 e))
 

@@ -13,15 +13,15 @@ use Rattle.coset_iana.specs.Registry.{first_numbered}
 use Rattle.coset_iana.specs.declared.algorithms.Algorithm.{Algorithm}
 use Rattle.coset_iana.specs.declared.algorithms.Algorithm.TheVariants.{RS1}
 use Rattle.coset_iana.specs.declared.algorithms.TheConstants.{ALGORITHMS}
-use Rattle.coset_codec.specs.Answers.{Describes}
+use Rattle.coset_codec.specs.Results.{Describes}
 use Rattle.coset_codec.specs.ReadAgain.{IsWritten}
 use Rattle.coset_codec.specs.ShapeLaws.{some-one}
-use Rattle.coset_label.specs.Names.{number, assigned}
+use Rattle.coset_label.specs.LabelData.{number, assigned}
 use Rattle.coset_label.specs.Labels.{algorithm}
 use Rattle.coset_core.specs.Built.{with_algorithm}
 use Rattle.coset_core.specs.Fields.{partial_header}
 use Rattle.coset_core.specs.Headers.{HeaderView, empty_header, header, layered_header, layered_protected, protected}
-use Rattle.coset_sign.specs.Sign1.{Sign1View, sign1, sign1_carried, with_signature}
+use Rattle.coset_sign.specs.Sign1.{Sign1View, sign1, sign1_attached, with_signature}
 use Rattle.example_uses.specs.Refusals.{unsigned}
 
 -- The number of an algorithm.
@@ -142,6 +142,6 @@ is_read n is payload s b w =
     )
 
 -- A structure exists.
-pub has_signed : (n : ℤ) (payload external_aad : List ℕ) → sign1_carried (unsigned (naming n) payload) external_aad ≡ None → ⊥
+pub has_signed : (n : ℤ) (payload external_aad : List ℕ) → sign1_attached (unsigned (naming n) payload) external_aad ≡ None → ⊥
 unfolding partial_header algorithm
 has_signed n payload external_aad e = absurd (cc)

@@ -2,12 +2,12 @@
 use Rattle.std.proofs.Common.{◌≡◌, ℕ, ℤ, List, [], ◌∷◌, Some, None, Err, inr, refl, subst, true}
 use Rattle.std.specs.List.{list_any}
 use Rattle.std.specs.Prelude.{IfSome}
-use Rattle.coset_codec.specs.Answers.{Describes}
+use Rattle.coset_codec.specs.Results.{Describes}
 use Rattle.coset_codec.specs.AsWritten.{WhenRead}
 use Rattle.coset_codec.specs.ReadAgain.{IsWritten}
 use Rattle.coset_codec.specs.declared.error.CallError.{CallError}
 use Rattle.coset_codec.specs.declared.error.CallError.TheVariants.{Coset, Caller}
-use Rattle.coset_label.specs.Names.{RegisteredName, assigned}
+use Rattle.coset_label.specs.LabelData.{RegisteredLabelView, assigned}
 use Rattle.coset_label.specs.Labels.{algorithm}
 use Rattle.coset_core.specs.Fields.{partial_header}
 use Rattle.coset_core.specs.Headers.{layered_header, layered_protected}
@@ -24,7 +24,7 @@ use Rattle.example_uses.proofs.Spellings.{only_memory}
 
 -- The MAC that the closure made from the structure.
 pub tagged :
-    {F E : Type 0} (g : Maker F E) (f : F) (a : RegisteredName) (key_id external_aad payload : List ℕ) (untagged built : MacView)
+    {F E : Type 0} (g : Maker F E) (f : F) (a : RegisteredLabelView) (key_id external_aad payload : List ℕ) (untagged built : MacView)
     → untagged ≡ shared_with a key_id payload
     → IfSome untagged.payload (λ p. Made g f (mac_structure_of untagged external_aad p) (λ t. built ≡ with_tag t.items untagged))
     → Made g f (mac_structure_of (shared_with a key_id payload) external_aad payload) (λ t. built ≡ with_tag t.items (shared_with a key_id payload))
@@ -32,7 +32,7 @@ tagged g f a k x p untagged built is made =
     subst (λ u. IfSome u.payload (λ q. Made g f (mac_structure_of u x q) (λ t. built ≡ with_tag t.items u))) is made
 
 pub is_mac_for :
-    {F E : Type 0} (g : Maker F E) (f : F) (a : RegisteredName) (key_id external_aad payload b : List ℕ) (untagged built : MacView)
+    {F E : Type 0} (g : Maker F E) (f : F) (a : RegisteredLabelView) (key_id external_aad payload b : List ℕ) (untagged built : MacView)
     → untagged ≡ shared_with a key_id payload
     → IfSome untagged.payload (λ p. Made g f (mac_structure_of untagged external_aad p) (λ t. built ≡ with_tag t.items untagged)) → IsWritten mac built b
     → IsMacFor g f a key_id external_aad payload b

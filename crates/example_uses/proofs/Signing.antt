@@ -4,7 +4,7 @@ use Rattle.std.proofs.Common.{ap, arith, inl, inr, refl, subst}
 use Rattle.std.specs.List.{find, position_from, slice_get}
 use Rattle.std.proofs.lemmas.List.{length-map}
 use Rattle.std.proofs.lemmas.Option.{slice_get_within}
-use Rattle.coset_codec.specs.Answers.{Describes}
+use Rattle.coset_codec.specs.Results.{Describes}
 use Rattle.coset_codec.specs.AsWritten.{WhenRead}
 use Rattle.coset_codec.specs.Encoding.{HasNoImage}
 use Rattle.coset_codec.specs.Lists.{EachHas}
@@ -14,7 +14,7 @@ use Rattle.coset_codec.specs.declared.error.CallError.{CallError}
 use Rattle.coset_codec.specs.declared.error.CallError.TheVariants.{Coset, Caller}
 use Rattle.coset_core.specs.Calls.{IsStructure}
 use Rattle.coset_core.specs.Headers.{SignatureView}
-use Rattle.coset_sign.specs.Sign.{EachSigns, SignView, and_signature, sign, signed_with, signer_carried, signer_structure}
+use Rattle.coset_sign.specs.Sign.{EachSigns, SignView, push_signature, sign, signed_with, signer_attached, signer_structure}
 use Rattle.coset_sign.specs.Signed.{or_empty}
 use Rattle.example_uses.specs.Asked.{Asker, Maker}
 use Rattle.example_uses.specs.Signers.{IsSignedByTwo, SignsByTwo, VerifiesBy, is_by, signature_by, signed_by}
@@ -25,47 +25,47 @@ use Rattle.example_uses.proofs.Calls.{Made, NotMade, NotSaid}
 module _ {F H E : Type 0} (g : Maker F E) (f : F) (k : Maker H E) (h : H) (external_aad payload : List ℕ) (first second : SignatureView) where
   pub signed_by_two :
       (b : List ℕ) (unsigned once twice : SignView) → unsigned ≡ signed_by payload []
-      → Made g f (signer_carried unsigned first external_aad) (λ s. once ≡ and_signature (signed_with s.items first) unsigned)
-      → Made k h (signer_carried once second external_aad) (λ t. twice ≡ and_signature (signed_with t.items second) once) → IsWritten sign twice b
+      → Made g f (signer_attached unsigned first external_aad) (λ s. once ≡ push_signature (signed_with s.items first) unsigned)
+      → Made k h (signer_attached once second external_aad) (λ t. twice ≡ push_signature (signed_with t.items second) once) → IsWritten sign twice b
       → IsSignedByTwo g f k h external_aad payload first second b
   signed_by_two b unsigned once twice is m n w =
       let s = m.1.items in
       let t = n.1.items in
-      let one : once ≡ signed_by payload (signed_with s first ∷ []) = m.4 ∙ ap (and_signature (signed_with s first)) is in
-      let two : twice ≡ signed_by payload (signed_with s first ∷ signed_with t second ∷ []) = n.4 ∙ ap (and_signature (signed_with t second)) one in (
+      let one : once ≡ signed_by payload (signed_with s first ∷ []) = m.4 ∙ ap (push_signature (signed_with s first)) is in
+      let two : twice ≡ signed_by payload (signed_with s first ∷ signed_with t second ∷ []) = n.4 ∙ ap (push_signature (signed_with t second)) one in (
         s,
         t,
         subst (λ o. IsWritten sign o b) two w,
-        (m.0, m.1, subst (λ o. IsStructure (signer_carried o first external_aad) m.0) is m.2, m.3, refl),
-        (n.0, n.1, subst (λ o. IsStructure (signer_carried o second external_aad) n.0) one n.2, n.3, refl),
+        (m.0, m.1, subst (λ o. IsStructure (signer_attached o first external_aad) m.0) is m.2, m.3, refl),
+        (n.0, n.1, subst (λ o. IsStructure (signer_attached o second external_aad) n.0) one n.2, n.3, refl),
       )
 
   -- The first signer refuses, or has no structure.
   pub first_refused :
-      (unsigned : SignView) → unsigned ≡ signed_by payload [] → (e : CallError E) → NotMade g f (signer_carried unsigned first external_aad) e
+      (unsigned : SignView) → unsigned ≡ signed_by payload [] → (e : CallError E) → NotMade g f (signer_attached unsigned first external_aad) e
       → SignsByTwo g f k h external_aad payload first second (Err e)
-  first_refused unsigned is (Coset e) tried = inl (subst (λ m. HasNoImage (signer_carried m first external_aad) e) is tried)
+  first_refused unsigned is (Coset e) tried = inl (subst (λ m. HasNoImage (signer_attached m first external_aad) e) is tried)
   first_refused unsigned is (Caller e) tried =
-      inl (tried.0, subst (λ m. IsStructure (signer_carried m first external_aad) tried.0) is tried.1, tried.2)
+      inl (tried.0, subst (λ m. IsStructure (signer_attached m first external_aad) tried.0) is tried.1, tried.2)
 
   -- The second signer does.
   pub second_refused :
-      (unsigned once : SignView) (s : List ℕ) → unsigned ≡ signed_by payload [] → once ≡ and_signature (signed_with s first) unsigned
-      → (e : CallError E) → NotMade k h (signer_carried once second external_aad) e → SignsByTwo g f k h external_aad payload first second (Err e)
+      (unsigned once : SignView) (s : List ℕ) → unsigned ≡ signed_by payload [] → once ≡ push_signature (signed_with s first) unsigned
+      → (e : CallError E) → NotMade k h (signer_attached once second external_aad) e → SignsByTwo g f k h external_aad payload first second (Err e)
   second_refused unsigned once s is made (Coset e) tried =
-      let one : once ≡ signed_by payload (signed_with s first ∷ []) = made ∙ ap (and_signature (signed_with s first)) is in
-      inr (inl (subst (λ m. HasNoImage (signer_carried m second external_aad) e) one tried))
+      let one : once ≡ signed_by payload (signed_with s first ∷ []) = made ∙ ap (push_signature (signed_with s first)) is in
+      inr (inl (subst (λ m. HasNoImage (signer_attached m second external_aad) e) one tried))
   second_refused unsigned once s is made (Caller e) tried =
-      let one : once ≡ signed_by payload (signed_with s first ∷ []) = made ∙ ap (and_signature (signed_with s first)) is in
-      inr (tried.0, subst (λ m. IsStructure (signer_carried m second external_aad) tried.0) one tried.1, tried.2)
+      let one : once ≡ signed_by payload (signed_with s first ∷ []) = made ∙ ap (push_signature (signed_with s first)) is in
+      inr (tried.0, subst (λ m. IsStructure (signer_attached m second external_aad) tried.0) one tried.1, tried.2)
 
 -- The message with both signatures.
 pub both_signed :
     (payload s t : List ℕ) (first second : SignatureView) (unsigned once twice : SignView) → unsigned ≡ signed_by payload []
-    → once ≡ and_signature (signed_with s first) unsigned → twice ≡ and_signature (signed_with t second) once
+    → once ≡ push_signature (signed_with s first) unsigned → twice ≡ push_signature (signed_with t second) once
     → twice ≡ signed_by payload (signed_with s first ∷ signed_with t second ∷ [])
 both_signed payload s t first second unsigned once twice is one two =
-    two ∙ ap (λ m. and_signature (signed_with t second) m) (one ∙ ap (and_signature (signed_with s first)) is)
+    two ∙ ap (λ m. push_signature (signed_with t second) m) (one ∙ ap (push_signature (signed_with s first)) is)
 
 -- ---- the first element of a list that passes a test, and its index
 
@@ -125,7 +125,7 @@ within f xs i y e =
 module _ {F E : Type 0} (g : Asker F (Unit {0}) E) (f : F) where
   pub not_verified_by :
       WhenRead sign EachSigns → (key_id external_aad b : List ℕ) (absent : E) (m : SignView) (s : SignatureView) → Describes sign b m
-      → signature_by key_id m.signatures ≡ Some s → (e : CallError E) → NotSaid g f s.signature (signer_carried m s external_aad) e
+      → signature_by key_id m.signatures ≡ Some s → (e : CallError E) → NotSaid g f s.signature (signer_attached m s external_aad) e
       → VerifiesBy g f key_id external_aad absent b (Err e)
   not_verified_by law key_id x b absent m s d found (Coset e) asked =
       let signs = of_found (is_by key_id) (λ t. (a p : List ℕ) → signer_structure m t a p ≡ None → ⊥) m.signatures s (law _ m d.2) found in

@@ -6,7 +6,7 @@ use Rattle.coset_value.specs.Range.{IsInRange}
 use Rattle.coset_cbor.specs.Grammar.{IsEncoding}
 use Rattle.coset_cbor.specs.Least.{least_encoding}
 use Rattle.coset_cbor.specs.Shortest.{IsShortest}
-use Rattle.coset_codec.specs.Answers.{Describes}
+use Rattle.coset_codec.specs.Results.{Describes}
 use Rattle.coset_codec.specs.AsWritten.{AsWritten}
 use Rattle.coset_codec.specs.ReadAgain.{IsWritten}
 use Rattle.coset_codec.specs.Shape.{Shape}
@@ -18,7 +18,7 @@ use Rattle.coset_codec.specs.declared.error.CoseError.TheVariants.{UnexpectedIte
 use Rattle.coset_codec.proofs.Whole.{OneItem, one_of}
 use Rattle.coset_codec.specs.ShapeLaws.{some-none, some-one}
 use Rattle.coset_core.specs.Calls.{IsStructure}
-use Rattle.coset_sign.specs.Sign1.{Sign1View, sign1, sign1_carried, sign1_structure}
+use Rattle.coset_sign.specs.Sign1.{Sign1View, sign1, sign1_attached, sign1_structure}
 use Rattle.coset_sign.specs.Signed.{SignsSame, or_empty}
 use Rattle.coset_sign.specs.declared.signature.SignatureContext.TheVariants.{CoseSign1}
 use Rattle.example_uses.specs.Exchange.{Arrives, CarriesSame, IsSent, IsSpelling, Respells}
@@ -47,8 +47,8 @@ passed_on e (Err x) is h = is ∙ ap Coset (only_memory e h)
 abbrev pub SignedAsWritten : Type 0
 SignedAsWritten = (v : Item) (m n : Sign1View) → sign1.image m ≡ Some v → sign1.describes v n → SignsSame n.protected m.protected
 
-abbrev pub CarriedAsWritten : Type 0
-CarriedAsWritten = (v : Item) (m n : Sign1View) → sign1.image m ≡ Some v → sign1.describes v n → (n.payload ≡ m.payload) × (n.signature ≡ m.signature)
+abbrev pub AttachedAsWritten : Type 0
+AttachedAsWritten = (v : Item) (m n : Sign1View) → sign1.image m ≡ Some v → sign1.describes v n → (n.payload ≡ m.payload) × (n.signature ≡ m.signature)
 
 abbrev pub ShortestIsEncoding : Type 0
 ShortestIsEncoding = (v : Item) (b : List ℕ) → IsShortest b v → IsEncoding v b
@@ -66,7 +66,7 @@ pub arrives : {A : Type 0} (shape : Shape A) (R : A → A → Type 0) → OneIte
 arrives shape R one encoding law b t m n w s d = law w.0 m n w.1 (same_item shape one encoding b t m n w s d)
 
 pub carries_same :
-    OneItem → ShortestIsEncoding → SignedAsWritten → CarriedAsWritten → (b t : List ℕ) (m n : Sign1View) → IsWritten sign1 m b → IsSpelling b t
+    OneItem → ShortestIsEncoding → SignedAsWritten → AttachedAsWritten → (b t : List ℕ) (m n : Sign1View) → IsWritten sign1 m b → IsSpelling b t
     → Describes sign1 t n → CarriesSame n m
 carries_same one encoding signs carries b t m n w s d =
     let read = same_item sign1 one encoding b t m n w s d in
@@ -91,16 +91,16 @@ same_bytes in_range least o p b c e h k =
 
 -- A message that was sent has a structure.
 pub has_structure : {accepts : List ℕ → List ℕ → Type 0} {a payload b : List ℕ} (s : IsSent accepts a payload b) (n : Sign1View) → CarriesSame n s.message
-    → sign1_carried n a ≡ None → ⊥
+    → sign1_attached n a ≡ None → ⊥
 has_structure {a = a} s n same e = some-none s.signed.1.1 (sym (same.structure a) ∙ e)
 
 -- The signature that was sent is accepted for the message that arrives.
 pub is_accepted :
     ShortestIsInRange → LeastIsShortest → {accepts : List ℕ → List ℕ → Type 0} {a payload b : List ℕ} (s : IsSent accepts a payload b) (n : Sign1View)
     → CarriesSame n s.message
-    → (t : List ℕ) → IsStructure (sign1_carried n a) t → accepts t n.signature
+    → (t : List ℕ) → IsStructure (sign1_attached n a) t → accepts t n.signature
 is_accepted in_range least {accepts} {a} s n same t h =
-    let same_tbs : s.signed.0 ≡ t = same_bytes in_range least (sign1_carried s.message a) (sign1_carried n a) s.signed.0 t
+    let same_tbs : s.signed.0 ≡ t = same_bytes in_range least (sign1_attached s.message a) (sign1_attached n a) s.signed.0 t
     (sym (same.structure a)) s.signed.1 h in
     subst (λ x. accepts t x) (sym same.signature) (subst (λ x. accepts x s.message.signature) same_tbs s.signed.2)
 

@@ -3,14 +3,14 @@ use Rattle.std.proofs.Common.{◌≡◌, ◌∙◌, ℕ, ℤ, List, [], Option, 
 use Rattle.std.specs.Fn.{FnOnceReturnsAtPair}
 use Rattle.std.specs.Global.{Global}
 use Rattle.coset_value.specs.Item.{Item}
-use Rattle.coset_codec.specs.Answers.{Describes}
+use Rattle.coset_codec.specs.Results.{Describes}
 use Rattle.coset_codec.specs.AsWritten.{WhenRead}
 use Rattle.coset_codec.specs.ReadAgain.{IsWritten}
 use Rattle.coset_codec.specs.declared.error.CallError.{CallError}
 use Rattle.coset_codec.specs.declared.error.CallError.TheVariants.{Coset, Caller}
-use Rattle.coset_label.specs.Names.{RegisteredName, assigned}
+use Rattle.coset_label.specs.LabelData.{RegisteredLabelView, assigned}
 use Rattle.coset_label.specs.Labels.{algorithm}
-use Rattle.coset_core.specs.Calls.{AsksAbout, IsStructure}
+use Rattle.coset_core.specs.Calls.{CallsWith, IsStructure}
 use Rattle.coset_core.specs.Fields.{partial_header}
 use Rattle.coset_msg.specs.declared.enc_structure.EncryptionContext.TheVariants.{CoseEncrypt, EncRecipient}
 use Rattle.coset_recipient.specs.Encrypt.{EncryptView, encrypt, encrypt_structure_of, with_ciphertext}
@@ -33,21 +33,21 @@ MadeOf g f s o stores = (t : List ℕ) × (made : Vec ℕ Global) × IsStructure
 -- ---- wrapping a key
 
 -- The protected header of the recipient is empty, so there always is a structure.
-has_wrapped : (a : RegisteredName) (key_id : List ℕ) → wrap_structure (wrapping a key_id) ≡ None → ⊥
+has_wrapped : (a : RegisteredLabelView) (key_id : List ℕ) → wrap_structure (wrapping a key_id) ≡ None → ⊥
 has_wrapped a key_id e = absurd (cc)
 
-pub is_wrapped :
-    {F E : Type 0} (g : Asker F (Vec ℕ Global) E) (f : F) (a : RegisteredName) (key_id key : List ℕ) (empty built : RecipientView) (r : CoseRecipient)
+pub is_cwt_tagged :
+    {F E : Type 0} (g : Asker F (Vec ℕ Global) E) (f : F) (a : RegisteredLabelView) (key_id key : List ℕ) (empty built : RecipientView) (r : CoseRecipient)
     → empty ≡ wrapping a key_id → recipient_view r ≡ built
     → MadeOf g f key (wrap_structure empty) (λ c. built ≡ inner.with_ciphertext c.items empty) → WrapsFor g f a key_id key (Ok r)
-is_wrapped g f a k key empty built r is view m = (
+is_cwt_tagged g f a k key empty built r is view m = (
   m.1.items,
   view ∙ (m.4 ∙ ap (inner.with_ciphertext m.1.items) is),
   (m.1, (m.0, subst (λ o. IsStructure (wrap_structure o) m.0) is m.2, m.3), refl),
 )
 
 pub not_wrapped :
-    {F E : Type 0} (g : Asker F (Vec ℕ Global) E) (f : F) (a : RegisteredName) (key_id key : List ℕ) (empty : RecipientView)
+    {F E : Type 0} (g : Asker F (Vec ℕ Global) E) (f : F) (a : RegisteredLabelView) (key_id key : List ℕ) (empty : RecipientView)
     → empty ≡ wrapping a key_id → (e : CallError E) → NotSaid g f key (wrap_structure empty) e → WrapsFor g f a key_id key (Err e)
 not_wrapped g f a k key empty is (Coset e) asked =
     only_memory e (λ other. has_wrapped a k (subst (λ r. wrap_structure r ≡ None) is (asked other).1))
@@ -61,7 +61,7 @@ unfolding partial_header algorithm
 has_sealed n iv r external_aad e = absurd (cc)
 
 pub is_sealed :
-    {F E : Type 0} (g : Asker F (Vec ℕ Global) E) (f : F) (a : RegisteredName) (iv : List ℕ) (r : RecipientView) (external_aad plaintext : List ℕ)
+    {F E : Type 0} (g : Asker F (Vec ℕ Global) E) (f : F) (a : RegisteredLabelView) (iv : List ℕ) (r : RecipientView) (external_aad plaintext : List ℕ)
     (b : Vec ℕ Global) (empty built : EncryptView) → empty ≡ message_to a iv r
     → MadeOf g f plaintext (encrypt_structure_of empty external_aad) (λ c. built ≡ with_ciphertext c.items empty) → IsWritten encrypt built b.items
     → EncryptsFor g f a iv r external_aad plaintext (Ok b)
@@ -85,7 +85,7 @@ not_sealed g f n iv r x p empty is (Caller e) asked = (asked.0, subst (λ m. IsS
 pub key_given :
     {F E : Type 0} (g : Asker F (Vec ℕ Global) E) (f : F) (absent : E) (key_id : List ℕ) (m : EncryptView) (r : RecipientView) (w : List ℕ)
     (answer : Result (Vec ℕ Global) (CallError E)) → recipient_by key_id m.recipients ≡ Some r → r.ciphertext ≡ Some w
-    → AsksAbout g f w (wrap_structure r) answer → GivesKey g f key_id absent m answer
+    → CallsWith g f w (wrap_structure r) answer → GivesKey g f key_id absent m answer
 key_given g f absent key_id m r w (Ok key) found carried h = (r, w, found, carried, h)
 key_given g f absent key_id m r w (Err (Coset e)) found carried h = (r, found, h)
 key_given g f absent key_id m r w (Err (Caller e)) found carried h = inr (r, w, found, carried, h)

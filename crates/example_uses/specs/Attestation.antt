@@ -12,11 +12,11 @@ use Rattle.coset_iana.specs.declared.claims.CwtClaimName.{CwtClaimName}
 use Rattle.coset_iana.specs.declared.claims.CwtClaimName.TheVariants.{Nonce, SubmodulesSection}
 use Rattle.coset_codec.specs.Errors.{UnlessMemory}
 use Rattle.coset_codec.specs.declared.error.CoseError.{CoseError}
-use Rattle.coset_label.specs.Names.{assigned}
-use Rattle.coset_claims.specs.Claims.{ClaimsView, claims, claims_view, same_name}
+use Rattle.coset_label.specs.LabelData.{assigned}
+use Rattle.coset_claims.specs.Claims.{ClaimsView, claims, claims_view, same_label}
 use Rattle.coset_claims.specs.declared.claims_set.ClaimsSet.{ClaimsSet}
 use Rattle.coset_claims.specs.declared.known.KnownClaims.{KnownClaims}
-use Rattle.cwt_gate.specs.Door.{JudgesWith}
+use Rattle.cwt_gate.specs.JudgeWith.{JudgesWith}
 use Rattle.cwt_gate.specs.Keys.{KeysView}
 use Rattle.cwt_gate.specs.Policy.{PolicyView, strict}
 use Rattle.cwt_gate.specs.declared.policy.Unassigned.TheVariants.{LeftOut}
@@ -27,7 +27,7 @@ use Rattle.example_uses.specs.declared.attestation.NotAttested.TheVariants.{Refu
 
 -- The value of the claim of this name.
 abbrev pub claim_of : CwtClaimName → ClaimsView → Option Item
-claim_of name c = lookup (same_name (assigned (claim_names.number name))) c.rest
+claim_of name c = lookup (same_label (assigned (claim_names.number name))) c.rest
 
 -- The claim's bytes, if it is a byte string.
 abbrev pub bytes_of : CwtClaimName → ClaimsView → Option (List ℕ)

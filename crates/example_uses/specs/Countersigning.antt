@@ -2,14 +2,14 @@
 use Rattle.std.specs.Prelude.{◌≡◌, ◌⊎◌, ℕ, List, [], ◌∷◌, Option, Some, None, Result, Ok, Err, Vec}
 use Rattle.std.specs.Global.{Global}
 use Rattle.coset_value.specs.Item.{Item}
-use Rattle.coset_codec.specs.Answers.{Describes, IsRefused}
+use Rattle.coset_codec.specs.Results.{Describes, IsRefused}
 use Rattle.coset_codec.specs.Encoding.{HasNoImage}
 use Rattle.coset_codec.specs.Errors.{IsUnexpected}
 use Rattle.coset_codec.specs.ReadAgain.{IsWritten}
 use Rattle.coset_codec.specs.declared.error.CallError.{CallError}
 use Rattle.coset_codec.specs.declared.error.CallError.TheVariants.{Coset, Caller}
 use Rattle.coset_codec.specs.declared.error.CoseError.{CoseError}
-use Rattle.coset_core.specs.Built.{and_countersignature_v2}
+use Rattle.coset_core.specs.Built.{push_countersignature_v2}
 use Rattle.coset_core.specs.HeaderMap.{each_of}
 use Rattle.coset_core.specs.Headers.{SignatureView, countersignatures_in}
 use Rattle.coset_core.specs.Views.{countersignature_view}
@@ -52,7 +52,7 @@ MakesCountersignature g f m c external_aad (Err (Coset e)) = HasNoneToCountersig
 
 -- The message with one more countersignature in its unprotected header.
 abbrev pub and_countersignature : SignatureView → Sign1View → Sign1View
-and_countersignature c m = record m { unprotected = and_countersignature_v2 c m.unprotected }
+and_countersignature c m = record m { unprotected = push_countersignature_v2 c m.unprotected }
 
 -- The result of countersigning the message b: the message with one more countersignature, which f made. The error may
 -- be the one of f. Otherwise b is no message with one signature, or there is no structure or no encoding.

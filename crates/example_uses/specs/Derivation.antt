@@ -1,6 +1,6 @@
 -- Contexts of key derivations (RFC 8152, section 11.2).
 use Rattle.std.specs.Prelude.{ℕ, List, Some}
-use Rattle.coset_label.specs.Names.{RegisteredName}
+use Rattle.coset_label.specs.LabelData.{RegisteredLabelView}
 use Rattle.coset_core.specs.Headers.{ProtectedView}
 use Rattle.coset_claims.specs.Context.{ContextView, empty_context}
 use Rattle.coset_claims.specs.Party.{PartyView, empty_party}
@@ -11,7 +11,7 @@ party_named identity = record empty_party { identity = Some identity }
 
 -- The context for a key of so many bits for the algorithm a. The sender is party U, the receiver party V, p is the
 -- recipient's protected header, and `other` is further public data.
-abbrev pub derivation : RegisteredName → ℕ → List ℕ → List ℕ → ProtectedView → List ℕ → ContextView
+abbrev pub derivation : RegisteredLabelView → ℕ → List ℕ → List ℕ → ProtectedView → List ℕ → ContextView
 derivation a bits sender receiver p other = record empty_context {
   algorithm_id = a;
   party_u_info = party_named sender;

@@ -1,13 +1,13 @@
 -- A message with one signature whose payload is detached (RFC 8152, section 4.1).
 use Rattle.std.specs.Prelude.{◌≡◌, ◌≢◌, ◌⊎◌, ℕ, List, None, Result, Ok, Err, Vec}
 use Rattle.std.specs.Global.{Global}
-use Rattle.coset_codec.specs.Answers.{Describes, IsRefused}
+use Rattle.coset_codec.specs.Results.{Describes, IsRefused}
 use Rattle.coset_codec.specs.Errors.{IsUnexpected}
 use Rattle.coset_codec.specs.ReadAgain.{IsWritten}
 use Rattle.coset_codec.specs.declared.error.CallError.{CallError}
 use Rattle.coset_codec.specs.declared.error.CallError.TheVariants.{Coset, Caller}
 use Rattle.coset_codec.specs.declared.error.CoseError.TheVariants.{OutOfMemory}
-use Rattle.coset_label.specs.Names.{RegisteredName}
+use Rattle.coset_label.specs.LabelData.{RegisteredLabelView}
 use Rattle.coset_core.specs.Built.{with_algorithm}
 use Rattle.coset_core.specs.Headers.{empty_header}
 use Rattle.coset_core.specs.Messages.{unread}
@@ -16,16 +16,16 @@ use Rattle.coset_sign.specs.declared.sign1.CoseSign1.{CoseSign1}
 use Rattle.example_uses.specs.Asked.{Asker, Declines, Maker, Makes, Says}
 
 -- A message without a payload and with this algorithm in its protected header, before it is signed.
-abbrev pub apart : RegisteredName → Sign1View
+abbrev pub apart : RegisteredLabelView → Sign1View
 apart a = record empty_sign1 { protected = unread (with_algorithm a empty_header) }
 
 -- The bytes are such a message. Its signature is what f made from its structure over the payload.
-abbrev pub IsSignedApart : {F E : Type 0} → Maker F E → F → RegisteredName → List ℕ → List ℕ → List ℕ → Type 0
+abbrev pub IsSignedApart : {F E : Type 0} → Maker F E → F → RegisteredLabelView → List ℕ → List ℕ → List ℕ → Type 0
 IsSignedApart g f a external_aad payload b =
     (s : List ℕ) × IsWritten sign1 (with_signature s (apart a)) b × Makes g f (sign1_structure (apart a) external_aad payload) s
 
 -- The result of making such a message: its bytes, the error of f, or `OutOfMemory`.
-abbrev pub SignsApart : {F E : Type 0} → Maker F E → F → RegisteredName → List ℕ → List ℕ → Result (Vec ℕ Global) (CallError E) → Type 0
+abbrev pub SignsApart : {F E : Type 0} → Maker F E → F → RegisteredLabelView → List ℕ → List ℕ → Result (Vec ℕ Global) (CallError E) → Type 0
 SignsApart g f a external_aad payload (Ok b) = IsSignedApart g f a external_aad payload b.items
 SignsApart g f a external_aad payload (Err (Caller e)) = Declines g f (sign1_structure (apart a) external_aad payload) e
 SignsApart g f a external_aad payload (Err (Coset e)) = e ≡ OutOfMemory

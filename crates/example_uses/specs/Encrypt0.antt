@@ -5,7 +5,7 @@ use Rattle.coset_codec.specs.ReadAgain.{IsWritten}
 use Rattle.coset_codec.specs.declared.error.CallError.{CallError}
 use Rattle.coset_codec.specs.declared.error.CallError.TheVariants.{Coset, Caller}
 use Rattle.coset_codec.specs.declared.error.CoseError.TheVariants.{OutOfMemory}
-use Rattle.coset_label.specs.Names.{RegisteredName}
+use Rattle.coset_label.specs.LabelData.{RegisteredLabelView}
 use Rattle.coset_core.specs.Built.{with_algorithm, with_iv}
 use Rattle.coset_core.specs.Headers.{empty_header}
 use Rattle.coset_core.specs.Messages.{unread}
@@ -14,12 +14,12 @@ use Rattle.example_uses.specs.Asked.{Asker, MakesOf, Says}
 
 -- A message with this algorithm in its protected and this initialization vector in its unprotected header, not
 -- encrypted.
-abbrev pub unsealed : RegisteredName → List ℕ → Encrypt0View
+abbrev pub unsealed : RegisteredLabelView → List ℕ → Encrypt0View
 unsealed a iv = record empty_encrypt0 { protected = unread (with_algorithm a empty_header); unprotected = with_iv iv empty_header }
 
 -- The result of encrypting it: its bytes with what f made from the plaintext, the error of f, or `OutOfMemory`.
 abbrev pub EncryptsAlone :
-    {F E : Type 0} → Asker F (Vec ℕ Global) E → F → RegisteredName → List ℕ → List ℕ → List ℕ → Result (Vec ℕ Global) (CallError E) → Type 0
+    {F E : Type 0} → Asker F (Vec ℕ Global) E → F → RegisteredLabelView → List ℕ → List ℕ → List ℕ → Result (Vec ℕ Global) (CallError E) → Type 0
 EncryptsAlone g f a iv external_aad plaintext (Ok b) =
     (c : List ℕ)
     × IsWritten encrypt0 (with_ciphertext c (unsealed a iv)) b.items

@@ -2,12 +2,12 @@
 use Rattle.std.specs.Prelude.{◌≡◌, ℕ, List, Some}
 use Rattle.coset_value.specs.Item.{Item}
 use Rattle.coset_cbor.specs.Grammar.{IsItem}
-use Rattle.coset_codec.specs.Answers.{Describes}
+use Rattle.coset_codec.specs.Results.{Describes}
 use Rattle.coset_codec.specs.ReadAgain.{IsWritten}
 use Rattle.coset_codec.specs.Shape.{Shape}
 use Rattle.coset_claims.specs.Claims.{ClaimsView, claims}
 use Rattle.coset_core.specs.Calls.{IsStructure}
-use Rattle.coset_sign.specs.Sign1.{Sign1View, sign1, sign1_carried}
+use Rattle.coset_sign.specs.Sign1.{Sign1View, sign1, sign1_attached}
 
 -- The bytes are encodings of the same item (RFC 8949, section 3).
 abbrev pub IsSpelling : List ℕ → List ℕ → Type 0
@@ -32,18 +32,18 @@ pub record IsSent (signs : List ℕ → List ℕ → Type 0) (external_aad paylo
   pub written : IsWritten sign1 message b
   pub read : (n : Sign1View) × Describes sign1 b n
   pub carried : message.payload ≡ Some payload
-  pub signed : (t : List ℕ) × IsStructure (sign1_carried message external_aad) t × signs t message.signature
+  pub signed : (t : List ℕ) × IsStructure (sign1_attached message external_aad) t × signs t message.signature
 
 -- n has the payload and the signature of m, and its structure is the same with every `external_aad`.
 pub record CarriesSame (n m : Sign1View) : Type 0 where
   pub payload : n.payload ≡ m.payload
   pub signature : n.signature ≡ m.signature
-  pub structure : (external_aad : List ℕ) → sign1_carried n external_aad ≡ sign1_carried m external_aad
+  pub structure : (external_aad : List ℕ) → sign1_attached n external_aad ≡ sign1_attached m external_aad
 
 -- The bytes are a message whose signature is accepted for its structure with `external_aad`.
 pub record IsVerified (accepts : List ℕ → List ℕ → Type 0) (external_aad b : List ℕ) (n : Sign1View) : Type 0 where
   pub read : Describes sign1 b n
-  pub signed : (t : List ℕ) × IsStructure (sign1_carried n external_aad) t × accepts t n.signature
+  pub signed : (t : List ℕ) × IsStructure (sign1_attached n external_aad) t × accepts t n.signature
 
 -- A token whose payload is these claims (RFC 8392, section 7.1).
 abbrev pub IsIssued : (List ℕ → List ℕ → Type 0) → List ℕ → ClaimsView → List ℕ → Type 0

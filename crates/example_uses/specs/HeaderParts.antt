@@ -2,8 +2,8 @@
 use Rattle.std.specs.Prelude.{◌==◌, ◌||◌, ℕ, List, Bool, Option, Some, None}
 use Rattle.std.specs.Cmp.Lexicographic.{pointwise}
 use Rattle.coset_value.specs.Item.{Item, bytes, array, item}
-use Rattle.coset_label.specs.Names.{RegisteredName}
-use Rattle.coset_claims.specs.Claims.{same_name}
+use Rattle.coset_label.specs.LabelData.{RegisteredLabelView}
+use Rattle.coset_claims.specs.Claims.{same_label}
 use Rattle.coset_core.specs.Headers.{HeaderView, ProtectedView, fields_in}
 use Rattle.cwt_gate.specs.Policy.{is_there_and}
 
@@ -14,8 +14,8 @@ leaf (array (item (bytes b) vs)) = Some b
 leaf v = None
 
 -- The header names this algorithm.
-abbrev pub has_algorithm : RegisteredName → HeaderView → Bool
-has_algorithm a h = is_there_and (λ b. same_name b a) (fields_in h).alg
+abbrev pub has_algorithm : RegisteredLabelView → HeaderView → Bool
+has_algorithm a h = is_there_and (λ b. same_label b a) (fields_in h).alg
 
 -- The header names this key.
 abbrev pub names_key : List ℕ → HeaderView → Bool

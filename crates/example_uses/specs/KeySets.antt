@@ -1,6 +1,6 @@
 -- The bytes that a store keeps of a set of keys.
 use Rattle.std.specs.Prelude.{ℕ, List}
-use Rattle.coset_codec.specs.Answers.{Describes}
+use Rattle.coset_codec.specs.Results.{Describes}
 use Rattle.coset_codec.specs.Lists.{EachWith}
 use Rattle.coset_codec.specs.ReadAgain.{IsWritten}
 use Rattle.coset_label.specs.declared.ordering.CborOrdering.{CborOrdering}

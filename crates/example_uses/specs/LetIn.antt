@@ -1,11 +1,11 @@
 -- A web token that is let in.
 use Rattle.std.specs.Prelude.{◌≡◌, ℕ, List, [], ◌∷◌, Some, true, false, is_none}
-use Rattle.coset_codec.specs.Answers.{Describes}
+use Rattle.coset_codec.specs.Results.{Describes}
 use Rattle.coset_iana.specs.Algorithm as algorithms
 use Rattle.coset_iana.specs.declared.algorithms.Algorithm.TheVariants.{ES256, HMAC_256_64, HMAC_256_256, AES_CCM_16_64_128}
-use Rattle.coset_label.specs.Names.{assigned}
+use Rattle.coset_label.specs.LabelData.{assigned}
 use Rattle.coset_claims.specs.Claims.{ClaimsView, claims}
-use Rattle.cwt_gate.specs.Door.{IsIn, is_authentic}
+use Rattle.cwt_gate.specs.JudgeWith.{IsIn, is_authentic}
 use Rattle.cwt_gate.specs.Keys.{KeysView}
 use Rattle.cwt_gate.specs.Layers.{LayerView}
 use Rattle.cwt_gate.specs.Policy.{PolicyView, strict}

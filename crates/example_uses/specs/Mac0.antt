@@ -1,12 +1,12 @@
 -- Messages with a MAC for receivers that know the key (RFC 8152, section 6.2).
 use Rattle.std.specs.Prelude.{◌≡◌, ◌⊎◌, ℕ, List, Some, None, Result, Ok, Err, Vec}
 use Rattle.std.specs.Global.{Global}
-use Rattle.coset_codec.specs.Answers.{Describes, IsRefused}
+use Rattle.coset_codec.specs.Results.{Describes, IsRefused}
 use Rattle.coset_codec.specs.ReadAgain.{IsWritten}
 use Rattle.coset_codec.specs.declared.error.CallError.{CallError}
 use Rattle.coset_codec.specs.declared.error.CallError.TheVariants.{Coset, Caller}
 use Rattle.coset_codec.specs.declared.error.CoseError.TheVariants.{OutOfMemory}
-use Rattle.coset_label.specs.Names.{RegisteredName}
+use Rattle.coset_label.specs.LabelData.{RegisteredLabelView}
 use Rattle.coset_core.specs.Built.{with_algorithm}
 use Rattle.coset_core.specs.Headers.{empty_header}
 use Rattle.coset_core.specs.Messages.{unread}
@@ -15,18 +15,18 @@ use Rattle.coset_msg.specs.declared.mac0.CoseMac0.{CoseMac0}
 use Rattle.example_uses.specs.Asked.{Asker, Declines, Maker, Makes, Says}
 
 -- A message with this algorithm in its protected header and this payload, before it has a MAC.
-abbrev pub untagged : RegisteredName → List ℕ → Mac0View
+abbrev pub untagged : RegisteredLabelView → List ℕ → Mac0View
 untagged a payload = record empty_mac0 { protected = unread (with_algorithm a empty_header); payload = Some payload }
 
 -- The bytes are such a message, with the MAC that f made from its structure.
-abbrev pub IsMacAlone : {F E : Type 0} → Maker F E → F → RegisteredName → List ℕ → List ℕ → List ℕ → Type 0
+abbrev pub IsMacAlone : {F E : Type 0} → Maker F E → F → RegisteredLabelView → List ℕ → List ℕ → List ℕ → Type 0
 IsMacAlone g f a external_aad payload b =
     (t : List ℕ)
     × IsWritten mac0 (with_tag t (untagged a payload)) b
     × Makes g f (mac0_structure (untagged a payload) external_aad payload) t
 
 -- The result of making such a message: its bytes, the error of f, or `OutOfMemory`.
-abbrev pub MacsAlone : {F E : Type 0} → Maker F E → F → RegisteredName → List ℕ → List ℕ → Result (Vec ℕ Global) (CallError E) → Type 0
+abbrev pub MacsAlone : {F E : Type 0} → Maker F E → F → RegisteredLabelView → List ℕ → List ℕ → Result (Vec ℕ Global) (CallError E) → Type 0
 MacsAlone g f a external_aad payload (Ok b) = IsMacAlone g f a external_aad payload b.items
 MacsAlone g f a external_aad payload (Err (Caller e)) = Declines g f (mac0_structure (untagged a payload) external_aad payload) e
 MacsAlone g f a external_aad payload (Err (Coset e)) = e ≡ OutOfMemory

@@ -3,7 +3,7 @@ use Rattle.std.specs.Prelude.{ℕ, ℤ, List, [], ◌∷◌, Some, pos, true}
 use Rattle.coset_value.specs.Item.{bytes, integer, boolean}
 use Rattle.coset_iana.specs.CwtClaimName as claim_names
 use Rattle.coset_iana.specs.declared.claims.CwtClaimName.TheVariants.{Nonce}
-use Rattle.coset_label.specs.Names.{assigned, private_use, text_name}
+use Rattle.coset_label.specs.LabelData.{assigned, private_use, text_name}
 use Rattle.coset_claims.specs.Claims.{ClaimsView, no_claims}
 use Rattle.coset_claims.specs.Timestamp.{whole_seconds}
 use Rattle.example_uses.specs.declared.made_claims.TheConstants.{ROLE}

@@ -6,7 +6,7 @@ use Rattle.coset_iana.specs.OkpKeyParameter as parameters
 use Rattle.coset_iana.specs.declared.key_parameters.OkpKeyParameter.TheVariants.{Crv, X}
 use Rattle.coset_iana.specs.declared.keys.EllipticCurve.TheVariants.{Ed25519}
 use Rattle.coset_iana.specs.declared.keys.KeyType.TheVariants.{OKP}
-use Rattle.coset_label.specs.Names.{number}
+use Rattle.coset_label.specs.LabelData.{number}
 use Rattle.coset_key.specs.Keys.{KeyView}
 use Rattle.coset_key.specs.KeyBuilt.{key_with, with_key_id}
 

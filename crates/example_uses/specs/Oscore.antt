@@ -1,7 +1,7 @@
 -- The `external_aad` of OSCORE requests (RFC 8613), and plaintexts of encrypted messages (RFC 8152, section 5.3).
 use Rattle.std.specs.Prelude.{◌≡◌, ℕ, ℤ, pos, List, [], Some}
 use Rattle.coset_value.specs.Item.{Item, integer, bytes, array, no_items, item}
-use Rattle.coset_codec.specs.Answers.{Describes}
+use Rattle.coset_codec.specs.Results.{Describes}
 use Rattle.coset_core.specs.Calls.{IsStructure}
 use Rattle.coset_msg.specs.Encrypt0.{Encrypt0View, encrypt0, encrypt0_structure}
 

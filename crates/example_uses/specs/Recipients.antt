@@ -3,14 +3,14 @@ use Rattle.std.specs.Prelude.{◌≡◌, ◌⊎◌, ℕ, List, [], ◌∷◌, Bo
 use Rattle.std.specs.List.{find}
 use Rattle.std.specs.Global.{Global}
 use Rattle.coset_value.specs.Item.{Item}
-use Rattle.coset_codec.specs.Answers.{Describes, IsRefused}
+use Rattle.coset_codec.specs.Results.{Describes, IsRefused}
 use Rattle.coset_codec.specs.Encoding.{HasNoImage}
 use Rattle.coset_codec.specs.Errors.{IsUnexpected}
 use Rattle.coset_codec.specs.ReadAgain.{IsWritten}
 use Rattle.coset_codec.specs.declared.error.CallError.{CallError}
 use Rattle.coset_codec.specs.declared.error.CallError.TheVariants.{Coset, Caller}
 use Rattle.coset_codec.specs.declared.error.CoseError.TheVariants.{OutOfMemory}
-use Rattle.coset_label.specs.Names.{RegisteredName}
+use Rattle.coset_label.specs.LabelData.{RegisteredLabelView}
 use Rattle.coset_core.specs.Built.{with_algorithm, with_iv, with_key_id}
 use Rattle.coset_core.specs.Headers.{empty_header}
 use Rattle.coset_core.specs.Messages.{unread}
@@ -26,7 +26,7 @@ use Rattle.example_uses.specs.HeaderParts.{one_names_key}
 -- ---- encrypting
 
 -- [h'', {1: a, 4: key_id}, nil]: a recipient for which the algorithm wraps a key, before a key is wrapped.
-abbrev pub wrapping : RegisteredName → List ℕ → RecipientView
+abbrev pub wrapping : RegisteredLabelView → List ℕ → RecipientView
 wrapping a key_id = record empty_recipient { unprotected = with_key_id key_id (with_algorithm a empty_header) }
 
 -- The structure that goes with a key wrapped for a recipient of an encrypted message, without external data.
@@ -35,7 +35,7 @@ wrap_structure r = recipient_structure EncRecipient r []
 
 -- The result of wrapping a key: the recipient with what f made from the key, the error of f, or `OutOfMemory`.
 abbrev pub WrapsFor :
-    {F E : Type 0} → Asker F (Vec ℕ Global) E → F → RegisteredName → List ℕ → List ℕ → Result CoseRecipient (CallError E) → Type 0
+    {F E : Type 0} → Asker F (Vec ℕ Global) E → F → RegisteredLabelView → List ℕ → List ℕ → Result CoseRecipient (CallError E) → Type 0
 WrapsFor g f a key_id key (Ok r) =
     (c : List ℕ)
     × (recipient_view r ≡ inner.with_ciphertext c (wrapping a key_id))
@@ -45,7 +45,7 @@ WrapsFor g f a key_id key (Err (Coset e)) = e ≡ OutOfMemory
 
 -- A message to this recipient, before it is encrypted. Its protected header has this algorithm, its unprotected header
 -- this initialization vector.
-abbrev pub message_to : RegisteredName → List ℕ → RecipientView → EncryptView
+abbrev pub message_to : RegisteredLabelView → List ℕ → RecipientView → EncryptView
 message_to a iv r = record empty_encrypt {
   protected = unread (with_algorithm a empty_header);
   unprotected = with_iv iv empty_header;
@@ -55,7 +55,7 @@ message_to a iv r = record empty_encrypt {
 -- The result of encrypting a message: its bytes with what f made from the plaintext, or the error of f. Unless it is
 -- `OutOfMemory`, another error means that a header of the recipient repeats a label, so that there is no encoding.
 abbrev pub EncryptsFor :
-    {F E : Type 0} → Asker F (Vec ℕ Global) E → F → RegisteredName → List ℕ → RecipientView → List ℕ → List ℕ
+    {F E : Type 0} → Asker F (Vec ℕ Global) E → F → RegisteredLabelView → List ℕ → RecipientView → List ℕ → List ℕ
     → Result (Vec ℕ Global) (CallError E) → Type 0
 EncryptsFor g f a iv r external_aad plaintext (Ok b) =
     (c : List ℕ)

@@ -2,7 +2,7 @@
 -- for errors of the library.
 use Rattle.std.specs.Prelude.{◌≡◌, ◌⊎◌, ◌++◌, ℕ, List, Option, Some, None}
 use Rattle.coset_value.specs.Item.{Item}
-use Rattle.coset_codec.specs.Answers.{Describes, IsRefused}
+use Rattle.coset_codec.specs.Results.{Describes, IsRefused}
 use Rattle.coset_codec.specs.Encoding.{HasNoImage}
 use Rattle.coset_codec.specs.Errors.{IsUnexpected}
 use Rattle.coset_codec.specs.ReadAgain.{IsWritten}
@@ -10,13 +10,13 @@ use Rattle.coset_codec.specs.declared.error.CallError.{CallError}
 use Rattle.coset_codec.specs.declared.error.CallError.TheVariants.{Coset, Caller}
 use Rattle.coset_codec.specs.declared.error.CoseError.{CoseError}
 use Rattle.coset_codec.specs.declared.error.CoseError.TheVariants.{OutOfMemory}
-use Rattle.coset_label.specs.Names.{RegisteredName}
+use Rattle.coset_label.specs.LabelData.{RegisteredLabelView}
 use Rattle.coset_core.specs.Built.{with_algorithm}
 use Rattle.coset_core.specs.Headers.{HeaderView, empty_header}
 use Rattle.coset_core.specs.Messages.{unread}
 use Rattle.coset_claims.specs.Claims.{ClaimsView, claims}
 use Rattle.coset_core.specs.Calls.{IsStructure}
-use Rattle.coset_sign.specs.Sign1.{Sign1View, empty_sign1, sign1, sign1_carried, with_signature}
+use Rattle.coset_sign.specs.Sign1.{Sign1View, empty_sign1, sign1, sign1_attached, with_signature}
 use Rattle.coset_msg.specs.Encrypt0.{Encrypt0View, encrypt0, encrypt0_structure}
 use Rattle.example_uses.specs.Exchange.{IsSent, IsVerified}
 use Rattle.example_uses.specs.declared.cipher.Refused.{Refused}
@@ -30,7 +30,7 @@ use Rattle.example_uses.specs.declared.exchange.Lost.TheVariants.{NotSent, NotAr
 abbrev pub IsNotVerified : (List ℕ → List ℕ → Type 0) → List ℕ → List ℕ → CallError Refused → Type 0
 IsNotVerified accepts external_aad b (Coset e) = IsRefused sign1 b e
 IsNotVerified accepts external_aad b (Caller r) =
-    (m : Sign1View) × (t : List ℕ) × Describes sign1 b m × IsStructure (sign1_carried m external_aad) t × (accepts t m.signature → ⊥) × (r ≡ keys.Rejected)
+    (m : Sign1View) × (t : List ℕ) × Describes sign1 b m × IsStructure (sign1_attached m external_aad) t × (accepts t m.signature → ⊥) × (r ≡ keys.Rejected)
 
 -- There are no claims in a payload: it is absent, or its bytes are refused as claims.
 abbrev pub HoldsNoClaims : Option (List ℕ) → CoseError → Type 0
@@ -54,17 +54,17 @@ unsigned h payload = record empty_sign1 { protected = unread h; payload = Some p
 -- r.
 abbrev pub IsNotSent : (List ℕ → Refused → Type 0) → List ℕ → HeaderView → List ℕ → CallError Refused → Type 0
 IsNotSent refuses external_aad h payload (Coset e) =
-    HasNoImage (sign1_carried (unsigned h payload) external_aad) e
+    HasNoImage (sign1_attached (unsigned h payload) external_aad) e
     ⊎ ((s : List ℕ) × (b : List ℕ) × IsWritten sign1 (with_signature s (unsigned h payload)) b × IsRefused sign1 b e)
-IsNotSent refuses external_aad h payload (Caller r) = (t : List ℕ) × IsStructure (sign1_carried (unsigned h payload) external_aad) t × refuses t r
+IsNotSent refuses external_aad h payload (Caller r) = (t : List ℕ) × IsStructure (sign1_attached (unsigned h payload) external_aad) t × refuses t r
 
 -- Why a token of these claims isn't issued, whose protected header names the algorithm a. An allocation failed, or the
 -- key refuses the structure.
-abbrev pub IsNotIssued : (List ℕ → Refused → Type 0) → List ℕ → RegisteredName → ClaimsView → CallError Refused → Type 0
+abbrev pub IsNotIssued : (List ℕ → Refused → Type 0) → List ℕ → RegisteredLabelView → ClaimsView → CallError Refused → Type 0
 IsNotIssued refuses external_aad a c (Coset e) = e ≡ OutOfMemory
 IsNotIssued refuses external_aad a c (Caller r) =
     (payload : List ℕ) × (t : List ℕ) × IsWritten claims c payload
-    × IsStructure (sign1_carried (unsigned (with_algorithm a empty_header) payload) external_aad) t × refuses t r
+    × IsStructure (sign1_attached (unsigned (with_algorithm a empty_header) payload) external_aad) t × refuses t r
 
 -- Why a message isn't verified. It isn't sent, or it is lost on its way, or an allocation failed at the receiver.
 -- `loses b`: the channel may lose b.

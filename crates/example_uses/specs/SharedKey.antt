@@ -4,12 +4,12 @@ use Rattle.std.specs.List.{list_any}
 use Rattle.std.specs.Global.{Global}
 use Rattle.coset_iana.specs.Algorithm as algorithms
 use Rattle.coset_iana.specs.declared.algorithms.Algorithm.TheVariants.{Direct}
-use Rattle.coset_codec.specs.Answers.{Describes, IsRefused}
+use Rattle.coset_codec.specs.Results.{Describes, IsRefused}
 use Rattle.coset_codec.specs.ReadAgain.{IsWritten}
 use Rattle.coset_codec.specs.declared.error.CallError.{CallError}
 use Rattle.coset_codec.specs.declared.error.CallError.TheVariants.{Coset, Caller}
 use Rattle.coset_codec.specs.declared.error.CoseError.TheVariants.{OutOfMemory}
-use Rattle.coset_label.specs.Names.{RegisteredName, assigned}
+use Rattle.coset_label.specs.LabelData.{RegisteredLabelView, assigned}
 use Rattle.coset_core.specs.Built.{with_algorithm, with_key_id}
 use Rattle.coset_core.specs.Headers.{empty_header}
 use Rattle.coset_core.specs.Messages.{unread}
@@ -20,7 +20,7 @@ use Rattle.example_uses.specs.Asked.{Asker, Declines, Maker, Makes, Says}
 use Rattle.example_uses.specs.HeaderParts.{has_algorithm, names_key}
 
 -- The algorithm "direct": the shared key is used as it is.
-abbrev pub direct : RegisteredName
+abbrev pub direct : RegisteredLabelView
 direct = assigned (algorithms.number Direct)
 
 -- [h'', {1: direct, 4: key_id}, h'']: a recipient that shares this key.
@@ -28,7 +28,7 @@ abbrev pub direct_to : List ℕ → RecipientView
 direct_to key_id = record empty_recipient { unprotected = with_key_id key_id (with_algorithm direct empty_header); ciphertext = Some [] }
 
 -- A message with this algorithm in its protected header, this payload and this one recipient, before it has a MAC.
-abbrev pub shared_with : RegisteredName → List ℕ → List ℕ → MacView
+abbrev pub shared_with : RegisteredLabelView → List ℕ → List ℕ → MacView
 shared_with a key_id payload = record empty_mac {
   protected = unread (with_algorithm a empty_header);
   payload = Some payload;
@@ -36,14 +36,14 @@ shared_with a key_id payload = record empty_mac {
 }
 
 -- The bytes are such a message, with the MAC that f made from its structure.
-abbrev pub IsMacFor : {F E : Type 0} → Maker F E → F → RegisteredName → List ℕ → List ℕ → List ℕ → List ℕ → Type 0
+abbrev pub IsMacFor : {F E : Type 0} → Maker F E → F → RegisteredLabelView → List ℕ → List ℕ → List ℕ → List ℕ → Type 0
 IsMacFor g f a key_id external_aad payload b =
     (t : List ℕ)
     × IsWritten mac (with_tag t (shared_with a key_id payload)) b
     × Makes g f (mac_structure_of (shared_with a key_id payload) external_aad payload) t
 
 -- The result of making such a message: its bytes, the error of f, or `OutOfMemory`.
-abbrev pub MacsFor : {F E : Type 0} → Maker F E → F → RegisteredName → List ℕ → List ℕ → List ℕ → Result (Vec ℕ Global) (CallError E) → Type 0
+abbrev pub MacsFor : {F E : Type 0} → Maker F E → F → RegisteredLabelView → List ℕ → List ℕ → List ℕ → Result (Vec ℕ Global) (CallError E) → Type 0
 MacsFor g f a key_id external_aad payload (Ok b) = IsMacFor g f a key_id external_aad payload b.items
 MacsFor g f a key_id external_aad payload (Err (Caller e)) = Declines g f (mac_structure_of (shared_with a key_id payload) external_aad payload) e
 MacsFor g f a key_id external_aad payload (Err (Coset e)) = e ≡ OutOfMemory

@@ -4,7 +4,7 @@
 ghost use Rattle.std.specs.Prelude.{◌≡◌, ◌↔◌, IsTrue, option_map};
 ghost use Rattle.coset_value.specs.View.{value_item, value_pairs};
 ghost use Rattle.coset_claims.specs.Claims.{claims_view};
-ghost use Rattle.cwt_gate.specs.Door.{JudgesWith};
+ghost use Rattle.cwt_gate.specs.JudgeWith.{JudgesWith};
 ghost use Rattle.example_uses.specs.Attestation.{IsFresh, JudgesAttestation, ReadsSubmodule, attestation_policy, bytes_of, claim_of, held_under, integer_of, is_text, submodule_of, text_of};
 
 use coset::cbor::value::{Integer, Value};

@@ -1,8 +1,8 @@
 //! The context of a key derivation, which both sides make (RFC 8152, section 11.2).
 
 ghost use Rattle.coset_iana.specs.Algorithm as algorithms;
-ghost use Rattle.coset_codec.specs.Answers.{Writes};
-ghost use Rattle.coset_label.specs.Names.{assigned};
+ghost use Rattle.coset_codec.specs.Results.{Writes};
+ghost use Rattle.coset_label.specs.LabelData.{assigned};
 ghost use Rattle.coset_core.specs.Views.{protected_view};
 ghost use Rattle.coset_claims.specs.Context.{context};
 ghost use Rattle.example_uses.specs.Derivation.{derivation};

@@ -1,7 +1,7 @@
 //! Messages with a detached payload: `nil` is in its place (RFC 8152, section 4.1).
 
 ghost use Rattle.coset_iana.specs.Algorithm as algorithms;
-ghost use Rattle.coset_label.specs.Names.{assigned};
+ghost use Rattle.coset_label.specs.LabelData.{assigned};
 ghost use Rattle.example_uses.specs.Detached.{SignsApart, VerifiesApart};
 
 use coset::iana::Algorithm;

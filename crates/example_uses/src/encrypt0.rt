@@ -1,7 +1,7 @@
 //! Encrypted messages for receivers that know the key without its name (RFC 8152, section 5.2).
 
 ghost use Rattle.coset_iana.specs.Algorithm as algorithms;
-ghost use Rattle.coset_label.specs.Names.{assigned};
+ghost use Rattle.coset_label.specs.LabelData.{assigned};
 ghost use Rattle.example_uses.specs.Encrypt0.{EncryptsAlone};
 
 use coset::iana::Algorithm;

@@ -3,10 +3,10 @@
 
 ghost use Rattle.std.specs.Prelude.{◌≡◌, ◌↔◌, ◌≤◌, IsTrue, ℕ, List, Result};
 ghost use Rattle.coset_value.specs.Item.{Item, depth};
-ghost use Rattle.coset_cbor.specs.Fronts.{AreBytes};
+ghost use Rattle.coset_cbor.specs.Prefixes.{AreBytes};
 ghost use Rattle.coset_cbor.specs.Grammar.{IsItem};
-ghost use Rattle.coset_codec.specs.Answers.{AllocatesForItems, Describes, Reads, ReadsSlice, RefusesItem};
-ghost use Rattle.coset_codec.specs.ReadAgain.{EncodesApart, ReadsAgain, StaysAsWritten};
+ghost use Rattle.coset_codec.specs.Results.{AllocatesForItems, Describes, Reads, ReadsSlice, RefusesItem};
+ghost use Rattle.coset_codec.specs.ReadAgain.{EncodesInjectively, ReadsAgain, StaysAsWritten};
 ghost use Rattle.coset_codec.specs.Refusals.{NamesWholeFault};
 ghost use Rattle.coset_codec.specs.Shape.{tagged};
 ghost use Rattle.coset_codec.specs.ShapeLaws.{Again};
@@ -21,8 +21,8 @@ use coset::{
     ProtectedHeader, SuppPubInfo, TaggedCborSerializable,
 };
 use coset_codec::laws::{
-    equal_as_viewed, image_is_described, one_value, read_as_item, reads_again, refused_as_bytes,
-    refused_describes_nothing, spellings_agree, stays_as_written, written_apart,
+    encoding_is_injective, encodings_agree, equal_as_viewed, image_is_described, one_value,
+    read_as_item, reads_again, refused_as_bytes, refused_describes_nothing, stays_as_written,
 };
 use std::fmt;
 
@@ -51,16 +51,16 @@ pub fn keeps_the_laws<T: Lawful + CborSerializable + FromPull + PartialEq + fmt:
     ensures again { (s : List ℕ) (x : T.View) → Describes T.shape s x → ReadsAgain T.shape x }
     ensures items { (v : Item) (x : T.View) → T.shape.describes v x → depth v ≤ 256
         → ReadsAgain T.shape x }
-    ensures apart { EncodesApart T.shape }
+    ensures apart { EncodesInjectively T.shape }
     ensures stays { StaysAsWritten T.shape }
 {
     one_value::<T>();
-    spellings_agree::<T>();
+    encodings_agree::<T>();
     refused_as_bytes::<T>();
     read_as_item::<T>();
     refused_describes_nothing::<T>();
     reads_again::<T>();
-    written_apart::<T>();
+    encoding_is_injective::<T>();
     stays_as_written::<T>();
 }
 
@@ -82,15 +82,15 @@ pub fn keeps_the_laws_when_tagged<T: Lawful + TaggedCborSerializable>()
         → ReadsAgain (tagged n T.shape) x }
     ensures untagged { (n : ℕ) (s : List ℕ) (x : T.View) → Describes (tagged n T.shape) s x
         → ReadsAgain T.shape x }
-    ensures apart { (n : ℕ) → EncodesApart (tagged n T.shape) }
+    ensures apart { (n : ℕ) → EncodesInjectively (tagged n T.shape) }
     ensures stays { (n : ℕ) → StaysAsWritten (tagged n T.shape) }
 {
     one_value::<T>();
-    spellings_agree::<T>();
+    encodings_agree::<T>();
     refused_as_bytes::<T>();
     read_as_item::<T>();
     reads_again::<T>();
-    written_apart::<T>();
+    encoding_is_injective::<T>();
     stays_as_written::<T>();
 }
 

@@ -2,7 +2,7 @@
 
 ghost use Rattle.std.specs.Prelude.{◌≡◌, IfOk, IfErr, option_map};
 ghost use Rattle.coset_key.specs.Keys.{key_view, key_set, key_set_view};
-ghost use Rattle.coset_codec.specs.Answers.{IsRefused};
+ghost use Rattle.coset_codec.specs.Results.{IsRefused};
 ghost use Rattle.example_uses.specs.FindKey.{IsKeyOf, first_with};
 
 use coset::{CborOrdering, CborSerializable, CoseKey, CoseKeySet, Result};

@@ -9,7 +9,7 @@ ghost use Rattle.coset_value.specs.View.{value_item};
 ghost use Rattle.coset_iana.specs.Algorithm as algorithms;
 ghost use Rattle.coset_iana.specs.HeaderParameter as parameters;
 ghost use Rattle.coset_iana.specs.declared.headers.HeaderParameter.TheVariants.{X5Chain};
-ghost use Rattle.coset_label.specs.Names.{assigned, number, same_name};
+ghost use Rattle.coset_label.specs.LabelData.{assigned, number, same_label};
 ghost use Rattle.coset_core.specs.Headers.{fields_in};
 ghost use Rattle.coset_core.specs.Views.{critical_view, header_view, protected_view};
 ghost use Rattle.cwt_gate.specs.Policy.{is_one_of};
@@ -41,7 +41,7 @@ pub fn is_understood(header: &Header, known: &[Critical]) -> bool
 /// Returns the value of a parameter that isn't a field of the header.
 pub fn find_parameter(header: &Header, parameter: HeaderParameter) -> Option<&Value>
     ensures { option_map (λ v. value_item v.now) result
-        ≡ lookup (same_name (number (parameters.number parameter)))
+        ≡ lookup (same_label (number (parameters.number parameter)))
         (fields_in (header_view header.now)).rest }
 {
     header.get(&Label::Int(parameter.to_i64()))
@@ -61,7 +61,7 @@ fn bytes_of(value: &Value) -> Option<&[u8]>
 /// the chain there.
 pub fn signer_certificate(header: &Header) -> Option<&[u8]>
     ensures { option_map (λ c. c.now) result
-        ≡ option_and_then leaf (lookup (same_name (number (parameters.number X5Chain)))
+        ≡ option_and_then leaf (lookup (same_label (number (parameters.number X5Chain)))
         (fields_in (header_view header.now)).rest) }
 {
     let value = find_parameter(header, HeaderParameter::X5Chain)?;

@@ -3,7 +3,7 @@
 
 ghost use Rattle.std.specs.Prelude.{IfOk, IfErr};
 ghost use Rattle.coset_iana.specs.Algorithm as algorithms;
-ghost use Rattle.coset_label.specs.Names.{assigned};
+ghost use Rattle.coset_label.specs.LabelData.{assigned};
 ghost use Rattle.coset_core.specs.Views.{header_view};
 ghost use Rattle.coset_claims.specs.Claims.{claims_view};
 ghost use Rattle.example_uses.specs.Exchange.{IsIssued, IsSent};

@@ -8,7 +8,7 @@ ghost use Rattle.std.specs.Prelude.{◌≡◌, ◌≤◌, ◌↔◌, ◌⊎◌, 
 ghost use Rattle.coset_value.specs.Item.{Item, depth};
 ghost use Rattle.coset_key.specs.Canonical.{AgreeButForOrder};
 ghost use Rattle.coset_key.specs.Keys.{KeyView, key as key_shape, key_view, key_set};
-ghost use Rattle.coset_codec.specs.Answers.{Describes, DescribesNothing, RefusesSlice, SliceFaults};
+ghost use Rattle.coset_codec.specs.Results.{Describes, DescribesNothing, RefusesSlice, SliceFaults};
 ghost use Rattle.coset_codec.specs.Errors.{UnlessMemory};
 ghost use Rattle.coset_codec.specs.Lists.{EachWith};
 ghost use Rattle.coset_codec.specs.declared.error.CoseError.TheVariants.{OutOfMemory};
@@ -16,7 +16,7 @@ ghost use Rattle.example_uses.specs.KeySets.{AreStored, IsHeldOf, IsKeySet};
 
 use coset::{CborOrdering, CborSerializable, CoseKey, CoseKeySet, Result};
 use coset_codec::laws::one_value;
-use coset_key::laws::{canonical_keys_apart, canonical_keys_read_again, keys_of_a_set};
+use coset_key::laws::{canonical_keys_injective, canonical_keys_read_again, keys_of_a_set};
 use std::alloc::Global;
 
 /// Returns the ordering again, for the next key.
@@ -82,7 +82,7 @@ pub fn sets_hold_the_same(alloc: Global, one: &[u8], other: &[u8]) -> Result<boo
     ensures refused { IfErr result (λ e. UnlessMemory e (λ _.
         DescribesNothing key_set one.now ⊎ DescribesNothing key_set other.now)) }
 {
-    canonical_keys_apart();
+    canonical_keys_injective();
     keys_of_a_set();
     one_value::<CoseKeySet>();
     let one = stored_keys(alloc, one, CborOrdering::Lexicographic)?;

@@ -2,7 +2,7 @@
 
 ghost use Rattle.std.specs.Prelude.{IfOk};
 ghost use Rattle.coset_claims.specs.Claims.{claims_view};
-ghost use Rattle.cwt_gate.specs.Door.{JudgesWith};
+ghost use Rattle.cwt_gate.specs.JudgeWith.{JudgesWith};
 ghost use Rattle.cwt_gate.specs.Policy.{policy_view};
 ghost use Rattle.example_uses.specs.LetIn.{IsLetIn, policy_of};
 

@@ -1,7 +1,7 @@
 //! Messages with a MAC for receivers that know the key without its name (RFC 8152, section 6.2).
 
 ghost use Rattle.coset_iana.specs.Algorithm as algorithms;
-ghost use Rattle.coset_label.specs.Names.{assigned};
+ghost use Rattle.coset_label.specs.LabelData.{assigned};
 ghost use Rattle.example_uses.specs.Mac0.{MacsAlone, VerifiesAlone};
 
 use coset::iana::Algorithm;

@@ -6,7 +6,7 @@ ghost use Rattle.coset_iana.specs.Algorithm as algorithms;
 ghost use Rattle.coset_iana.specs.declared.algorithms.Algorithm.TheVariants.{ES256};
 ghost use Rattle.coset_iana.specs.declared.keys.EllipticCurve.TheVariants.{P_256};
 ghost use Rattle.coset_codec.specs.declared.error.CoseError.TheVariants.{OutOfMemory};
-ghost use Rattle.coset_label.specs.Names.{assigned};
+ghost use Rattle.coset_label.specs.LabelData.{assigned};
 ghost use Rattle.coset_key.specs.Keys.{key_view};
 ghost use Rattle.coset_key.specs.KeyBuilt.{ec2_key, ml_dsa_key, symmetric_key, with_algorithm, with_key_id};
 ghost use Rattle.coset_key.specs.declared.ml_dsa.MlDsaVariant.TheVariants.{MlDsa44};

@@ -3,7 +3,7 @@
 
 ghost use Rattle.std.specs.Prelude.{IfOk, IfErr, Some};
 ghost use Rattle.coset_iana.specs.Algorithm as algorithms;
-ghost use Rattle.coset_codec.specs.Answers.{Writes};
+ghost use Rattle.coset_codec.specs.Results.{Writes};
 ghost use Rattle.example_uses.specs.Oscore.{IsDecrypted, request_aad};
 ghost use Rattle.example_uses.specs.Refusals.{IsNotDecrypted};
 

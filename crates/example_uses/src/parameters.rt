@@ -6,7 +6,7 @@ ghost use Rattle.std.specs.Option.{option_and_then};
 ghost use Rattle.coset_value.specs.Parts.{as_bytes};
 ghost use Rattle.coset_iana.specs.Algorithm as algorithms;
 ghost use Rattle.coset_codec.specs.declared.error.CoseError.TheVariants.{OutOfMemory};
-ghost use Rattle.coset_label.specs.Names.{assigned, number, same_name};
+ghost use Rattle.coset_label.specs.LabelData.{assigned, number, same_label};
 ghost use Rattle.coset_core.specs.Headers.{fields_in};
 ghost use Rattle.coset_core.specs.Views.{header_view};
 ghost use Rattle.example_uses.specs.Parameters.{is_of_token, traced};
@@ -41,7 +41,7 @@ pub fn traced(alloc: Global, algorithm: Algorithm, trace: &[u8]) -> Result<Heade
 /// Returns the value of that parameter, if the header has it and it is a byte string.
 pub fn trace_of(header: &Header) -> Option<&[u8]>
     ensures { option_map (λ b. b.now) result ≡ option_and_then as_bytes
-        (lookup (same_name (number TRACE)) (fields_in (header_view header.now)).rest) }
+        (lookup (same_label (number TRACE)) (fields_in (header_view header.now)).rest) }
 {
     match header.get(&Label::Int(TRACE))? {
         Value::Bytes(trace) => Some(trace.as_slice()),

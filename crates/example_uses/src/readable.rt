@@ -4,7 +4,7 @@
 
 ghost use Rattle.std.specs.Prelude.{IfOk, IfErr};
 ghost use Rattle.coset_codec.specs.Alone.{elements};
-ghost use Rattle.coset_codec.specs.Answers.{Describes, IsRefused};
+ghost use Rattle.coset_codec.specs.Results.{Describes, IsRefused};
 ghost use Rattle.coset_claims.specs.Claims.{claims_view};
 ghost use Rattle.coset_claims.specs.Known.{Others, known};
 ghost use Rattle.coset_key.specs.Keys.{key_set_view};

@@ -3,7 +3,7 @@
 
 ghost use Rattle.std.specs.Prelude.{◌≡◌, map, option_map};
 ghost use Rattle.coset_iana.specs.Algorithm as algorithms;
-ghost use Rattle.coset_label.specs.Names.{assigned};
+ghost use Rattle.coset_label.specs.LabelData.{assigned};
 ghost use Rattle.coset_recipient.specs.Encrypt.{encrypt_view};
 ghost use Rattle.coset_recipient.specs.RecipientViews.{recipient_view};
 ghost use Rattle.example_uses.specs.Recipients.{DecryptsFor, EncryptsFor, GivesKey, WrapsFor, is_to, recipient_by};

@@ -5,7 +5,7 @@ ghost use Rattle.std.specs.Prelude.{◌≡◌, map, IfOk, IfErr};
 ghost use Rattle.std.specs.List.{list_any};
 ghost use Rattle.coset_iana.specs.Algorithm as algorithms;
 ghost use Rattle.coset_codec.specs.declared.error.CoseError.TheVariants.{OutOfMemory};
-ghost use Rattle.coset_label.specs.Names.{assigned};
+ghost use Rattle.coset_label.specs.LabelData.{assigned};
 ghost use Rattle.coset_recipient.specs.RecipientViews.{recipient_view};
 ghost use Rattle.example_uses.specs.SharedKey.{MacsFor, VerifiesFor, direct_to, is_direct_to};
 

@@ -4,7 +4,7 @@ ghost use Rattle.std.specs.Prelude.{◌≡◌, map, IfOk, IfErr};
 ghost use Rattle.std.specs.List.{position_from};
 ghost use Rattle.coset_iana.specs.Algorithm as algorithms;
 ghost use Rattle.coset_codec.specs.declared.error.CoseError.TheVariants.{OutOfMemory};
-ghost use Rattle.coset_label.specs.Names.{assigned};
+ghost use Rattle.coset_label.specs.LabelData.{assigned};
 ghost use Rattle.coset_core.specs.Views.{signature_view};
 ghost use Rattle.example_uses.specs.Signers.{SignsByTwo, VerifiesBy, is_by, signer};
 

@@ -7,12 +7,12 @@
 ghost use Rattle.std.specs.Prelude.{◌≡◌, ◌⊎◌, ◌↔◌, IfOk, IfErr, IsTrue};
 ghost use Rattle.coset_key.specs.Canonical.{AgreeButForOrder};
 ghost use Rattle.coset_key.specs.Keys.{KeyView, key};
-ghost use Rattle.coset_codec.specs.Answers.{Describes, IsRefused};
+ghost use Rattle.coset_codec.specs.Results.{Describes, IsRefused};
 ghost use Rattle.example_uses.specs.Store.{IsStored};
 
 use coset::{CborOrdering, CborSerializable, CoseKey, Result};
 use coset_codec::laws::one_value;
-use coset_key::laws::{canonical_keys_apart, canonical_keys_read_again};
+use coset_key::laws::{canonical_keys_injective, canonical_keys_read_again};
 use std::alloc::Global;
 
 /// Returns the bytes that a store keeps of a key: its shortest encoding, with its parameters in
@@ -43,7 +43,7 @@ pub fn hold_the_same(alloc: Global, one: &[u8], other: &[u8]) -> Result<bool>
         → IfOk result (λ same. IsTrue same ↔ AgreeButForOrder k l) }
     ensures refused { IfErr result (λ e. IsRefused key one.now e ⊎ IsRefused key other.now e) }
 {
-    canonical_keys_apart();
+    canonical_keys_injective();
     one_value::<CoseKey>();
     let one = stored(alloc, one, CborOrdering::Lexicographic)?;
     let other = stored(alloc, other, CborOrdering::Lexicographic)?;

@@ -15,8 +15,8 @@ use coset::{CallError, CborSerializable, CoseError, CoseSign1};
 use coset_cbor::laws::{
     least_heads_are_shortest, one_item, shortest_is_encoding, shortest_is_in_range,
 };
-use coset_codec::laws::spellings_agree;
-use coset_sign::laws::{carried_as_written, signed_as_written, signed_when_read};
+use coset_codec::laws::encodings_agree;
+use coset_sign::laws::{attached_as_written, signed_as_written, signed_when_read};
 use std::alloc::Global;
 
 /// Decodes and returns a token's message, if the key accepts its signature.
@@ -44,9 +44,9 @@ pub fn verify_token<K: VerifyingKey>(
     ensures refused { IfErr result (λ e. IsNotVerified (K.accepts key.now) external_aad.now
         token.now e) }
 {
-    spellings_agree::<CoseSign1>();
+    encodings_agree::<CoseSign1>();
     signed_as_written();
-    carried_as_written();
+    attached_as_written();
     signed_when_read();
     one_item();
     shortest_is_encoding();

@@ -1,7 +1,7 @@
 //! The function that writes the structure of a countersignature.
 
 ghost use Rattle.std.specs.Prelude.{◌≡◌, MatchOption};
-ghost use Rattle.ffi_query.specs.Answers.{AnswersOr};
+ghost use Rattle.ffi_query.specs.Results.{ReturnsOr};
 ghost use Rattle.ffi_query.specs.Countersigns.{HasNoCountersigned, IsCountersigned};
 ghost use Rattle.ffi_c.specs.Numbers.{bytes_if, countersign_query};
 ghost use Rattle.ffi_c.specs.Replies.{IsMisuse, Replies};
@@ -32,7 +32,7 @@ pub extern "C" fn coset_countersign_structure(
     ensures { let d = bytes_if has_detached detached.now in
         MatchOption (countersign_query kind label has_detached detached.now)
         (IsMisuse result len.new 0 × (out.new ≡ out.old))
-        (λ q. Replies (AnswersOr q.0 input.now
+        (λ q. Replies (ReturnsOr q.0 input.now
         (IsCountersigned q.0 q.1 signer.now external_aad.now d)
         (HasNoCountersigned q.0 q.1 signer.now external_aad.now d) out.old out.new)
         result len.new) }

@@ -5,12 +5,12 @@ ghost use Rattle.std.specs.Prelude.{◌≡◌, MatchOption, pos};
 ghost use Rattle.ffi_query.specs.declared.kind.Kind.TheVariants.{Any, KeySet};
 ghost use Rattle.ffi_query.specs.declared.elements.Span.{Span};
 ghost use Rattle.ffi_query.specs.declared.pair.Half.TheVariants as of;
-ghost use Rattle.ffi_query.specs.Answers.{Answers, AnswersNumber};
-ghost use Rattle.ffi_query.specs.Elements.{AnswersItem, ArePairAt, HasNoContent, HasNoInteger, HasNoMember, HasNoPair, HasNoValueAt, IsMemberAt, IsStringAt, IsValueAt};
+ghost use Rattle.ffi_query.specs.Results.{Answers, ReturnsNumber};
+ghost use Rattle.ffi_query.specs.Elements.{ReturnsItem, ArePairAt, HasNoContent, HasNoInteger, HasNoMember, HasNoPair, HasNoValueAt, IsMemberAt, IsStringAt, IsValueAt};
 ghost use Rattle.ffi_query.specs.Labels.{IsNumber};
 ghost use Rattle.ffi_query.specs.Pairs.{IsHalf};
 ghost use Rattle.ffi_query.specs.Sets.{IsKeyBy};
-ghost use Rattle.coset.specs.Names.{number};
+ghost use Rattle.coset.specs.LabelData.{number};
 ghost use Rattle.ffi_c.specs.Numbers.{kind_of, map_query};
 ghost use Rattle.ffi_c.specs.Replies.{IsMisuse, Replies, RepliesValue, no_pair, no_span};
 
@@ -41,7 +41,7 @@ pub extern "C" fn coset_member_span(
     span: &mut Span,
 ) -> i32
     ensures { MatchOption (kind_of kind) (IsMisuse result span.new no_span)
-        (λ k. RepliesValue no_span (AnswersNumber k input.now (IsMemberAt input.now k index)
+        (λ k. RepliesValue no_span (ReturnsNumber k input.now (IsMemberAt input.now k index)
         (HasNoMember k index)) result span.new) }
 {
     match within(kind_of(kind), input, &[]) {
@@ -61,7 +61,7 @@ pub extern "C" fn coset_label_span(
     span: &mut Span,
 ) -> i32
     ensures { MatchOption (map_query kind map) (IsMisuse result span.new no_span)
-        (λ q. RepliesValue no_span (AnswersNumber q.0 input.now
+        (λ q. RepliesValue no_span (ReturnsNumber q.0 input.now
         (IsValueAt input.now q.0 q.1 (number label))
         (HasNoValueAt input.now q.0 q.1 (number label))) result span.new) }
 {
@@ -87,7 +87,7 @@ pub extern "C" fn coset_pair_spans(
 ) -> i32
     ensures { let spans : Span × Span = (label.new, value.new) in
         MatchOption (kind_of kind) (IsMisuse result spans no_pair)
-        (λ k. RepliesValue no_pair (AnswersNumber k input.now
+        (λ k. RepliesValue no_pair (ReturnsNumber k input.now
         (ArePairAt input.now index) (HasNoPair index)) result spans) }
 {
     let mut found = (no_span(), no_span());
@@ -106,7 +106,7 @@ pub extern "C" fn coset_pair_spans(
 /// Sets `span` to the place of the item that begins at the offset `at`.
 #[unsafe(no_mangle)]
 pub extern "C" fn coset_item_span(input: &[u8], at: usize, span: &mut Span) -> i32
-    ensures { RepliesValue no_span (AnswersItem input.now at) result span.new }
+    ensures { RepliesValue no_span (ReturnsItem input.now at) result span.new }
 {
     match within(Some(()), input, &[]) {
         Some(()) => reply_value(item_span(input, at), no_span(), span),
@@ -117,7 +117,7 @@ pub extern "C" fn coset_item_span(input: &[u8], at: usize, span: &mut Span) -> i
 /// Sets `span` to the place in the input of a string's content. The string has definite length.
 #[unsafe(no_mangle)]
 pub extern "C" fn coset_string_span(alloc: Global, input: &[u8], span: &mut Span) -> i32
-    ensures { RepliesValue no_span (AnswersNumber Any input.now (IsStringAt input.now)
+    ensures { RepliesValue no_span (ReturnsNumber Any input.now (IsStringAt input.now)
         (HasNoContent input.now)) result span.new }
 {
     match within(Some(()), input, &[]) {
@@ -129,7 +129,7 @@ pub extern "C" fn coset_string_span(alloc: Global, input: &[u8], span: &mut Span
 /// Sets `value` to the integer that the input encodes.
 #[unsafe(no_mangle)]
 pub extern "C" fn coset_integer(alloc: Global, input: &[u8], value: &mut i64) -> i32
-    ensures { RepliesValue (pos 0) (AnswersNumber Any input.now IsNumber HasNoInteger)
+    ensures { RepliesValue (pos 0) (ReturnsNumber Any input.now IsNumber HasNoInteger)
         result value.new }
 {
     match within(Some(()), input, &[]) {

@@ -12,13 +12,13 @@ use ffi_token::Opened;
 use std::mem;
 
 /// The greatest length in bytes.
-const MOST: usize = isize::MAX as usize;
+const MAX_LENGTH: usize = isize::MAX as usize;
 
 /// Returns the query, or `None` if one of the slices is too long.
 pub(crate) fn within<T: Drop>(query: Option<T>, bytes: &[u8], others: &[u8]) -> Option<T>
     ensures { result ≡ query }
 {
-    if bytes.len() <= MOST && others.len() <= MOST {
+    if bytes.len() <= MAX_LENGTH && others.len() <= MAX_LENGTH {
         query
     } else {
         None
@@ -33,7 +33,7 @@ pub(crate) fn within_numbers<T: Drop>(
 ) -> Option<T>
     ensures { result ≡ query }
 {
-    let most = MOST / mem::size_of::<i64>();
+    let most = MAX_LENGTH / mem::size_of::<i64>();
     if numbers.len() <= most && others.len() <= most {
         query
     } else {
@@ -45,7 +45,7 @@ pub(crate) fn within_numbers<T: Drop>(
 pub(crate) fn within_pairs<T: Drop>(query: Option<T>, pairs: &[Pair]) -> Option<T>
     ensures { result ≡ query }
 {
-    if pairs.len() <= MOST / mem::size_of::<Pair>() {
+    if pairs.len() <= MAX_LENGTH / mem::size_of::<Pair>() {
         query
     } else {
         None
@@ -56,7 +56,7 @@ pub(crate) fn within_pairs<T: Drop>(query: Option<T>, pairs: &[Pair]) -> Option<
 pub(crate) fn within_layers<T: Drop>(query: Option<T>, layers: &[Opened]) -> Option<T>
     ensures { result ≡ query }
 {
-    if layers.len() <= MOST / mem::size_of::<Opened>() {
+    if layers.len() <= MAX_LENGTH / mem::size_of::<Opened>() {
         query
     } else {
         None

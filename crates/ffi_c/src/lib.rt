@@ -10,11 +10,11 @@
 
 ghost use Rattle.std.specs.Prelude.{◌≡◌, MatchOption, pos};
 ghost use Rattle.ffi_query.specs.declared.kind.Kind.TheVariants.{Recipient};
-ghost use Rattle.ffi_query.specs.Answers.{Answers, AnswersNumber, AnswersOr};
+ghost use Rattle.ffi_query.specs.Results.{Answers, ReturnsNumber, ReturnsOr};
 ghost use Rattle.ffi_query.specs.Labels.{HasNoNumber, HasNoString, IsNumberOf, IsStringOf, IsValueOf};
 ghost use Rattle.ffi_query.specs.Parts.{HasNoCount, IsMember, IsPart, IsPositiveCount};
 ghost use Rattle.ffi_query.specs.Structures.{HasNoStructure, IsRecipientStructure, IsStructure};
-ghost use Rattle.coset.specs.Names.{number, text_label};
+ghost use Rattle.coset.specs.LabelData.{number, text_label};
 ghost use Rattle.ffi_c.specs.Numbers.{bytes_if, content_query, kind_of, map_query, part_query};
 ghost use Rattle.ffi_c.specs.Replies.{IsMisuse, Replies, RepliesCheck, RepliesValue};
 
@@ -59,7 +59,7 @@ pub extern "C" fn coset_check(alloc: Global, kind: u32, input: &[u8], offset: &m
 #[unsafe(no_mangle)]
 pub extern "C" fn coset_count(alloc: Global, kind: u32, input: &[u8], count: &mut usize) -> i32
     ensures { MatchOption (kind_of kind) (IsMisuse result count.new 0)
-        (λ k. Replies (AnswersNumber k input.now (IsPositiveCount k) (HasNoCount k))
+        (λ k. Replies (ReturnsNumber k input.now (IsPositiveCount k) (HasNoCount k))
         result count.new) }
 {
     match within(kind_of(kind), input, &[]) {
@@ -144,7 +144,7 @@ pub extern "C" fn coset_label_bytes(
     len: &mut usize,
 ) -> i32
     ensures { MatchOption (map_query kind map) (IsMisuse result len.new 0 × (out.new ≡ out.old))
-        (λ q. Replies (AnswersOr q.0 input.now (IsStringOf q.0 q.1 (number label))
+        (λ q. Replies (ReturnsOr q.0 input.now (IsStringOf q.0 q.1 (number label))
         (HasNoString q.0 q.1 (number label)) out.old out.new) result len.new) }
 {
     match within(map_query(kind, map), input, out) {
@@ -167,7 +167,7 @@ pub extern "C" fn coset_label_int(
     value: &mut i64,
 ) -> i32
     ensures { MatchOption (map_query kind map) (IsMisuse result value.new (pos 0))
-        (λ q. RepliesValue (pos 0) (AnswersNumber q.0 input.now
+        (λ q. RepliesValue (pos 0) (ReturnsNumber q.0 input.now
         (IsNumberOf q.0 q.1 (number label)) (HasNoNumber q.0 q.1 (number label)))
         result value.new) }
 {
@@ -222,7 +222,7 @@ pub extern "C" fn coset_structure(
     ensures { let d = bytes_if has_detached detached.now in
         MatchOption (content_query kind has_detached detached.now)
         (IsMisuse result len.new 0 × (out.new ≡ out.old))
-        (λ k. Replies (AnswersOr k input.now (IsStructure k index external_aad.now d)
+        (λ k. Replies (ReturnsOr k input.now (IsStructure k index external_aad.now d)
         (HasNoStructure k index external_aad.now d) out.old out.new) result len.new) }
 {
     let query = within(content_query(kind, has_detached, detached), input, out);

@@ -2,7 +2,7 @@
 //! elements to lists, and write items again.
 
 ghost use Rattle.std.specs.Prelude.{◌≡◌, MatchOption};
-ghost use Rattle.coset.specs.Names.{number, text_label};
+ghost use Rattle.coset.specs.LabelData.{number, text_label};
 ghost use Rattle.ffi_make.specs.Canonical.{WritesCanonical};
 ghost use Rattle.ffi_make.specs.Given.{a_string, a_text, an_encoding, an_integer};
 ghost use Rattle.ffi_make.specs.Makes.{WritesAgain};

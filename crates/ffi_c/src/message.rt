@@ -2,7 +2,7 @@
 //! caller understands.
 
 ghost use Rattle.std.specs.Prelude.{◌≡◌, MatchOption};
-ghost use Rattle.ffi_query.specs.Answers.{AnswersWith};
+ghost use Rattle.ffi_query.specs.Results.{ReturnsWith};
 ghost use Rattle.ffi_query.specs.View.{HasNoView, IsMessageView};
 ghost use Rattle.ffi_c.specs.Numbers.{bytes_if, content_query};
 ghost use Rattle.ffi_c.specs.Replies.{IsMisuse, reply_status, length_of};
@@ -139,7 +139,7 @@ pub extern "C" fn coset_message(
     ensures { let d = bytes_if has_detached detached.now in
         MatchOption (content_query kind has_detached detached.now)
         (IsMisuse result len.new 0 × (view.new ≡ no_message) × (out.new ≡ out.old))
-        (λ k. RepliesMessage (AnswersWith k input.now
+        (λ k. RepliesMessage (ReturnsWith k input.now
         (IsMessageView k index external_aad.now d known.now input.now)
         (HasNoView k index external_aad.now d known.now) out.old out.new) result len.new view.new) }
 {

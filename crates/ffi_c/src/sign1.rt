@@ -2,7 +2,7 @@
 //! status, a length and the texts, the call returns numbers in a struct of the caller.
 
 ghost use Rattle.std.specs.Prelude.{◌≡◌, [], MatchOption, if◌then◌else◌};
-ghost use Rattle.ffi_query.specs.Answers.{AnswersWith};
+ghost use Rattle.ffi_query.specs.Results.{ReturnsWith};
 ghost use Rattle.ffi_query.specs.View.{HasNoView, IsMessageView};
 ghost use Rattle.ffi_c.specs.Numbers.{bytes_if, sign1_query};
 ghost use Rattle.ffi_c.specs.Replies.{IsMisuse, reply_status, length_of};
@@ -161,7 +161,7 @@ pub extern "C" fn coset_sign1(
     ensures { let d = bytes_if has_detached detached.now in
         MatchOption (sign1_query kind has_detached detached.now)
         (IsMisuse result len.new 0 × (view.new ≡ no_view) × (out.new ≡ out.old))
-        (λ k. RepliesView (AnswersWith k input.now
+        (λ k. RepliesView (ReturnsWith k input.now
         (IsMessageView k 0 external_aad.now d [] input.now) (HasNoView k 0 external_aad.now d [])
         out.old out.new) result len.new view.new) }
 {

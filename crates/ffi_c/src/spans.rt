@@ -2,7 +2,7 @@
 //! message's own texts.
 
 ghost use Rattle.std.specs.Prelude.{◌≡◌, MatchOption};
-ghost use Rattle.ffi_query.specs.Answers.{AnswersWith};
+ghost use Rattle.ffi_query.specs.Results.{ReturnsWith};
 ghost use Rattle.ffi_query.specs.Spans.{IsMessageSpans};
 ghost use Rattle.ffi_query.specs.View.{HasNoView};
 ghost use Rattle.ffi_c.specs.Numbers.{bytes_if, content_query};
@@ -157,7 +157,7 @@ pub extern "C" fn coset_message_spans(
     ensures { let d = bytes_if has_detached detached.now in
         MatchOption (content_query kind has_detached detached.now)
         (IsMisuse result len.new 0 × (view.new ≡ no_spans) × (out.new ≡ out.old))
-        (λ k. RepliesSpans (AnswersWith k input.now
+        (λ k. RepliesSpans (ReturnsWith k input.now
         (IsMessageSpans k index external_aad.now d known.now input.now)
         (HasNoView k index external_aad.now d known.now) out.old out.new) result len.new view.new) }
 {

@@ -4,7 +4,7 @@ ghost use Rattle.std.specs.Prelude.{◌≡◌, MatchOption, option_map, pos, Som
 ghost use Rattle.ffi_query.specs.Status.{refusal_status};
 ghost use Rattle.ffi_query.specs.declared.refusal.Refusal.TheVariants as answers;
 ghost use Rattle.ffi_token.specs.Rules.{rules_view};
-ghost use Rattle.ffi_token.specs.Tokens.{AnswersToken};
+ghost use Rattle.ffi_token.specs.Tokens.{ReturnsToken};
 ghost use Rattle.ffi_c.specs.Replies.{IsMisuse};
 ghost use Rattle.ffi_c.specs.Tokens.{RepliesToken, algorithm_or_0, authentication_of, claims_number, layer_of, layer_numbers, name_of, no_layer, plain_of, policy_of, reason_number, seconds_if, token_length, token_number, token_status, unassigned_of};
 
@@ -353,7 +353,7 @@ pub extern "C" fn coset_token_claims(
     ensures { MatchOption (policy_of rules.now signatures.now macs.now ciphers.now critical.now
         issuer.now audience.now)
         (IsMisuse result len.new 0 × (layer.new ≡ no_layer) × (out.new ≡ out.old))
-        (λ p. RepliesToken (AnswersToken bytes.now opened.now p input.now now out.old out.new)
+        (λ p. RepliesToken (ReturnsToken bytes.now opened.now p input.now now out.old out.new)
         result len.new layer.new) }
 {
     let rules = rules_of(rules, signatures, macs, ciphers, critical, issuer, audience);

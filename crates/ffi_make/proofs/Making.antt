@@ -9,7 +9,7 @@ use Rattle.ffi_query.specs.declared.kind.Kind as kinds
 use Rattle.ffi_query.specs.declared.refusal.Refusal as refusals
 use Rattle.ffi_query.specs.declared.refusal.Refusal.TheVariants.{Short, Absent, WrongType, Empty, Misuse, Cose}
 use Rattle.ffi_query.specs.declared.kind.Kind.TheVariants.{Header}
-use Rattle.ffi_query.specs.Answers.{WritesFound}
+use Rattle.ffi_query.specs.Results.{WritesFound}
 use Rattle.ffi_query.specs.Kinds.{Checks}
 use Rattle.ffi_make.specs.StructuresMade.{ChecksHeader}
 use Rattle.ffi_make.specs.Makes.{FindsText, Makes, Writes, WritesMade}

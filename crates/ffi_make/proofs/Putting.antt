@@ -6,7 +6,7 @@ use Rattle.std.specs.Prelude.{option_and_then}
 use Rattle.coset.specs.CoseError.{CoseError}
 use Rattle.coset.specs.Errors.{UnlessMemory}
 use Rattle.coset.specs.Item.{Item, Pairs, no_pairs, pair}
-use Rattle.coset.specs.Names.{Name}
+use Rattle.coset.specs.LabelData.{LabelView}
 use Rattle.ffi_query.specs.declared.label.Label as labels
 use Rattle.ffi_query.specs.Labels.{label_view}
 use Rattle.ffi_make.specs.declared.given.Entry as entries
@@ -14,7 +14,7 @@ use Rattle.ffi_make.specs.Given.{EntryFaults, EntryView, IsEntry, IsKey, KeyFaul
 use Rattle.ffi_make.specs.PairsMade.{ArePairs, SomePairFaults, pairs_and, with_pair, with_pairs}
 
 are_more :
-    (xs : List (Name × EntryView)) (x : Name × EntryView) (qs : Pairs) (k v : Item) → ArePairs xs qs → IsKey x.0 k × IsEntry x.1 v
+    (xs : List (LabelView × EntryView)) (x : LabelView × EntryView) (qs : Pairs) (k v : Item) → ArePairs xs qs → IsKey x.0 k × IsEntry x.1 v
     → ArePairs (xs ++ x ∷ []) (pairs_and qs (pair k v no_pairs))
 are_more [] x qs k v e h = subst (λ q. ArePairs (x ∷ []) (pairs_and q (pair k v no_pairs))) (sym e) (h, refl)
 are_more (y ∷ ys) x no_pairs k v e h = absurd e

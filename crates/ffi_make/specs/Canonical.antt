@@ -2,10 +2,10 @@
 use Rattle.std.specs.Prelude.{ℕ, List, Result}
 use Rattle.coset.specs.CoseError.{CoseError}
 use Rattle.coset_label.specs.declared.ordering.CborOrdering.{CborOrdering}
-use Rattle.coset.specs.Answers.{Describes, DescribesNothing, SliceFaults}
+use Rattle.coset.specs.Results.{Describes, DescribesNothing, SliceFaults}
 use Rattle.coset.specs.Canonical.{IsCanonicalOf}
 use Rattle.coset.specs.Keys.{KeyView, key}
-use Rattle.ffi_query.specs.Answers.{IsEncodingOf}
+use Rattle.ffi_query.specs.Results.{IsEncodingOf}
 use Rattle.ffi_query.specs.declared.refusal.Refusal as refusals
 use Rattle.ffi_make.specs.Makes.{Writes}
 

@@ -4,12 +4,12 @@ use Rattle.std.specs.Str.{IsUtf8}
 use Rattle.std.specs.Str.Lossy.{utf8_valid_len}
 use Rattle.coset.specs.Item.{Item, integer, bytes, text}
 use Rattle.coset.specs.Grammar.{IsItem}
-use Rattle.coset.specs.Answers.{IsWholeFault}
+use Rattle.coset.specs.Results.{IsWholeFault}
 use Rattle.coset.specs.CoseError.{CoseError}
 use Rattle.coset.specs.CoseError.TheVariants.{DecodeFailed}
 use Rattle.coset.specs.Error.TheVariants.{Syntax}
 use Rattle.coset.specs.Errors.{UnlessMemory}
-use Rattle.coset.specs.Names.{Name, number, text_label}
+use Rattle.coset.specs.LabelData.{LabelView, number, text_label}
 use Rattle.ffi_query.specs.declared.label.Label as labels
 use Rattle.ffi_query.specs.Labels.{label_view}
 use Rattle.ffi_make.specs.declared.given.Entry as entries
@@ -43,11 +43,11 @@ abbrev pub IsTextFault : List ℕ → CoseError → Type 0
 IsTextFault t e = (IsUtf8 t → ⊥) × (e ≡ DecodeFailed (Syntax (utf8_valid_len t)))
 
 -- The item is this label: label = int / tstr (RFC 8152, section 1.4).
-abbrev pub IsKey : Name → Item → Type 0
+abbrev pub IsKey : LabelView → Item → Type 0
 IsKey (number n) v = v ≡ integer n
 IsKey (text_label t) v = IsText t v
 
-abbrev pub KeyFaults : Name → CoseError → Type 0
+abbrev pub KeyFaults : LabelView → CoseError → Type 0
 KeyFaults (number n) e = ⊥
 KeyFaults (text_label t) e = IsTextFault t e
 
@@ -65,10 +65,10 @@ entry_view (Text t) = a_text t.now
 entry_view (Encoded b) = an_encoding b.now
 
 -- The view of a label and its value.
-abbrev pub pair_view : labels.Label × entries.Entry → Name × EntryView
+abbrev pub pair_view : labels.Label × entries.Entry → LabelView × EntryView
 pair_view p = (label_view p.0, entry_view p.1)
 
-abbrev pub pairs_view : List (labels.Label × entries.Entry) → List (Name × EntryView)
+abbrev pub pairs_view : List (labels.Label × entries.Entry) → List (LabelView × EntryView)
 pairs_view ps = map pair_view ps
 
 -- The item is this value.

@@ -2,13 +2,13 @@
 use Rattle.std.specs.Prelude.{◌≡◌, ◌⊎◌, ℕ, List, Option, Some, None, Result, Ok, Err}
 use Rattle.coset.specs.Item.{Item}
 use Rattle.coset.specs.Grammar.{IsItem}
-use Rattle.coset.specs.Answers.{IsWholeFault}
+use Rattle.coset.specs.Results.{IsWholeFault}
 use Rattle.coset.specs.CoseError.{CoseError}
 use Rattle.coset.specs.Errors.{UnlessMemory}
 use Rattle.ffi_query.specs.declared.kind.Kind as kinds
 use Rattle.ffi_query.specs.declared.refusal.Refusal as refusals
 use Rattle.ffi_query.specs.declared.refusal.Refusal.TheVariants.{Short, Absent, Cose}
-use Rattle.ffi_query.specs.Answers.{IsEncodingOf, Puts}
+use Rattle.ffi_query.specs.Results.{IsEncodingOf, Puts}
 use Rattle.ffi_query.specs.Kinds.{IsOf, IsRefused}
 
 -- The result of a call that writes a text with property P. The text is at the front of the memory, or it doesn't fit.

@@ -2,7 +2,7 @@
 use Rattle.std.specs.Prelude.{◌⊎◌, ℕ, List, Option, Some, None, option_map, Bool, true, false, Result}
 use Rattle.coset.specs.Item.{Item, tag, array, Items, no_items, item}
 use Rattle.coset.specs.Grammar.{IsItem}
-use Rattle.coset.specs.Answers.{IsWholeFault}
+use Rattle.coset.specs.Results.{IsWholeFault}
 use Rattle.coset.specs.CoseError.{CoseError}
 use Rattle.ffi_query.specs.declared.kind.Kind as kinds
 use Rattle.ffi_query.specs.declared.kind.Kind.TheVariants.{Sign, Mac, Encrypt, Recipient, KeySet, Any}

@@ -8,7 +8,7 @@ use Rattle.coset.specs.Structure.{structure}
 use Rattle.ffi_query.specs.declared.kind.Kind as kinds
 use Rattle.ffi_query.specs.declared.kind.Kind.TheVariants.{Sign1, Sign, Mac0, Mac, Encrypt0, Encrypt, Recipient, Header}
 use Rattle.ffi_query.specs.declared.refusal.Refusal as refusals
-use Rattle.ffi_query.specs.Answers.{IsEncodingOf}
+use Rattle.ffi_query.specs.Results.{IsEncodingOf}
 use Rattle.ffi_query.specs.Kinds.{IsOf, IsRefused}
 use Rattle.ffi_make.specs.Makes.{RefusesInputs, Writes}
 

@@ -1,7 +1,7 @@
 //! The arguments of calls: bytes that should be one item, labels, and values of map pairs.
 
 ghost use Rattle.std.specs.Prelude.{◌≡◌, IfErr, IfOk, MatchResult};
-ghost use Rattle.coset.specs.Answers.{ReadsWhole};
+ghost use Rattle.coset.specs.Results.{ReadsWhole};
 ghost use Rattle.coset.specs.Errors.{UnlessMemory};
 ghost use Rattle.coset.specs.View.{value_item};
 ghost use Rattle.coset.specs.CoseError.TheVariants.{OutOfMemory};

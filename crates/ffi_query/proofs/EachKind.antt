@@ -6,7 +6,7 @@ use Rattle.coset.specs.Grammar.{IsItem}
 use Rattle.coset.specs.Shape.{Shape}
 use Rattle.coset.specs.CoseError.{CoseError}
 use Rattle.coset.specs.CoseError.TheVariants.{OutOfMemory}
-use Rattle.coset.specs.Answers.{Describes, DescribesNothing, IsOnlyItem, IsWholeFault, SliceFaults}
+use Rattle.coset.specs.Results.{Describes, DescribesNothing, IsOnlyItem, IsWholeFault, SliceFaults}
 use Rattle.coset.specs.Errors.{UnlessMemory}
 use Rattle.ffi_query.specs.declared.kind.Kind as kinds
 use Rattle.ffi_query.specs.declared.kind.Kind.TheVariants.{Sign1, Sign, Mac0, Mac, Encrypt0, Encrypt, Signature, Recipient}

@@ -1,7 +1,7 @@
 -- What is known of bytes that are an item of a kind.
 use Rattle.std.proofs.Common.{◌≡◌, ◌∙◌, ℕ, List, Option, ap}
 use Rattle.std.specs.Prelude.{IfSome}
-use Rattle.coset.specs.Answers.{IsOnlyItem}
+use Rattle.coset.specs.Results.{IsOnlyItem}
 use Rattle.coset.specs.Item.{Item}
 use Rattle.ffi_query.specs.declared.found.Found as declared
 use Rattle.ffi_query.specs.declared.kind.Kind as kinds

@@ -11,7 +11,7 @@ use Rattle.coset.specs.Messages.{with_headers}
 use Rattle.coset.specs.Parts.{as_bytes, as_tag}
 use Rattle.coset.specs.PerhapsTagged.{untagged}
 use Rattle.coset.specs.Shape.{◌then◌, Elements, Shape, bstr, end, is_nil, or_nil}
-use Rattle.coset.specs.Answers.{Describes, IsOnlyItem}
+use Rattle.coset.specs.Results.{Describes, IsOnlyItem}
 use Rattle.ffi_query.specs.declared.kind.Form as forms
 use Rattle.ffi_query.specs.declared.kind.Form.TheVariants.{Plain, Tagged, Either}
 use Rattle.ffi_query.specs.declared.kind.Kind as kinds

@@ -4,16 +4,16 @@ use Rattle.std.proofs.Common.{None, Bor, true, false, ap, sym, subst, refl, inl,
 use Rattle.std.proofs.lemmas.List.{length-append}
 use Rattle.std.specs.Option.{option_copied}
 use Rattle.std.specs.Prelude.{IfSome, codes, option_and_then, option_map}
-use Rattle.coset.specs.Answers.{IsOnlyItem}
+use Rattle.coset.specs.Results.{IsOnlyItem}
 use Rattle.coset.specs.Grammar.{IsItem}
 use Rattle.coset.specs.Item.{Item, integer, bytes, float, text, boolean, null, tag, array, dict}
-use Rattle.coset.specs.Names.{Name}
+use Rattle.coset.specs.LabelData.{LabelView}
 use Rattle.coset.specs.Parts.{as_bytes}
 use Rattle.coset.specs.ShapeLaws.{some-none}
 use Rattle.ffi_query.specs.declared.kind.Kind as kinds
 use Rattle.ffi_query.specs.declared.kind.Kind.TheVariants.{Sign1, Sign, Mac0, Mac, Encrypt0, Encrypt, Signature, Recipient}
 use Rattle.ffi_query.specs.declared.kind.Kind.TheVariants.{Header, Key, KeySet, Claims, Any, KdfContext}
-use Rattle.ffi_query.specs.declared.lent.Texts.{Texts}
+use Rattle.ffi_query.specs.declared.borrowed.Texts.{Texts}
 use Rattle.ffi_query.specs.declared.located.Located.{Located}
 use Rattle.ffi_query.specs.declared.located.Text.{Text}
 use Rattle.ffi_query.specs.declared.view.Algorithm as algorithms
@@ -21,10 +21,10 @@ use Rattle.ffi_query.specs.declared.view.Algorithm.TheVariants as named
 use Rattle.ffi_query.specs.declared.view.KeyIdPlace as places
 use Rattle.ffi_query.specs.declared.view.KeyIdPlace.TheVariants as found
 use Rattle.ffi_query.specs.declared.view.MessageView.{MessageView}
-use Rattle.ffi_query.specs.Answers.{Finds, IsEncodingOf}
+use Rattle.ffi_query.specs.Results.{Finds, IsEncodingOf}
 use Rattle.ffi_query.specs.Critical.{IsCriticalIn, IsCriticalOf}
 use Rattle.ffi_query.specs.Labels.{IsProtected, IsUnderIn, unprotected_value, value_under}
-use Rattle.ffi_query.specs.Lent.{AreTexts, HasNoCritical, IsCarried, IsEmptyIn, IsSigned, KnowsAlgorithm, KnowsKeyId, Says, structure_by}
+use Rattle.ffi_query.specs.Borrowed.{AreTexts, HasNoCritical, IsAttached, IsEmptyIn, IsSigned, KnowsAlgorithm, KnowsKeyId, Says, structure_by}
 use Rattle.ffi_query.specs.Located.{AreLocated, located_item}
 use Rattle.ffi_query.specs.Parts.{has_headers, place_of}
 use Rattle.ffi_query.specs.Places.{bytes_in, element, string_in}
@@ -51,24 +51,24 @@ knows_algorithm v w named.Text u h = (w, u, h)
 -- ---- the values under labels in headers
 
 found_within :
-    (l : Name) (p : List ℕ) (m : Item) (o : Option Located) → IsOnlyItem p m → option_map located_item o ≡ value_under l m
+    (l : LabelView) (p : List ℕ) (m : Item) (o : Option Located) → IsOnlyItem p m → option_map located_item o ≡ value_under l m
     → Finds located_item (IsUnderIn l p) o
 found_within l p m (Some x) only e = (m, only.0, sym e)
 found_within l p m None only e = λ w u. none_is (e ∙ (ap (value_under l) (sym (only.1 u.0 u.1)) ∙ u.2))
 
 pub protected_found :
-    (v m : Item) (p : List ℕ) (l : Name) (o : Option Located) → bytes_in 0 v ≡ Some p → IsOnlyItem p m
+    (v m : Item) (p : List ℕ) (l : LabelView) (o : Option Located) → bytes_in 0 v ≡ Some p → IsOnlyItem p m
     → option_map located_item o ≡ value_under l m → Finds located_item (IsProtected l (bytes_in 0 v)) o
 protected_found v m p l o is only e = subst (λ q. Finds located_item (IsProtected l q) o) (sym is) (found_within l p m o only e)
 
 pub protected_none :
-    (v : Item) (p : List ℕ) (l : Name) (o : Option Located) → bytes_in 0 v ≡ Some p → ((m : Item) → IsItem p m → ⊥)
+    (v : Item) (p : List ℕ) (l : LabelView) (o : Option Located) → bytes_in 0 v ≡ Some p → ((m : Item) → IsItem p m → ⊥)
     → option_map located_item o ≡ None → Finds located_item (IsProtected l (bytes_in 0 v)) o
 protected_none v p l (Some x) is none e = absurd (none_is (sym e))
 protected_none v p l None is none e = subst (λ q. Finds located_item (IsProtected l q) None) (sym is) (λ w u. none u.0 u.1)
 
 pub unprotected_found :
-    (v u : Item) (l : Name) (o : Option Located) → element 1 v ≡ Some u → option_map located_item o ≡ value_under l u
+    (v u : Item) (l : LabelView) (o : Option Located) → element 1 v ≡ Some u → option_map located_item o ≡ value_under l u
     → Finds located_item (λ w. unprotected_value l v ≡ Some w) o
 unprotected_found v u l (Some x) is e = ap (option_and_then (value_under l)) is ∙ sym e
 unprotected_found v u l None is e = λ w f. none_is (e ∙ (sym (ap (option_and_then (value_under l)) is) ∙ f))
@@ -125,7 +125,7 @@ module _ (k : kinds.Kind) (v : Item) (has : has_headers k ≡ true) where
   key_id_known found.Unprotected t h = (λ s x. h.0 x.0 x.1.1, (h.1.0, (has, h.1.1), string_of h.1.0 t h.1.2))
 
 content_known :
-    (k : kinds.Kind) (v place : Item) (t : List ℕ) → place_of (content_part k) k ≡ Some 2 → element 2 v ≡ Some place → IsCarried place t
+    (k : kinds.Kind) (v place : Item) (t : List ℕ) → place_of (content_part k) k ≡ Some 2 → element 2 v ≡ Some place → IsAttached place t
     → IsContent k v t
 content_known k v place t e f h =
     let same : option_and_then (λ n. bytes_in n v) (place_of (content_part k) k) ≡ as_bytes place =

@@ -3,7 +3,7 @@ use Rattle.std.proofs.Common.{◌≡◌, ◌∙◌, ◌++◌, ◌+◌, ◌-◌, 
 use Rattle.std.proofs.Common.{◌∷◌, length, drop, Option, Some, None, Bool, Bor, false, true, true≢false, ap, sym, subst, refl, inl, inr, arith}
 use Rattle.std.specs.Prelude.{MatchOption}
 use Rattle.std.proofs.lemmas.List.{append-nil, append_assoc, drop_at, length-append}
-use Rattle.coset.specs.Grammar.{HeadWidth, within, one, two, four, eight, Holds, IsHeld, head_in, joined_chunks, string_type}
+use Rattle.coset.specs.Grammar.{HeadWidth, within, one, two, four, eight, Holds, EnclosesContent, head_in, joined_chunks, string_type}
 use Rattle.coset.specs.Item.{Item, integer, bytes, float, text, boolean, null, tag, array, dict}
 use Rattle.coset.specs.Chunks.{YieldsChunk, chunks_left}
 use Rattle.coset.specs.ShapeLaws.{some-none}
@@ -78,7 +78,7 @@ record Held (s c : List ℕ) : Type 0 where
   parts : c ≡ head ++ (s ++ last)
   size : length head ≡ head_len c
 
-held : (m n : ℕ) (s c : List ℕ) → IsHeld m n s c → Held s c
+held : (m n : ℕ) (s c : List ℕ) → EnclosesContent m n s c → Held s c
 held m n s c (inl h) = record {
   head = h.head;
   last = [];
@@ -95,7 +95,7 @@ held m n s c (inr e) = record {
   size = sym (ap head_len e ∙ ap head_len_by (info_of m 31 (omega arith)));
 }
 
-pub located_held : (m n : ℕ) (b s c r : List ℕ) → AreLocated b c r → IsHeld m n s c → AreLocated b s (drop (head_len c) r)
+pub located_held : (m n : ℕ) (b s c r : List ℕ) → AreLocated b c r → EnclosesContent m n s c → AreLocated b s (drop (head_len c) r)
 located_held m n b s c r l h =
     let x = held m n s c h in
     let whole : AreLocated b (x.head ++ (s ++ x.last)) r = subst (λ y. AreLocated b y r) x.parts l in

@@ -5,14 +5,14 @@ use Rattle.std.proofs.lemmas.List.{length-take-le, take-append-drop}
 use Rattle.std.specs.Prelude.{IfSome, MatchResult}
 use Rattle.coset.specs.Grammar.{IsItem}
 use Rattle.coset.specs.Item.{Item}
-use Rattle.coset.specs.Names.{Name}
+use Rattle.coset.specs.LabelData.{LabelView}
 use Rattle.ffi_query.specs.declared.kind.Kind as kinds
 use Rattle.ffi_query.specs.declared.label.Map as maps
 use Rattle.ffi_query.specs.declared.label.Map.TheVariants as of
 use Rattle.ffi_query.specs.declared.located.Located.{Located}
 use Rattle.ffi_query.specs.declared.refusal.Refusal as refusals
 use Rattle.ffi_query.specs.declared.refusal.Refusal.TheVariants.{WrongType}
-use Rattle.ffi_query.specs.Answers.{Finds}
+use Rattle.ffi_query.specs.Results.{Finds}
 use Rattle.ffi_query.specs.Elements.{HasNoValueAt, IsItemAt, IsProtectedInChunks}
 use Rattle.ffi_query.specs.Labels.{IsProtected, IsUnder}
 use Rattle.ffi_query.specs.Located.{IsLocated, located_item}
@@ -37,7 +37,7 @@ item_there b at s rest w n le parts is size = record {
 
 module _ (b : List ℕ) (k : kinds.Kind) where
   in_protected :
-      (l : Name) (v : Item) (r : Result (Option Located) refusals.Refusal) → has_headers k ≡ true
+      (l : LabelView) (v : Item) (r : Result (Option Located) refusals.Refusal) → has_headers k ≡ true
       → MatchResult r (λ o. Finds located_item (IsProtected l (bytes_in 0 v)) o × IfSome o (IsLocated b))
       (λ e. (e ≡ WrongType) × IsProtectedInChunks b v)
       → MatchResult r (λ o. Finds located_item (IsUnder k of.Protected l v) o × IfSome o (IsLocated b)) (HasNoValueAt b k of.Protected l v)
@@ -47,7 +47,7 @@ module _ (b : List ℕ) (k : kinds.Kind) where
 
   -- The value under a label, if the map that is searched is the protected header.
   pub under_protected :
-      (m : maps.Map) (l : Name) (v : Item) (r : Result (Option Located) refusals.Refusal) → m ≡ of.Protected → has_headers k ≡ true
+      (m : maps.Map) (l : LabelView) (v : Item) (r : Result (Option Located) refusals.Refusal) → m ≡ of.Protected → has_headers k ≡ true
       → MatchResult r (λ o. Finds located_item (IsProtected l (bytes_in 0 v)) o × IfSome o (IsLocated b))
       (λ e. (e ≡ WrongType) × IsProtectedInChunks b v)
       → MatchResult r (λ o. Finds located_item (IsUnder k m l v) o × IfSome o (IsLocated b)) (HasNoValueAt b k m l v)

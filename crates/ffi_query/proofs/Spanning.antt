@@ -5,17 +5,17 @@ use Rattle.std.proofs.lemmas.List.{append-nil, append_assoc, length-append}
 use Rattle.std.specs.Prelude.{if◌then◌else◌}
 use Rattle.coset.specs.Item.{Item}
 use Rattle.ffi_query.specs.declared.kind.Kind as kinds
-use Rattle.ffi_query.specs.declared.lent.Lent as declared
+use Rattle.ffi_query.specs.declared.borrowed.Borrowed as declared
 use Rattle.ffi_query.specs.declared.refusal.Refusal as refusals
 use Rattle.ffi_query.specs.declared.refusal.Refusal.TheVariants.{Short, Absent, WrongType, Empty, Misuse, Cose}
 use Rattle.ffi_query.specs.declared.spans.MessageSpans.{MessageSpans}
 use Rattle.ffi_query.specs.declared.spans.Start.{Start}
 use Rattle.ffi_query.specs.declared.view.MessageView.{MessageView}
-use Rattle.ffi_query.specs.Answers.{AnswersWith, PutsTexts}
+use Rattle.ffi_query.specs.Results.{ReturnsWith, PutsTexts}
 use Rattle.ffi_query.specs.Kinds.{TellsTagOf, tag_of}
-use Rattle.ffi_query.specs.Lent.{IsLent, IsLentOf, Says}
+use Rattle.ffi_query.specs.Borrowed.{IsBorrowed, IsBorrowedOf, Says}
 use Rattle.ffi_query.specs.Located.{AreLocated}
-use Rattle.ffi_query.specs.Spans.{AreLentSpans, IsAt, IsMessageSpans, IsStart, copied, copied_spans}
+use Rattle.ffi_query.specs.Spans.{AreBorrowedSpans, IsAt, IsMessageSpans, IsStart, copied, copied_spans}
 use Rattle.ffi_query.specs.View.{IsMessageView}
 use Rattle.ffi_query.proofs.EachKind.{memory_refuses}
 
@@ -40,7 +40,8 @@ module _
   where
     -- Borrowed texts, by their places.
     lent_is :
-        (v : Item) (x : declared.Lent) (m : MessageSpans) → IsLent k i aad d ns b v x → TellsTagOf (tag_of k) b x.view.is_tagged → AreLentSpans b x m
+        (v : Item) (x : declared.Borrowed) (m : MessageSpans) → IsBorrowed k i aad d ns b v x → TellsTagOf (tag_of k) b x.view.is_tagged
+        → AreBorrowedSpans b x m
         → IsMessageSpans k i aad d ns b v m (x.structure.front.items ++ x.structure.end.now)
     lent_is v x m l tagged spans =
         let t = x.structure.front.items ++ x.structure.end.now in
@@ -57,9 +58,9 @@ module _
         }
 
     pub lent_answered :
-        (x : declared.Lent) (m : MessageSpans) (r : Result MessageSpans refusals.Refusal) → IsLentOf k i aad d ns b x → AreLentSpans b x m
+        (x : declared.Borrowed) (m : MessageSpans) (r : Result MessageSpans refusals.Refusal) → IsBorrowedOf k i aad d ns b x → AreBorrowedSpans b x m
         → PutsTexts m (x.structure.front.items ++ x.structure.end.now) old new r
-        → AnswersWith k b (IsMessageSpans k i aad d ns b) Q old new r
+        → ReturnsWith k b (IsMessageSpans k i aad d ns b) Q old new r
     lent_answered x m (Ok n) l spans w =
         let t = x.structure.front.items ++ x.structure.end.now in
         (l.item, l.is_item, (t, subst (λ y. IsMessageSpans k i aad d ns b l.item y t) (sym w.0) (lent_is l.item x m l.lent l.is_tagged spans), w.1))
@@ -109,8 +110,8 @@ module _
         }
 
     pub copied_answered :
-        (r : Result MessageView refusals.Refusal) → AnswersWith k b (IsMessageView k i aad d ns b) Q old new r
-        → AnswersWith k b (IsMessageSpans k i aad d ns b) Q old new (copied r)
+        (r : Result MessageView refusals.Refusal) → ReturnsWith k b (IsMessageView k i aad d ns b) Q old new r
+        → ReturnsWith k b (IsMessageSpans k i aad d ns b) Q old new (copied r)
     copied_answered (Ok n) h = (h.0, h.1, (h.2.0, copied_is h.0 n h.2.0 h.2.1, h.2.2))
     copied_answered (Err (Short m)) h =
         (h.0, h.1, (copied_spans h.2.0, (h.2.1.0, copied_is h.0 h.2.0 h.2.1.0 h.2.1.1, h.2.1.2)))

@@ -3,13 +3,13 @@ use Rattle.std.proofs.Common.{◌≡◌, ◌∙◌, ◌++◌, ℕ, List, [], Opt
 use Rattle.std.specs.Prelude.{IfOk}
 use Rattle.coset.specs.Item.{Item}
 use Rattle.coset.specs.Grammar.{IsEncoding}
-use Rattle.coset.specs.Names.{Name}
+use Rattle.coset.specs.LabelData.{LabelView}
 use Rattle.coset.specs.ShapeLaws.{some-none, some-one}
 use Rattle.coset.specs.CoseError.{CoseError}
 use Rattle.ffi_query.specs.declared.kind.Kind as kinds
 use Rattle.ffi_query.specs.declared.label.Map as maps
 use Rattle.ffi_query.specs.declared.label.Map.TheVariants as of
-use Rattle.ffi_query.specs.Answers.{Finds}
+use Rattle.ffi_query.specs.Results.{Finds}
 use Rattle.ffi_query.specs.Labels.{IsProtected, IsStringOf, IsUnder, IsUnderIn, value_under}
 use Rattle.ffi_query.specs.Places.{bytes_in, string_in}
 
@@ -19,16 +19,16 @@ OneItem = (v w : Item) (b c x y : List ℕ) → IsEncoding v b → IsEncoding w 
 
 -- ---- a label has one value
 
-same_within : OneItem → (l : Name) (b : List ℕ) (w x : Item) → IsUnderIn l b w → IsUnderIn l b x → w ≡ x
+same_within : OneItem → (l : LabelView) (b : List ℕ) (w x : Item) → IsUnderIn l b w → IsUnderIn l b x → w ≡ x
 same_within law l b w x p q =
     let same : p.0 ≡ q.0 = (law p.0 q.0 b b [] [] p.1.0 q.1.0 refl).0 in
     some-one p.2 (ap (value_under l) same ∙ q.2)
 
-same_protected : OneItem → (l : Name) (o : Option (List ℕ)) (w x : Item) → IsProtected l o w → IsProtected l o x → w ≡ x
+same_protected : OneItem → (l : LabelView) (o : Option (List ℕ)) (w x : Item) → IsProtected l o w → IsProtected l o x → w ≡ x
 same_protected law l None w x p q = absurd p
 same_protected law l (Some b) w x p q = same_within law l b w x p q
 
-pub one_value : OneItem → (k : kinds.Kind) (m : maps.Map) (l : Name) (v w x : Item) → IsUnder k m l v w → IsUnder k m l v x → w ≡ x
+pub one_value : OneItem → (k : kinds.Kind) (m : maps.Map) (l : LabelView) (v w x : Item) → IsUnder k m l v w → IsUnder k m l v x → w ≡ x
 one_value law k of.Protected l v w x p q = same_protected law l (bytes_in 0 v) w x p.1 q.1
 one_value law k of.Unprotected l v w x p q = some-one p.1 q.1
 one_value law k of.Item l v w x p q = some-one p q
@@ -36,7 +36,7 @@ one_value law k of.Item l v w x p q = some-one p q
 -- ---- strings
 
 pub string_found :
-    {T : Type 0} (bytes_of : T → List ℕ) → OneItem → (k : kinds.Kind) (m : maps.Map) (l : Name) (v w : Item) (o : Option T) → IsUnder k m l v w
+    {T : Type 0} (bytes_of : T → List ℕ) → OneItem → (k : kinds.Kind) (m : maps.Map) (l : LabelView) (v w : Item) (o : Option T) → IsUnder k m l v w
     → option_map bytes_of o ≡ string_in w
     → Finds bytes_of (IsStringOf k m l v) o
 string_found bytes_of law k m l v w (Some x) u e = (w, u, sym e)
@@ -44,7 +44,7 @@ string_found bytes_of law k m l v w None u e = λ t h. some-none (ap string_in (
 
 -- ---- in a protected header
 
-pub protected_as : {T : Type 0} (view : T → Item) (l : Name) (o : Option (List ℕ)) (b : List ℕ) (r : Result (Option T) CoseError) → Some b ≡ o
+pub protected_as : {T : Type 0} (view : T → Item) (l : LabelView) (o : Option (List ℕ)) (b : List ℕ) (r : Result (Option T) CoseError) → Some b ≡ o
     → IfOk r (Finds view (IsUnderIn l b))
     → IfOk r (Finds view (IsProtected l o))
 protected_as view l o b r e h = subst (λ p. IfOk r (Finds view (IsProtected l p))) e h

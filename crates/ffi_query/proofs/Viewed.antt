@@ -4,19 +4,19 @@ use Rattle.std.proofs.Common.{Ok, Err, Bool, true, false, ap, ap₂, sym, subst,
 use Rattle.std.proofs.lemmas.Bool.{eqb-true}
 use Rattle.coset.specs.Item.{Item, integer, bytes, float, text, boolean, null, tag, array, dict}
 use Rattle.coset.specs.Grammar.{IsItem}
-use Rattle.coset.specs.Answers.{IsOnlyItem}
+use Rattle.coset.specs.Results.{IsOnlyItem}
 use Rattle.ffi_query.specs.declared.kind.Kind as kinds
 use Rattle.ffi_query.specs.declared.label.Map.TheVariants as of
-use Rattle.ffi_query.specs.declared.lent.Lent as declared
+use Rattle.ffi_query.specs.declared.borrowed.Borrowed as declared
 use Rattle.ffi_query.specs.declared.view.Algorithm as algorithms
 use Rattle.ffi_query.specs.declared.view.Algorithm.TheVariants as named
 use Rattle.ffi_query.specs.declared.view.MessageView.{MessageView}
 use Rattle.ffi_query.specs.declared.refusal.Refusal as refusals
 use Rattle.ffi_query.specs.declared.refusal.Refusal.TheVariants.{Short, Absent, WrongType, Empty, Misuse, Cose}
-use Rattle.ffi_query.specs.Answers.{AnswersWith, PutsTexts, PutsWith}
+use Rattle.ffi_query.specs.Results.{ReturnsWith, PutsTexts, PutsWith}
 use Rattle.ffi_query.specs.Kinds.{IsItemOf, TellsTag, TellsTagOf, is_under, is_under_some}
 use Rattle.ffi_query.specs.Labels.{IsUnder}
-use Rattle.ffi_query.specs.Lent.{IsLentOf, lent_text}
+use Rattle.ffi_query.specs.Borrowed.{IsBorrowedOf, borrowed_text}
 use Rattle.ffi_query.specs.View.{HasAlgorithm, IsAlgorithm, IsMessageView, IsViewOf, alg_label}
 use Rattle.ffi_query.proofs.EachKind.{memory_refuses}
 
@@ -60,7 +60,7 @@ algorithm_found k v w named.Text u h = (w, u, h)
 
 pub viewed :
     {N : Type 0} (k : kinds.Kind) (b old new : List ℕ) (P : Item → N → List ℕ → Type 0) (Q : Item → refusals.Refusal → Type 0) (v : Item) (n : N)
-    (t : List ℕ) (r : Result N refusals.Refusal) → IsItemOf k b v → P v n t → PutsWith n t old new r → AnswersWith k b P Q old new r
+    (t : List ℕ) (r : Result N refusals.Refusal) → IsItemOf k b v → P v n t → PutsWith n t old new r → ReturnsWith k b P Q old new r
 viewed k b old new P Q v n t (Ok m) i p w = (v, i, (t, subst (λ x. P v x t) (sym w.0) p, w.1))
 viewed k b old new P Q v n t (Err (Short m)) i p w = (v, i, (n, (t, p, w)))
 viewed k b old new P Q v n t (Err Absent) i p w = absurd w
@@ -71,22 +71,22 @@ viewed k b old new P Q v n t (Err (Cose e)) i p w = absurd w
 
 module _
     (k : kinds.Kind) (i : ℕ) (aad : List ℕ) (d : Option (List ℕ)) (ns : List ℤ) (b old new : List ℕ) (Q : Item → refusals.Refusal → Type 0)
-    (x : declared.Lent)
+    (x : declared.Borrowed)
   where
     -- The four texts of a borrowed view.
-    lent_view : (l : IsLentOf k i aad d ns b x) → IsMessageView k i aad d ns b l.item x.view (lent_text x)
-    lent_view l =
+    label_ref_view : (l : IsBorrowedOf k i aad d ns b x) → IsMessageView k i aad d ns b l.item x.view (borrowed_text x)
+    label_ref_view l =
         let says = l.lent.says in
         let texts = ap₂ (λ s t. s ++ t) says.is_signed
         (ap₂ (λ s t. s ++ t) says.is_proof (ap₂ (λ s t. s ++ t) says.is_content says.is_key_id)) in
         (subst (IsViewOf k i aad d ns l.item x.view) (says.view.is_text ∙ texts) says.view, l.is_tagged)
 
     pub lent_viewed :
-        (r : Result MessageView refusals.Refusal) → IsLentOf k i aad d ns b x → PutsTexts x.view (lent_text x) old new r
-        → AnswersWith k b (IsMessageView k i aad d ns b) Q old new r
+        (r : Result MessageView refusals.Refusal) → IsBorrowedOf k i aad d ns b x → PutsTexts x.view (borrowed_text x) old new r
+        → ReturnsWith k b (IsMessageView k i aad d ns b) Q old new r
     lent_viewed (Ok n) l w =
-        (l.item, l.is_item, (lent_text x, subst (λ y. IsMessageView k i aad d ns b l.item y (lent_text x)) (sym w.0) (lent_view l), w.1))
-    lent_viewed (Err (Short n)) l w = (l.item, l.is_item, (x.view, (lent_text x, lent_view l, w)))
+        (l.item, l.is_item, (borrowed_text x, subst (λ y. IsMessageView k i aad d ns b l.item y (borrowed_text x)) (sym w.0) (label_ref_view l), w.1))
+    lent_viewed (Err (Short n)) l w = (l.item, l.is_item, (x.view, (borrowed_text x, label_ref_view l, w)))
     lent_viewed (Err (Cose e)) l w = (memory_refuses k b e w.0, w.1)
     lent_viewed (Err Absent) l w = absurd w
     lent_viewed (Err WrongType) l w = absurd w

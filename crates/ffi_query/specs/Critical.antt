@@ -3,7 +3,7 @@ use Rattle.std.specs.Prelude.{◌≡◌, ◌⊎◌, ℤ, pos, List, Option, Some
 use Rattle.std.specs.List.{list_any}
 use Rattle.std.specs.Ordering.{int_eq}
 use Rattle.coset.specs.Item.{Item, Items, no_items, item, array}
-use Rattle.coset.specs.Names.{Name, number}
+use Rattle.coset.specs.LabelData.{LabelView, number}
 use Rattle.coset.specs.Parts.{as_integer}
 use Rattle.ffi_query.specs.declared.kind.Kind as kinds
 use Rattle.ffi_query.specs.declared.kind.Kind.TheVariants.{Sign, Signature}
@@ -11,7 +11,7 @@ use Rattle.ffi_query.specs.declared.label.Map as maps
 use Rattle.ffi_query.specs.declared.label.Map.TheVariants as of
 use Rattle.ffi_query.specs.Labels.{IsUnder}
 
-abbrev pub crit_label : Name
+abbrev pub crit_label : LabelView
 crit_label = number (pos 2)
 
 -- The number is one of ns.

@@ -1,10 +1,10 @@
 -- The places in the input b of array elements, map pairs, values and string contents.
 use Rattle.std.specs.Prelude.{◌≡◌, ◌<◌, ℕ, ℤ, List, drop, length, Some, None, false, true, Result, Ok, Err}
-use Rattle.coset.specs.Answers.{IsByteFault}
+use Rattle.coset.specs.Results.{IsByteFault}
 use Rattle.coset.specs.Grammar.{IsItem}
 use Rattle.coset.specs.Item.{Item}
-use Rattle.coset.specs.Names.{Name}
-use Rattle.coset_cbor.specs.Fronts.{HasNoItem}
+use Rattle.coset.specs.LabelData.{LabelView}
+use Rattle.coset_cbor.specs.Prefixes.{HasNoItem}
 use Rattle.ffi_query.specs.declared.elements.Span.{Span}
 use Rattle.ffi_query.specs.declared.kind.Kind as kinds
 use Rattle.ffi_query.specs.declared.label.Map as maps
@@ -26,11 +26,11 @@ pub record IsItemAt (b : List ℕ) (p : Span) (w : Item) : Type 0 where
 
 -- The result of `item_span` for the bytes b: the place of the item that begins at that offset. `Absent`: there are
 -- fewer bytes. `Cose`: no item begins there, because of this fault.
-abbrev pub AnswersItem : List ℕ → ℕ → Result Span refusals.Refusal → Type 0
-AnswersItem b at (Ok p) = (w : Item) × (p.at ≡ at) × IsItemAt b p w
-AnswersItem b at (Err Absent) = length b < at
-AnswersItem b at (Err (Cose e)) = IsByteFault (drop at b) e × HasNoItem (drop at b)
-AnswersItem b at (Err r) = ⊥
+abbrev pub ReturnsItem : List ℕ → ℕ → Result Span refusals.Refusal → Type 0
+ReturnsItem b at (Ok p) = (w : Item) × (p.at ≡ at) × IsItemAt b p w
+ReturnsItem b at (Err Absent) = length b < at
+ReturnsItem b at (Err (Cose e)) = IsByteFault (drop at b) e × HasNoItem (drop at b)
+ReturnsItem b at (Err r) = ⊥
 
 -- The item v, of kind k, has an element at index i, and p is its place.
 abbrev pub IsMemberAt : List ℕ → kinds.Kind → ℕ → Item → Span → Type 0
@@ -41,7 +41,7 @@ abbrev pub ArePairAt : List ℕ → ℕ → Item → Span × Span → Type 0
 ArePairAt b i v p = (x : Item × Item) × (pair_in i v ≡ Some x) × IsItemAt b p.0 x.0 × IsItemAt b p.1 x.1
 
 -- The item v, of kind k, has a value under the label l in the map m, and p is its place.
-abbrev pub IsValueAt : List ℕ → kinds.Kind → maps.Map → Name → Item → Span → Type 0
+abbrev pub IsValueAt : List ℕ → kinds.Kind → maps.Map → LabelView → Item → Span → Type 0
 IsValueAt b k m l v p = (w : Item) × IsUnder k m l v w × IsItemAt b p w
 
 -- The protected header of the item v is encoded in b as a byte string in chunks.
@@ -55,7 +55,7 @@ pub record IsProtectedInChunks (b : List ℕ) (v : Item) : Type 0 where
 
 -- The reason why the value has no place. `Absent`: there is no value. `WrongType`: it is looked up in a protected
 -- header whose byte string is in chunks.
-abbrev pub HasNoValueAt : List ℕ → kinds.Kind → maps.Map → Name → Item → refusals.Refusal → Type 0
+abbrev pub HasNoValueAt : List ℕ → kinds.Kind → maps.Map → LabelView → Item → refusals.Refusal → Type 0
 HasNoValueAt b k m l v Absent = (w : Item) → IsUnder k m l v w → ⊥
 HasNoValueAt b k m l v WrongType = (m ≡ of.Protected) × IsProtectedInChunks b v
 HasNoValueAt b k m l v r = ⊥

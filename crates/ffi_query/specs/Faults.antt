@@ -2,7 +2,7 @@
 use Rattle.std.specs.Prelude.{◌≡◌, ◌⊎◌, ◌<◌, ℕ, List, length, take, Option, Some, None}
 use Rattle.coset.specs.Item.{Item}
 use Rattle.coset.specs.Grammar.{IsItem}
-use Rattle.coset.specs.Fronts.{HasNoItem}
+use Rattle.coset.specs.Prefixes.{HasNoItem}
 use Rattle.coset.specs.ReadErrors.{FaultIn}
 use Rattle.coset.specs.EndOfFile.{EndOfFile}
 use Rattle.coset.specs.Error.{Error}

@@ -3,7 +3,7 @@ use Rattle.std.specs.Prelude.{◌≡◌, ◌==◌, ℕ, List, Option, Some, None
 use Rattle.coset.specs.Item.{Item, tag}
 use Rattle.coset.specs.Grammar.{IsItem}
 use Rattle.coset.specs.CoseError.{CoseError}
-use Rattle.coset.specs.Answers.{Describes, DescribesNothing, SliceFaults}
+use Rattle.coset.specs.Results.{Describes, DescribesNothing, SliceFaults}
 use Rattle.coset.specs.Errors.{UnlessMemory}
 use Rattle.coset.specs.Shape.{Shape, any, tagged}
 use Rattle.coset.specs.PerhapsTagged.{perhaps_tagged, untagged}

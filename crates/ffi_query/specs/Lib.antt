@@ -2,7 +2,7 @@ pub mod Status
 pub mod Faults
 pub mod Kinds
 pub mod Places
-pub mod Answers
+pub mod Results
 pub mod Parts
 pub mod Labels
 pub mod Pairs
@@ -15,6 +15,6 @@ pub mod Located
 pub mod Three
 pub mod Fits
 pub mod Found
-pub mod Lent
+pub mod Borrowed
 pub mod Spans
 pub mod Elements

@@ -4,7 +4,7 @@ use Rattle.coset.specs.Item.{Item, Pairs, no_pairs, pair}
 use Rattle.coset.specs.Parts.{as_map}
 use Rattle.ffi_query.specs.declared.pair.Half as halves
 use Rattle.ffi_query.specs.declared.pair.Half.TheVariants as of
-use Rattle.ffi_query.specs.Answers.{IsEncodingOf}
+use Rattle.ffi_query.specs.Results.{IsEncodingOf}
 
 -- The key and the value of the pair at index n.
 abbrev pub nth_pair : ℕ → Pairs → Option (Item × Item)

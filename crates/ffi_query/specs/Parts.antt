@@ -9,7 +9,7 @@ use Rattle.ffi_query.specs.declared.refusal.Refusal as refusals
 use Rattle.ffi_query.specs.declared.refusal.Refusal.TheVariants.{Absent, Empty}
 use Rattle.ffi_query.specs.declared.part.Part.TheVariants.{Protected, Payload, Ciphertext, Proof}
 use Rattle.ffi_query.specs.Places.{bytes_in, member_at, members}
-use Rattle.ffi_query.specs.Answers.{IsEncodingOf}
+use Rattle.ffi_query.specs.Results.{IsEncodingOf}
 
 -- Items of this kind are arrays that begin with two headers.
 abbrev pub has_headers : kinds.Kind → Bool

@@ -2,13 +2,13 @@
 use Rattle.std.specs.Prelude.{◌==◌, ℕ, pos, List, Option, Some, None, Bool, false, option_and_then, if◌then◌else◌}
 use Rattle.std.specs.Cmp.Lexicographic.{pointwise}
 use Rattle.coset.specs.Item.{Item, bytes, Items, no_items, item}
-use Rattle.coset.specs.Names.{Name, number}
+use Rattle.coset.specs.LabelData.{LabelView, number}
 use Rattle.coset.specs.Parts.{as_array}
-use Rattle.ffi_query.specs.Answers.{IsEncodingOf}
+use Rattle.ffi_query.specs.Results.{IsEncodingOf}
 use Rattle.ffi_query.specs.Labels.{value_under}
 
 -- The label kid of a key (section 7.1, table 3).
-abbrev pub key_id_label : Name
+abbrev pub key_id_label : LabelView
 key_id_label = number (pos 2)
 
 -- The item is a byte string with the content t.

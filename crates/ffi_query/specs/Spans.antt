@@ -2,7 +2,7 @@
 use Rattle.std.specs.Prelude.{◌≡◌, ◌++◌, ◌-◌, ℕ, ℤ, List, length, Option, true, false, Result, Ok, Err, if◌then◌else◌}
 use Rattle.coset.specs.Item.{Item}
 use Rattle.ffi_query.specs.declared.kind.Kind as kinds
-use Rattle.ffi_query.specs.declared.lent.Lent as declared
+use Rattle.ffi_query.specs.declared.borrowed.Borrowed as declared
 use Rattle.ffi_query.specs.declared.refusal.Refusal as refusals
 use Rattle.ffi_query.specs.declared.spans.MessageSpans.{MessageSpans}
 use Rattle.ffi_query.specs.declared.spans.Start.{Start}
@@ -36,7 +36,7 @@ pub record IsMessageSpans (k : kinds.Kind) (i : ℕ) (aad : List ℕ) (d : Optio
   pub len : m.len ≡ length t
 
 -- The places of texts that are in the input.
-pub record AreLentSpans (b : List ℕ) (x : declared.Lent) (m : MessageSpans) : Type 0 where
+pub record AreBorrowedSpans (b : List ℕ) (x : declared.Borrowed) (m : MessageSpans) : Type 0 where
   pub view : m.view ≡ x.view
   pub proof : (m.proof.is_input ≡ true) × (IsTextIn b x.proof → IsAt b m.proof.at x.proof.bytes.now)
   pub content : (m.content.is_input ≡ true) × (IsTextIn b x.content → IsAt b m.content.at x.content.bytes.now)

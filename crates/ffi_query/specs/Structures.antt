@@ -8,7 +8,7 @@ use Rattle.ffi_query.specs.declared.kind.Kind as kinds
 use Rattle.ffi_query.specs.declared.kind.Kind.TheVariants.{Sign1, Sign, Mac0, Mac, Encrypt0, Encrypt, Recipient}
 use Rattle.ffi_query.specs.declared.refusal.Refusal as refusals
 use Rattle.ffi_query.specs.declared.refusal.Refusal.TheVariants.{Absent, Misuse}
-use Rattle.ffi_query.specs.Answers.{IsEncodingOf}
+use Rattle.ffi_query.specs.Results.{IsEncodingOf}
 use Rattle.ffi_query.specs.Parts.{payload_place}
 use Rattle.ffi_query.specs.Places.{bytes_in, element, member_at}
 
@@ -77,13 +77,13 @@ is_filled (Some null) = false
 is_filled (Some v) = true
 
 -- The item v carries an element other than nil at this index.
-abbrev pub is_carried : Option ℕ → Item → Bool
-is_carried o v = is_filled (option_and_then (λ n. element n v) o)
+abbrev pub is_attached : Option ℕ → Item → Bool
+is_attached o v = is_filled (option_and_then (λ n. element n v) o)
 
 -- Content is given as detached, and the item v carries some at this index too.
 abbrev pub is_given_at : Option ℕ → Option (List ℕ) → Item → Bool
 is_given_at o None v = false
-is_given_at o (Some d) v = is_carried o v
+is_given_at o (Some d) v = is_attached o v
 
 -- A payload is given as detached, and the item v carries one too.
 abbrev pub is_given_twice : kinds.Kind → Option (List ℕ) → Item → Bool

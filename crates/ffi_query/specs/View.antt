@@ -1,7 +1,7 @@
 -- The result of a call that says everything about a message (RFC 8152, sections 3.1 and 4 to 6).
 use Rattle.std.specs.Prelude.{◌≡◌, ◌⊎◌, ℕ, ℤ, pos, List, [], ◌++◌, length, Option, Some, None, true, false}
 use Rattle.coset.specs.Item.{Item}
-use Rattle.coset.specs.Names.{Name, number}
+use Rattle.coset.specs.LabelData.{LabelView, number}
 use Rattle.ffi_query.specs.declared.kind.Kind as kinds
 use Rattle.ffi_query.specs.declared.kind.Kind.TheVariants.{Sign, Encrypt0, Encrypt, Signature}
 use Rattle.ffi_query.specs.declared.label.Map as maps
@@ -23,10 +23,10 @@ use Rattle.ffi_query.specs.Places.{bytes_in, member_at}
 use Rattle.ffi_query.specs.Structures.{IsStructure, is_given_twice}
 
 -- The labels alg and kid (section 3.1, table 2).
-abbrev pub alg_label : Name
+abbrev pub alg_label : LabelView
 alg_label = number (pos 1)
 
-abbrev pub kid_label : Name
+abbrev pub kid_label : LabelView
 kid_label = number (pos 4)
 
 -- The algorithm that w, the value of alg, names. It is a number if w is an integer in the range of `i64`, else a text.

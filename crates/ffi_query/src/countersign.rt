@@ -10,7 +10,7 @@ ghost use Rattle.coset.specs.Headers.{protected_bytes};
 ghost use Rattle.coset.specs.Pulls.{pull_item};
 ghost use Rattle.coset.specs.Shortest.{IsShortest};
 ghost use Rattle.coset.specs.Views.{protected_view};
-ghost use Rattle.ffi_query.specs.Answers.{AnswersOr, Finds, IsEncodingOf};
+ghost use Rattle.ffi_query.specs.Results.{ReturnsOr, Finds, IsEncodingOf};
 ghost use Rattle.ffi_query.specs.Countersigns.{HasNoCountersigned, IsCountersigned, countersigned, countersigned_by, countersigned_in, countersigned_of, fields_at, other_fields, second_field, second_place, third_place};
 
 use crate::item::{bytes_in, item_of};
@@ -355,7 +355,7 @@ pub fn countersign_structure_of(
     detached: Option<&[u8]>,
     out: &mut [u8],
 ) -> Result<usize, Refusal>
-    ensures { let d = option_copied detached.entry in AnswersOr kind bytes.now
+    ensures { let d = option_copied detached.entry in ReturnsOr kind bytes.now
         (IsCountersigned kind countersignature signer.now external_aad.now d)
         (HasNoCountersigned kind countersignature signer.now external_aad.now d)
         out.old out.new result }

@@ -2,21 +2,21 @@
 //! strings. Nothing is copied.
 
 ghost use Rattle.std.specs.Prelude.{◌≡◌, List, ℕ, IfSome, MatchResult, length, option_map};
-ghost use Rattle.coset.specs.Names.{number};
-ghost use Rattle.ffi_query.specs.Answers.{AnswersNumber, Finds};
+ghost use Rattle.coset.specs.LabelData.{number};
+ghost use Rattle.ffi_query.specs.Results.{ReturnsNumber, Finds};
 ghost use Rattle.ffi_query.specs.declared.kind.Kind.TheVariants.{Any};
 ghost use Rattle.ffi_query.specs.declared.refusal.Refusal.TheVariants.{WrongType};
-ghost use Rattle.ffi_query.specs.Elements.{AnswersItem, ArePairAt, HasNoContent, HasNoInteger, HasNoMember, HasNoPair, HasNoValueAt, IsItemAt, IsMemberAt, IsProtectedInChunks, IsStringAt, IsValueAt};
+ghost use Rattle.ffi_query.specs.Elements.{ReturnsItem, ArePairAt, HasNoContent, HasNoInteger, HasNoMember, HasNoPair, HasNoValueAt, IsItemAt, IsMemberAt, IsProtectedInChunks, IsStringAt, IsValueAt};
 ghost use Rattle.ffi_query.specs.Labels.{IsNumber, IsProtected, IsUnder, unprotected_value};
 ghost use Rattle.ffi_query.specs.Located.{IsLocated, IsTextIn, located_item};
 ghost use Rattle.ffi_query.specs.Places.{bytes_in};
 ghost use Rattle.ffi_query.specs.Spans.{IsAt};
 
+use crate::borrowed::{map_located, number_of};
 use crate::found::whole_of;
 use crate::item::{item_located, item_of};
 use crate::kind::Kind;
 use crate::label::Map;
-use crate::lent::{map_located, number_of};
 use crate::located::{
     Located, Text, after, bytes_located, element_located, member_located, opens_chunks,
     pair_located, string_located, value_located,
@@ -56,7 +56,7 @@ fn span_of(item: Located<'_>, input: &[u8]) -> Span
 /// - `Absent` if there is none at `index`.
 /// - `Cose` with an error of [`check`](crate::check).
 pub fn member_span(alloc: Global, kind: Kind, bytes: &[u8], index: usize) -> Result<Span, Refusal>
-    ensures { AnswersNumber kind bytes.now (IsMemberAt bytes.now kind index)
+    ensures { ReturnsNumber kind bytes.now (IsMemberAt bytes.now kind index)
         (HasNoMember kind index) result }
 {
     let item = match item_located(alloc, kind, bytes) {
@@ -161,7 +161,7 @@ pub fn value_span(
     map: Map,
     label: i64,
 ) -> Result<Span, Refusal>
-    ensures { AnswersNumber kind bytes.now (IsValueAt bytes.now kind map (number label))
+    ensures { ReturnsNumber kind bytes.now (IsValueAt bytes.now kind map (number label))
         (HasNoValueAt bytes.now kind map (number label)) result }
 {
     let item = match item_located(alloc, kind, bytes) {
@@ -186,7 +186,7 @@ pub fn pair_spans(
     bytes: &[u8],
     index: usize,
 ) -> Result<(Span, Span), Refusal>
-    ensures { AnswersNumber kind bytes.now (ArePairAt bytes.now index) (HasNoPair index) result }
+    ensures { ReturnsNumber kind bytes.now (ArePairAt bytes.now index) (HasNoPair index) result }
 {
     let item = match item_located(alloc, kind, bytes) {
         Ok(item) => item,
@@ -218,7 +218,7 @@ pub(crate) fn text_span(text: Text<'_>, input: &[u8]) -> Span
 /// - `Absent` if there are fewer than `at` bytes.
 /// - `Cose` with the reason why no item begins there.
 pub fn item_span(bytes: &[u8], at: usize) -> Result<Span, Refusal>
-    ensures { AnswersItem bytes.now at result }
+    ensures { ReturnsItem bytes.now at result }
 {
     if at > bytes.len() {
         return Err(Refusal::Absent);
@@ -240,7 +240,7 @@ pub fn item_span(bytes: &[u8], at: usize) -> Result<Span, Refusal>
 ///   chunks.
 /// - `Cose` with an error of [`check`](crate::check) for a [`Kind::Any`].
 pub fn string_span(alloc: Global, bytes: &[u8]) -> Result<Span, Refusal>
-    ensures { AnswersNumber Any bytes.now (IsStringAt bytes.now) (HasNoContent bytes.now)
+    ensures { ReturnsNumber Any bytes.now (IsStringAt bytes.now) (HasNoContent bytes.now)
         result }
 {
     let item = match whole_of(alloc, Kind::Any, bytes) {
@@ -259,7 +259,7 @@ pub fn string_span(alloc: Global, bytes: &[u8]) -> Result<Span, Refusal>
 /// - `WrongType` if the item isn't an integer, or is outside the range of `i64`.
 /// - `Cose` with an error of [`check`](crate::check) for a [`Kind::Any`].
 pub fn integer_at(alloc: Global, bytes: &[u8]) -> Result<i64, Refusal>
-    ensures { AnswersNumber Any bytes.now IsNumber HasNoInteger result }
+    ensures { ReturnsNumber Any bytes.now IsNumber HasNoInteger result }
 {
     let item = match item_of(alloc, Kind::Any, bytes) {
         Ok(item) => item,

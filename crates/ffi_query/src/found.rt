@@ -1,7 +1,7 @@
 //! Finds the item of a kind that bytes encode, and its first elements.
 
 ghost use Rattle.std.specs.Prelude.{◌≡◌, IfOk, MatchResult};
-ghost use Rattle.coset.specs.Answers.{IsOnlyItem};
+ghost use Rattle.coset.specs.Results.{IsOnlyItem};
 ghost use Rattle.coset.specs.Grammar.{IsItem};
 ghost use Rattle.coset.specs.Item.{Item};
 ghost use Rattle.coset.specs.Pulls.{pull_bytes, pull_item};

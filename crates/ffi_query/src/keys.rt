@@ -5,7 +5,7 @@ ghost use Rattle.coset.specs.CoseError.TheVariants.{OutOfMemory};
 ghost use Rattle.coset.specs.Elements.{items_left};
 ghost use Rattle.coset.specs.Pulls.{pull_item};
 ghost use Rattle.coset.specs.View.{value_item};
-ghost use Rattle.ffi_query.specs.Answers.{Answers, Finds};
+ghost use Rattle.ffi_query.specs.Results.{Answers, Finds};
 ghost use Rattle.ffi_query.specs.Sets.{IsKeyBy, first_key, has_key_id, holds, key_in};
 
 use crate::item::{encoding, item_of};

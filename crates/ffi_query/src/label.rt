@@ -5,7 +5,7 @@ ghost use Rattle.coset.specs.CoseError.TheVariants.{OutOfMemory};
 ghost use Rattle.coset.specs.Elements.{pairs_left};
 ghost use Rattle.coset.specs.Pulls.{pull_item};
 ghost use Rattle.coset.specs.View.{value_item};
-ghost use Rattle.ffi_query.specs.Answers.{Answers, AnswersNumber, AnswersOr, Finds, WritesString};
+ghost use Rattle.ffi_query.specs.Results.{Answers, ReturnsNumber, ReturnsOr, Finds, WritesString};
 ghost use Rattle.ffi_query.specs.Labels.{HasNoNumber, HasNoString, IsNumber, IsNumberOf, IsProtected, IsStringOf, IsUnder, IsUnderIn, IsValueOf, first_value, is_label, label_view, unprotected_value, value_under};
 ghost use Rattle.ffi_query.specs.Places.{bytes_in, string_in};
 
@@ -292,7 +292,7 @@ pub fn string_of(
     label: Label<'_>,
     out: &mut [u8],
 ) -> Result<usize, Refusal>
-    ensures { AnswersOr kind bytes.now (IsStringOf kind map (label_view label.entry))
+    ensures { ReturnsOr kind bytes.now (IsStringOf kind map (label_view label.entry))
         (HasNoString kind map (label_view label.entry)) out.old out.new result }
 {
     match item_of(alloc, kind, bytes) {
@@ -325,7 +325,7 @@ pub fn integer_of(
     map: Map,
     label: Label<'_>,
 ) -> Result<i64, Refusal>
-    ensures { AnswersNumber kind bytes.now (IsNumberOf kind map (label_view label.entry))
+    ensures { ReturnsNumber kind bytes.now (IsNumberOf kind map (label_view label.entry))
         (HasNoNumber kind map (label_view label.entry)) result }
 {
     let item = match item_of(alloc, kind, bytes) {

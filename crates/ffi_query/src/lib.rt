@@ -13,6 +13,7 @@
 //! requested part in the bytes themselves.
 #![tactic(auto)]
 
+mod borrowed;
 mod countersign;
 mod critical;
 mod elements;
@@ -23,7 +24,6 @@ mod item;
 mod keys;
 mod kind;
 mod label;
-mod lent;
 mod located;
 mod message;
 mod named;

@@ -5,7 +5,7 @@ ghost use Rattle.std.specs.Ordering.{int_eq};
 ghost use Rattle.std.specs.Prelude.{◌≡◌, ⊤, List, ℕ, Bool, IfSome, MatchOption, drop, false, option_map, true, Some};
 ghost use Rattle.coset.specs.Elements.{items_bytes, items_left, pairs_bytes, pairs_left};
 ghost use Rattle.coset.specs.Item.{item, no_items};
-ghost use Rattle.coset.specs.Names.{number};
+ghost use Rattle.coset.specs.LabelData.{number};
 ghost use Rattle.coset.specs.Parts.{as_array, as_bytes, as_map};
 ghost use Rattle.coset.specs.Pulls.{pull_bytes, pull_item};
 ghost use Rattle.ffi_query.specs.Kinds.{is_under, is_under_some, without_tag};

@@ -3,13 +3,13 @@
 
 ghost use Rattle.std.specs.Prelude.{◌++◌, length};
 ghost use Rattle.std.specs.Option.{option_copied};
-ghost use Rattle.ffi_query.specs.Answers.{AnswersWith, PutsTexts};
-ghost use Rattle.ffi_query.specs.Lent.{lent_text};
+ghost use Rattle.ffi_query.specs.Results.{ReturnsWith, PutsTexts};
+ghost use Rattle.ffi_query.specs.Borrowed.{borrowed_text};
 ghost use Rattle.ffi_query.specs.View.{HasNoView, IsMessageView};
 
+use crate::borrowed::{Borrowed, find_borrowed};
 use crate::found::find_item;
 use crate::kind::Kind;
-use crate::lent::{Lent, find_lent};
 use crate::refusal::Refusal;
 use crate::view::{MessageView, view_of};
 use crate::written::put_texts;
@@ -44,8 +44,8 @@ fn put_four(
 /// - `Cose` with `OutOfMemory` if the length doesn't fit in a `usize`.
 ///
 /// `out` is then unchanged.
-fn put_view(lent: &Lent<'_>, out: &mut [u8]) -> Result<MessageView, Refusal>
-    ensures { PutsTexts lent.now.view (lent_text lent.now) out.old out.new result }
+fn put_view(lent: &Borrowed<'_>, out: &mut [u8]) -> Result<MessageView, Refusal>
+    ensures { PutsTexts lent.now.view (borrowed_text lent.now) out.old out.new result }
 {
     let structure = &lent.structure;
     let (proof, content, key_id) = (lent.proof.bytes, lent.content.bytes, lent.key_id.bytes);
@@ -100,7 +100,7 @@ pub fn message_view(
     out: &mut [u8],
 ) -> Result<MessageView, Refusal>
     ensures { let d = option_copied detached.entry in
-        AnswersWith kind bytes.now
+        ReturnsWith kind bytes.now
         (IsMessageView kind index external_aad.now d known.now bytes.now)
         (HasNoView kind index external_aad.now d known.now) out.old out.new result }
 {
@@ -108,7 +108,7 @@ pub fn message_view(
         Ok(found) => found,
         Err(error) => return Err(Refusal::Cose(error)),
     };
-    match find_lent(alloc, kind, &found, external_aad, detached) {
+    match find_borrowed(alloc, kind, &found, external_aad, detached) {
         Ok(Some(lent)) => put_view(&lent, out),
         Ok(None) => view_of(
             alloc,

@@ -3,7 +3,7 @@
 ghost use Rattle.std.specs.Prelude.{◌≡◌, IfOk, IfErr};
 ghost use Rattle.coset.specs.CoseError.TheVariants.{OutOfMemory};
 ghost use Rattle.coset.specs.Pulls.{pull_item};
-ghost use Rattle.ffi_query.specs.Answers.{Answers, Finds};
+ghost use Rattle.ffi_query.specs.Results.{Answers, Finds};
 ghost use Rattle.ffi_query.specs.Pairs.{IsHalf, half_of};
 
 use crate::item::{encoding, item_of};

@@ -5,7 +5,7 @@ ghost use Rattle.coset.specs.CoseError.TheVariants.{OutOfMemory};
 ghost use Rattle.coset.specs.Item.{items_count};
 ghost use Rattle.coset.specs.Elements.{items_left};
 ghost use Rattle.coset.specs.Pulls.{pull_item};
-ghost use Rattle.ffi_query.specs.Answers.{Answers, AnswersNumber, Finds};
+ghost use Rattle.ffi_query.specs.Results.{Answers, ReturnsNumber, Finds};
 ghost use Rattle.ffi_query.specs.Parts.{HasNoCount, IsMember, IsPart, IsPositiveCount, has_headers, place_of};
 
 use crate::item::{bytes_in, encoding, item_of, member_at};
@@ -180,7 +180,7 @@ fn count_members(members: Items<'_>) -> Result<usize>
 /// - `Empty` if the list is empty.
 /// - `Cose` with an error of [`check`](crate::check).
 pub fn count_of(alloc: Global, kind: Kind, bytes: &[u8]) -> Result<usize, Refusal>
-    ensures { AnswersNumber kind bytes.now (IsPositiveCount kind) (HasNoCount kind) result }
+    ensures { ReturnsNumber kind bytes.now (IsPositiveCount kind) (HasNoCount kind) result }
 {
     let item = match item_of(alloc, kind, bytes) {
         Ok(item) => item,

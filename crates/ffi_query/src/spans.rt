@@ -3,16 +3,16 @@
 
 ghost use Rattle.std.specs.Prelude.{◌≡◌, ◌++◌, length, true};
 ghost use Rattle.std.specs.Option.{option_copied};
-ghost use Rattle.ffi_query.specs.Answers.{AnswersWith, PutsTexts};
+ghost use Rattle.ffi_query.specs.Results.{ReturnsWith, PutsTexts};
 ghost use Rattle.ffi_query.specs.Located.{IsTextIn};
-ghost use Rattle.ffi_query.specs.Spans.{AreLentSpans, IsAt, IsMessageSpans, copied, copied_spans, written_at};
+ghost use Rattle.ffi_query.specs.Spans.{AreBorrowedSpans, IsAt, IsMessageSpans, copied, copied_spans, written_at};
 ghost use Rattle.ffi_query.specs.declared.spans.MessageSpans.{MessageSpans};
 ghost use Rattle.ffi_query.specs.View.{HasNoView};
 
+use crate::borrowed::{Borrowed, find_borrowed};
 use crate::elements::text_span;
 use crate::found::find_item;
 use crate::kind::Kind;
-use crate::lent::{Lent, find_lent};
 use crate::located::Text;
 use crate::refusal::Refusal;
 use crate::view::{MessageView, view_of};
@@ -69,8 +69,8 @@ fn put_structure(front: &[u8], end: &[u8], out: &mut [u8]) -> Result<usize, Refu
 }
 
 /// Returns the places of texts that are in the input.
-fn lent_spans(lent: &Lent<'_>, input: &[u8]) -> MessageSpans
-    ensures { AreLentSpans input.now lent.now result }
+fn borrowed_spans(lent: &Borrowed<'_>, input: &[u8]) -> MessageSpans
+    ensures { AreBorrowedSpans input.now lent.now result }
 {
     MessageSpans {
         view: lent.view,
@@ -89,11 +89,11 @@ fn lent_spans(lent: &Lent<'_>, input: &[u8]) -> MessageSpans
 /// - `Cose` with `OutOfMemory` if the length doesn't fit in a `usize`.
 ///
 /// `out` is then unchanged.
-fn put_lent(lent: &Lent<'_>, input: &[u8], out: &mut [u8]) -> Result<MessageSpans, Refusal>
-    ensures { (m : MessageSpans) × AreLentSpans input.now lent.now m × PutsTexts m
+fn put_borrowed(lent: &Borrowed<'_>, input: &[u8], out: &mut [u8]) -> Result<MessageSpans, Refusal>
+    ensures { (m : MessageSpans) × AreBorrowedSpans input.now lent.now m × PutsTexts m
         (lent.now.structure.front.items ++ lent.now.structure.end.now) out.old out.new result }
 {
-    let spans = lent_spans(lent, input);
+    let spans = borrowed_spans(lent, input);
     match put_structure(&lent.structure.front, lent.structure.end, out) {
         Ok(_) => Ok(spans),
         Err(refusal) => Err(refusal),
@@ -158,7 +158,7 @@ pub fn message_spans(
     out: &mut [u8],
 ) -> Result<MessageSpans, Refusal>
     ensures { let d = option_copied detached.entry in
-        AnswersWith kind bytes.now
+        ReturnsWith kind bytes.now
         (IsMessageSpans kind index external_aad.now d known.now bytes.now)
         (HasNoView kind index external_aad.now d known.now) out.old out.new result }
 {
@@ -166,8 +166,8 @@ pub fn message_spans(
         Ok(found) => found,
         Err(error) => return Err(Refusal::Cose(error)),
     };
-    match find_lent(alloc, kind, &found, external_aad, detached) {
-        Ok(Some(lent)) => put_lent(&lent, bytes, out),
+    match find_borrowed(alloc, kind, &found, external_aad, detached) {
+        Ok(Some(lent)) => put_borrowed(&lent, bytes, out),
         Ok(None) => copied(view_of(
             alloc,
             kind,

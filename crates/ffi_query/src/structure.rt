@@ -8,9 +8,9 @@ ghost use Rattle.coset.specs.CoseError.TheVariants.{OutOfMemory};
 ghost use Rattle.coset.specs.Pulls.{pull_item};
 ghost use Rattle.coset.specs.Shortest.{IsShortest};
 ghost use Rattle.coset.specs.Structure.{structure};
-ghost use Rattle.ffi_query.specs.Answers.{Answers, AnswersOr, Finds, IsEncodingOf};
+ghost use Rattle.ffi_query.specs.Results.{Answers, ReturnsOr, Finds, IsEncodingOf};
 ghost use Rattle.ffi_query.specs.Places.{element};
-ghost use Rattle.ffi_query.specs.Structures.{HasNoStructure, IsRecipientStructure, IsStructure, content_at, content_in, content_structure, encryption_structure, is_carried, is_filled, is_given_at, is_given_twice, signer_in, signer_structure, structure_of_one, structure_of_three, structure_of_two};
+ghost use Rattle.ffi_query.specs.Structures.{HasNoStructure, IsRecipientStructure, IsStructure, content_at, content_in, content_structure, encryption_structure, is_attached, is_filled, is_given_at, is_given_twice, signer_in, signer_structure, structure_of_one, structure_of_three, structure_of_two};
 
 use crate::item::{bytes_in, element, item_of, member_at};
 use crate::kind::Kind;
@@ -314,8 +314,8 @@ fn is_filled(place: Option<Pull<'_>>) -> bool
 }
 
 /// Returns true if the item has an element other than `nil` at this place.
-fn is_carried(place: Option<usize>, item: Pull<'_>) -> bool
-    ensures { result ≡ is_carried place (pull_item item.entry) }
+fn is_attached(place: Option<usize>, item: Pull<'_>) -> bool
+    ensures { result ≡ is_attached place (pull_item item.entry) }
 {
     match place {
         Some(place) => is_filled(element(item, place)),
@@ -328,7 +328,7 @@ pub(crate) fn is_given_at(place: Option<usize>, detached: Option<&[u8]>, item: P
     ensures { result ≡ is_given_at place (option_copied detached.entry) (pull_item item.entry) }
 {
     match detached {
-        Some(_) => is_carried(place, item),
+        Some(_) => is_attached(place, item),
         None => false,
     }
 }
@@ -373,7 +373,7 @@ pub fn structure_of(
     out: &mut [u8],
 ) -> Result<usize, Refusal>
     ensures { let d = option_copied detached.entry in
-        AnswersOr kind bytes.now (IsStructure kind index external_aad.now d)
+        ReturnsOr kind bytes.now (IsStructure kind index external_aad.now d)
         (HasNoStructure kind index external_aad.now d) out.old out.new result }
 {
     let item = match item_of(alloc, kind, bytes) {

@@ -5,7 +5,7 @@ ghost use Rattle.std.specs.Option.{option_copied};
 ghost use Rattle.coset.specs.CoseError.TheVariants.{OutOfMemory};
 ghost use Rattle.coset.specs.Pulls.{pull_item};
 ghost use Rattle.coset.specs.View.{value_item};
-ghost use Rattle.ffi_query.specs.Answers.{AnswersWith, FindsWith, PutsWith};
+ghost use Rattle.ffi_query.specs.Results.{ReturnsWith, FindsWith, PutsWith};
 ghost use Rattle.ffi_query.specs.Found.{IsFound};
 ghost use Rattle.ffi_query.specs.View.{HasAlgorithm, HasNoView, IsAlgorithm, IsContent, IsKeyId, IsMessageView, IsViewOf, bearer, content_part, kind_of_bearer, proof_in};
 
@@ -307,7 +307,7 @@ pub(crate) fn view_of(
 ) -> Result<MessageView, Refusal>
     ensures { (b : List ℕ) → IsFound kind b found.now →
         let d = option_copied detached.entry in
-        AnswersWith kind b (IsMessageView kind index external_aad.now d known.now b)
+        ReturnsWith kind b (IsMessageView kind index external_aad.now d known.now b)
         (HasNoView kind index external_aad.now d known.now) out.old out.new result }
 {
     let item = found.item.item;

@@ -2,7 +2,7 @@
 
 ghost use Rattle.std.specs.List.{flat_map};
 ghost use Rattle.std.specs.Prelude.{◌≡◌, IfSome, length};
-ghost use Rattle.ffi_query.specs.Answers.{Puts, PutsTexts, WritesFound};
+ghost use Rattle.ffi_query.specs.Results.{Puts, PutsTexts, WritesFound};
 
 use crate::refusal::Refusal;
 use coset::{CoseError, Result};

@@ -1,7 +1,7 @@
 -- A verifier's requirements for a token, with algorithms and labels as numbers.
 use Rattle.std.specs.Prelude.{◌≡◌, ℤ, map, option_map, Option, Some, None}
 use Rattle.coset.specs.LabelViews.{algorithm_view}
-use Rattle.coset.specs.Names.{RegisteredName, assigned, private_use}
+use Rattle.coset.specs.LabelData.{RegisteredLabelView, assigned, private_use}
 use Rattle.coset.specs.Registry.{first_numbered}
 use Rattle.coset.specs.Views.{critical_view}
 use Rattle.coset_iana.specs.Algorithm as algorithms
@@ -13,17 +13,17 @@ use Rattle.ffi_token.specs.declared.rules.Lists.{Lists}
 use Rattle.ffi_token.specs.declared.rules.Rules.{Rules}
 
 -- The label with the number i: a value of the registry if i is assigned, else a private-use number.
-abbrev pub named_as : {T : Type 0} → ℤ → Option T → RegisteredName
+abbrev pub named_as : {T : Type 0} → ℤ → Option T → RegisteredLabelView
 named_as i (Some x) = assigned i
 named_as i None = private_use i
 
-abbrev pub named : {T : Type 0} → (ℤ → Option T) → ℤ → RegisteredName
+abbrev pub named : {T : Type 0} → (ℤ → Option T) → ℤ → RegisteredLabelView
 named value_of i = named_as i (value_of i)
 
-abbrev pub algorithm_named : ℤ → RegisteredName
+abbrev pub algorithm_named : ℤ → RegisteredLabelView
 algorithm_named = named (first_numbered algorithms.number ALGORITHMS)
 
-abbrev pub parameter_named : ℤ → RegisteredName
+abbrev pub parameter_named : ℤ → RegisteredLabelView
 parameter_named = named (first_numbered parameters.number HEADER_PARAMETERS)
 
 -- The policy that the rules describe.

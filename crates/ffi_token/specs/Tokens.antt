@@ -4,13 +4,13 @@ use Rattle.coset.specs.Claims.{ClaimsView, claims, claims_view}
 use Rattle.coset.specs.CoseError.TheVariants as errors
 use Rattle.coset.specs.Errors.{UnlessMemory}
 use Rattle.coset.specs.KnownClaims.{KnownClaims}
-use Rattle.cwt_gate.specs.Door.{JudgesWith}
+use Rattle.cwt_gate.specs.JudgeWith.{JudgesWith}
 use Rattle.cwt_gate.specs.Policy.{PolicyView}
 use Rattle.cwt_gate.specs.declared.error.GateError.{GateError}
 use Rattle.cwt_gate.specs.declared.error.GateError.TheVariants as gate
 use Rattle.cwt_gate.specs.declared.error.PolicyError.{PolicyError}
 use Rattle.cwt_gate.specs.declared.error.PolicyError.TheVariants as policy
-use Rattle.ffi_query.specs.Answers.{BeginsWith, IsEncodingOf, Puts}
+use Rattle.ffi_query.specs.Results.{BeginsWith, IsEncodingOf, Puts}
 use Rattle.ffi_query.specs.declared.refusal.Refusal.TheVariants as answers
 use Rattle.ffi_token.specs.Opened.{opened_view}
 use Rattle.ffi_token.specs.declared.layer.Layer as layers
@@ -80,6 +80,6 @@ ReturnsJudged (Err e) old new r = ReturnsApart (apart e) old new r
 
 -- The result for the token b at the time `now`, after the caller opened these layers. It is that of the gate's
 -- judgement, with keys that accept exactly these layers.
-abbrev pub AnswersToken : List ℕ → List Opened → PolicyView → List ℕ → ℤ → List ℕ → List ℕ → Result ℕ refusals.Refusal → Type 0
-AnswersToken bytes os p b now old new r =
+abbrev pub ReturnsToken : List ℕ → List Opened → PolicyView → List ℕ → ℤ → List ℕ → List ℕ → Result ℕ refusals.Refusal → Type 0
+ReturnsToken bytes os p b now old new r =
     (j : Result KnownClaims (PolicyError waiting.Waiting)) × JudgesWith (opened_view bytes os) p now b j × ReturnsJudged j old new r

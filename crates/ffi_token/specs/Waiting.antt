@@ -1,7 +1,7 @@
 -- The view of a layer that waits to be opened.
 use Rattle.std.specs.Prelude.{◌≡◌, ◌++◌, ℕ, ℤ, List, [], ◌∷◌, length, Option, Some, None}
 use Rattle.coset.specs.Headers.{fields_in}
-use Rattle.coset.specs.Names.{RegisteredName, assigned, private_use, text_name}
+use Rattle.coset.specs.LabelData.{RegisteredLabelView, assigned, private_use, text_name}
 use Rattle.cwt_gate.specs.Keys.{SealView, first_nonempty, key_id_of}
 use Rattle.cwt_gate.specs.declared.form.Form.{Form}
 use Rattle.ffi_query.specs.declared.view.KeyIdPlace.{KeyIdPlace}
@@ -11,12 +11,12 @@ use Rattle.ffi_token.specs.declared.layer.Waiting.{Waiting}
 use Rattle.ffi_token.specs.declared.layer.Waiting.TheVariants.{Layer, OutOfMemory}
 
 -- The number of an algorithm, or `None` if a text names it.
-abbrev pub number_of : RegisteredName → Option ℤ
+abbrev pub number_of : RegisteredLabelView → Option ℤ
 number_of (assigned i) = Some i
 number_of (private_use i) = Some i
 number_of (text_name s) = None
 
-abbrev pub number_in : Option RegisteredName → Option ℤ
+abbrev pub number_in : Option RegisteredLabelView → Option ℤ
 number_in (Some a) = number_of a
 number_in None = None
 

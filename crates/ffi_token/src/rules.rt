@@ -2,7 +2,7 @@
 
 ghost use Rattle.std.specs.Prelude.{◌≡◌, IfOk, map};
 ghost use Rattle.coset.specs.LabelViews.{registered_or_private_view};
-ghost use Rattle.cwt_gate.specs.Door.{JudgesWith};
+ghost use Rattle.cwt_gate.specs.JudgeWith.{JudgesWith};
 ghost use Rattle.ffi_token.specs.Opened.{opened_view};
 ghost use Rattle.ffi_token.specs.Rules.{ListsOf, named, rules_view};
 

@@ -2,7 +2,7 @@
 
 ghost use Rattle.coset.specs.Claims.{claims_view};
 ghost use Rattle.ffi_token.specs.Rules.{rules_view};
-ghost use Rattle.ffi_token.specs.Tokens.{AnswersToken, ReturnsJudged, WritesLayer, WritesClaims};
+ghost use Rattle.ffi_token.specs.Tokens.{ReturnsToken, ReturnsJudged, WritesLayer, WritesClaims};
 
 use crate::layer::{Layer, Waiting};
 use crate::opened::OpenedLayers;
@@ -92,7 +92,7 @@ pub fn claims_of(
     now: i64,
     out: &mut [u8],
 ) -> Result<usize, Refusal>
-    ensures { AnswersToken opened.now.bytes.now opened.now.layers.now (rules_view rules.now)
+    ensures { ReturnsToken opened.now.bytes.now opened.now.layers.now (rules_view rules.now)
         token.now now out.old out.new result }
 {
     let judged = rules.judge(alloc, opened, token, now);

@@ -46,7 +46,7 @@ impl Calls for AllCalls {
             "read_value" => reading::read(alloc, words),
             "decode_unbounded" => reading::decode(alloc, words),
             "check" => reading::check_front(alloc, words),
-            "front_length" => reading::front(alloc, words),
+            "item_length" => reading::front(alloc, words),
             "has_repeats" => lists::repeats(alloc, words),
             "to_cbor_array" => writing::array(alloc, words),
             "de_error" => value::reader_error(alloc, words),

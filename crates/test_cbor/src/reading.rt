@@ -2,7 +2,7 @@
 
 ghost use Rattle.std.specs.Prelude.{◌≡◌, ◌+◌, ◌<◌, ℕ, [], ◌∷◌, ◌++◌, replicate, Ok};
 
-use coset::cbor::de::{EndOfFile, Error, Steps, check, decode_unbounded, front_length, read_value};
+use coset::cbor::de::{EndOfFile, Error, Steps, check, decode_unbounded, item_length, read_value};
 use coset::{CborSerializable, CoseError, Result, laws};
 use std::alloc::Global;
 use std::marker::Brand;
@@ -67,7 +67,7 @@ pub fn check_front(alloc: Global, words: &Words<'_>) -> Result<String> {
 pub fn front(alloc: Global, words: &Words<'_>) -> Result<String> {
     let bytes = words.bytes(alloc, 1)?;
     mark::begin(alloc);
-    let answer = front_length(&bytes);
+    let answer = item_length(&bytes);
     mark::end(alloc);
     tell_length(alloc, answer)
 }

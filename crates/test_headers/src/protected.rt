@@ -48,7 +48,7 @@ fn from_source_bstr(alloc: Global, words: &Words<'_>) -> Result<String> {
     let bytes = words.bytes(alloc, 2)?;
     match words.word(1) {
         "tree" => from_source(alloc, ItemSource::Tree(words.value::<Value>(alloc, 2)?)),
-        "lent" => from_source(alloc, ItemSource::Lent(lent(&bytes)?)),
+        "lent" => from_source(alloc, ItemSource::Borrowed(lent(&bytes)?)),
         _ => Err(CoseError::UnexpectedItem("word", "tree or lent")),
     }
 }

@@ -18,7 +18,7 @@ pub struct Asked {
 }
 
 /// The most bytes of arguments that are kept.
-const MOST: usize = 4096;
+const MAX_BYTES: usize = 4096;
 
 impl Asked {
     /// Returns the state of a closure that wasn't called yet.
@@ -36,7 +36,7 @@ impl Asked {
     pub fn making(alloc: Global, made: Option<Vec<u8>>) -> Result<Asked> {
         Ok(Asked {
             count: 0,
-            handed: Vec::with_capacity(alloc, MOST)?,
+            handed: Vec::with_capacity(alloc, MAX_BYTES)?,
             made,
         })
     }
@@ -45,7 +45,7 @@ impl Asked {
     /// their structure. A closure with one argument gets only the second.
     fn ask(&mut self, first: &[u8], second: &[u8]) {
         self.count = self.count.saturating_add(1);
-        if first.len().saturating_add(second.len()) < MOST {
+        if first.len().saturating_add(second.len()) < MAX_BYTES {
             let _ = self.handed.extend_from_slice(first);
             let _ = self.handed.extend_from_slice(second);
         }

@@ -157,7 +157,7 @@ fn signed(alloc: Global, claims: &[u8]) -> Result<Vec<u8>, Fail> {
 }
 
 /// Returns a token of these claims, with a MAC by the key with this identifier.
-fn maced(alloc: Global, claims: &[u8], key_id: &[u8]) -> Result<Vec<u8>, Fail> {
+fn macced(alloc: Global, claims: &[u8], key_id: &[u8]) -> Result<Vec<u8>, Fail> {
     let message = CoseMac0Builder::new(alloc)
         .protected(keyed(alloc, Algorithm::HMAC_256_64, key_id)?)
         .payload(Vec::from_slice(alloc, claims)?)
@@ -193,7 +193,7 @@ fn tokens_that_are_let_in(rt: HostRuntime) -> Result<(), Fail> {
     };
     let signed = signed(alloc, LET_IN)?;
     let nested = encrypted(alloc, &signed)?;
-    for token in [signed, maced(alloc, LET_IN, b"k")?, nested] {
+    for token in [signed, macced(alloc, LET_IN, b"k")?, nested] {
         let known = let_in(alloc, &keys, "a", &token, 0);
         let known = known.ok().ok_or("refused")?;
         assert!(rt; known.claims.audience.as_deref() == Some("a"));
@@ -214,7 +214,7 @@ fn tokens_that_are_not_let_in(rt: HostRuntime) -> Result<(), Fail> {
         keys: &set,
         cipher: StandInKey,
     };
-    let of_another_key = let_in(alloc, &keys, "a", &maced(alloc, LET_IN, b"l")?, 0);
+    let of_another_key = let_in(alloc, &keys, "a", &macced(alloc, LET_IN, b"l")?, 0);
     assert!(rt;
         matches!(
             of_another_key,

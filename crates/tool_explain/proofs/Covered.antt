@@ -1,10 +1,10 @@
 -- Structures over payloads that may be detached.
 use Rattle.std.proofs.Common.{◌≡◌, ℕ, List, Option, Some, None, Result, Ok, Err, refl, sym, ap, subst, ◌∙◌}
 use Rattle.std.specs.Prelude.{IfOk, IfSome, option_map}
-use Rattle.coset.specs.Answers.{Describes, Writes}
+use Rattle.coset.specs.Results.{Describes, Writes}
 use Rattle.coset.specs.CoseError.{CoseError}
 use Rattle.coset.specs.Item.{Item}
-use Rattle.coset.specs.Presence.{WritesWherePresent}
+use Rattle.coset.specs.Presence.{WritesIfPresent}
 use Rattle.coset.specs.Shape.{Shape}
 use Rattle.coset.specs.Shortest.{IsShortest}
 use Rattle.coset.specs.Signed.{or_empty}
@@ -35,14 +35,14 @@ over_any shape structure bytes_of b x (Err e) is w = tt
 -- The bytes written for a value with a payload are its structure.
 pub over_written :
     {A V : Type 0} (shape : Shape A) (structure : A → List ℕ → Option Item) (payload : A → Option (List ℕ)) (bytes_of : V → List ℕ) (b : List ℕ) (x : A)
-    (r : Result (Option V) CoseError) → Describes shape b x → WritesWherePresent bytes_of (payload x) (structure x) r
+    (r : Result (Option V) CoseError) → Describes shape b x → WritesIfPresent bytes_of (payload x) (structure x) r
     → IfOk r (λ o. IfSome o (λ t. IsOver shape (λ m. over_payload (structure m) (payload m)) b (bytes_of t)))
 over_written {A} {V} shape structure payload bytes_of b x r is writes = go (payload x) r (λ t v e s. (x, is, v, e, s)) writes
   where
     go :
         (p : Option (List ℕ)) (r : Result (Option V) CoseError)
         → ((t : List ℕ) (v : Item) → over_payload (structure x) p ≡ Some v → IsShortest t v
-        → IsOver shape (λ m. over_payload (structure m) (payload m)) b t) → WritesWherePresent bytes_of p (structure x) r
+        → IsOver shape (λ m. over_payload (structure m) (payload m)) b t) → WritesIfPresent bytes_of p (structure x) r
         → IfOk r (λ o. IfSome o (λ t. IsOver shape (λ m. over_payload (structure m) (payload m)) b (bytes_of t)))
     go None (Ok None) made w = tt
     go None (Ok (Some b)) made w = absurd cc

@@ -1,6 +1,6 @@
 -- The reason why bytes aren't of a kind, as the library's decoder gives it.
 use Rattle.std.specs.Prelude.{◌≡◌, true, false, ℕ, List, ◌++◌, Option, Some, None}
-use Rattle.coset.specs.Answers.{Describes, SliceFaults, DescribesNothing}
+use Rattle.coset.specs.Results.{Describes, SliceFaults, DescribesNothing}
 use Rattle.coset.specs.Claims.{claims}
 use Rattle.coset.specs.Context.{context}
 use Rattle.coset.specs.CoseError.{CoseError}

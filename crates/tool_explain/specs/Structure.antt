@@ -2,7 +2,7 @@
 -- 6.3).
 use Rattle.std.specs.Prelude.{◌≡◌, ℕ, List, ◌++◌, Option, Some, true, false, option_and_then}
 use Rattle.std.specs.List.{slice_get}
-use Rattle.coset.specs.Answers.{Describes}
+use Rattle.coset.specs.Results.{Describes}
 use Rattle.coset.specs.Encrypt.{encrypt, encrypt_structure_of}
 use Rattle.coset.specs.Encrypt0.{encrypt0, encrypt0_structure}
 use Rattle.coset.specs.Item.{Item}

@@ -20,7 +20,7 @@ fn step(frame: &Frame) -> Option<Step> {
                 Step::Value(index)
             })
         }
-        Container::Tag => Some(Step::Enclosed),
+        Container::Tag => Some(Step::TagContent),
         Container::Embedded => Some(Step::Content),
         Container::Chunks(MajorType::Text) => Some(Step::TextChunk(index)),
         Container::Chunks(_) => Some(Step::ByteChunk(index)),
@@ -68,7 +68,7 @@ pub(crate) fn steps(
         }
     }
     if is_behind {
-        steps.push(Step::Behind)?;
+        steps.push(Step::After)?;
     }
     Ok(steps)
 }

@@ -9,7 +9,7 @@ use Rattle.coset.specs.Heads.{major_type_number}
 use Rattle.coset.specs.MajorType.{MajorType}
 use Rattle.coset.specs.MajorType.TheVariants.{Tag, Bytes}
 use Rattle.coset.specs.ReadHeads.{BeginsWithHead, IsHeadOf, head_number, initial_byte, width_of}
-use Rattle.tool_fault.specs.Steps.{Announces, Encloses, Holds, Opening, Opens, Passes, Splits}
+use Rattle.tool_fault.specs.Steps.{Announces, Encloses, Holds, Opening, Opens, BeginsWithItems, Splits}
 
 -- The items, and one more after them.
 abbrev and_item : Items → Item → Items
@@ -25,10 +25,10 @@ and_item_encodings no_items v c p are is = (p, [], is, refl, ap (λ (x : List �
 and_item_encodings (item w ws) v c p (a, d, first, are, parts) is =
     (a, d ++ p, first, and_item_encodings ws v d p are is, ap (λ (x : List ℕ). x ++ p) parts ∙ append_assoc a d p)
 
-pub passes_none : (b : List ℕ) → Passes b 0 b
+pub passes_none : (b : List ℕ) → BeginsWithItems b 0 b
 passes_none b = record { items = no_items; encodings = []; are = refl; number = refl; parts = refl }
 
-pub passes_one : (b : List ℕ) (n : ℕ) (r p s : List ℕ) (v : Item) → Passes b n r → IsEncoding v p → r ≡ p ++ s → Passes b (n + 1) s
+pub passes_one : (b : List ℕ) (n : ℕ) (r p s : List ℕ) (v : Item) → BeginsWithItems b n r → IsEncoding v p → r ≡ p ++ s → BeginsWithItems b (n + 1) s
 passes_one b n r p s v before is parts = record {
   items = and_item before.items v;
   encodings = before.encodings ++ p;
@@ -53,7 +53,7 @@ opening b h rest i w (inr (n, is, more)) = inl (n, is_headed b h rest n w is, mo
 
 pub opens :
     (b : List ℕ) (h : Head) (rest part : List ℕ) (major_type : MajorType) (i n : ℕ) → BeginsWithHead b h rest → h.major_type ≡ major_type → Announces h i
-    → Passes rest i part → n ≡ length b - length part → Splits (Opens (major_type_number major_type) i) b n part
+    → BeginsWithItems rest i part → n ≡ length b - length part → Splits (Opens (major_type_number major_type) i) b n part
 opens b h rest part major_type i n w same announced p is =
     let head = initial_byte h ∷ w.argument in
     let parts : b ≡ (head ++ p.encodings) ++ part =

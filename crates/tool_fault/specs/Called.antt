@@ -1,6 +1,6 @@
 -- The names that errors give to unexpected items.
 use Rattle.std.specs.Prelude.{◌≡◌, ℕ, List, [], Some, codes}
-use Rattle.coset.specs.Answers.{DescribesNothing}
+use Rattle.coset.specs.Results.{DescribesNothing}
 use Rattle.coset.specs.Fields.{IsMediaType}
 use Rattle.coset.specs.Headers.{signature}
 use Rattle.coset.specs.Item.{Item, no_items}

@@ -2,7 +2,7 @@
 use Rattle.std.specs.Prelude.{◌≡◌, ◌⊎◌, ◌<◌, ◌<ℤ◌, ◌≤◌, ◌*◌, ◌++◌, ◌-◌, ℕ, ℤ, pos, List, [], ◌∷◌, length, codes, Option, Some, true, false, FitsSigned}
 use Rattle.std.specs.Int.{w64}
 use Rattle.std.specs.List.{slice_get}
-use Rattle.coset.specs.Answers.{DescribesNothing}
+use Rattle.coset.specs.Results.{DescribesNothing}
 use Rattle.coset.specs.CoseError.{CoseError}
 use Rattle.coset.specs.CoseError.TheVariants.{DecodeFailed, DuplicateMapKey, EncodeFailed, ExtraneousData, OutOfRangeIntegerValue, UnexpectedItem}
 use Rattle.coset.specs.CoseError.TheVariants.{UnregisteredIanaValue, UnregisteredIanaNonPrivateValue, OutOfMemory}
@@ -16,22 +16,22 @@ use Rattle.coset.specs.Heads.{major_type_number}
 use Rattle.coset.specs.Item.{Item}
 use Rattle.coset.specs.Label.{Label}
 use Rattle.coset.specs.Labels.{label}
-use Rattle.coset.specs.Names.{Name, number}
+use Rattle.coset.specs.LabelData.{LabelView, number}
 use Rattle.coset.specs.Parts.{as_bytes, as_integer}
 use Rattle.coset.specs.ReadHeads.{head_number}
 use Rattle.coset_label.specs.Views.{label_view}
 use Rattle.tool_fault.specs.Called.{IsCalled}
 use Rattle.tool_fault.specs.Registries.{IsUnassigned, IsUnassignedAndNotPrivate}
-use Rattle.tool_fault.specs.Steps.{Goes, Leads, layers, levels}
+use Rattle.tool_fault.specs.Steps.{StepTo, PathTo, layers, levels}
 use Rattle.tool_fault.specs.declared.step.Step.{Step}
-use Rattle.tool_fault.specs.declared.step.Step.TheVariants.{Element, Key, ByteChunk, TextChunk, Behind}
+use Rattle.tool_fault.specs.declared.step.Step.TheVariants.{Element, Key, ByteChunk, TextChunk, After}
 
 -- An item is at the front of t, and P holds of its bytes and of it.
-abbrev pub StandsAs : (List ℕ → Item → Type 0) → List ℕ → Type 0
-StandsAs P t = (b : List ℕ) × (rest : List ℕ) × (v : Item) × (t ≡ b ++ rest) × IsItem b v × P b v
+abbrev pub IsEncodedAtFront : (List ℕ → Item → Type 0) → List ℕ → Type 0
+IsEncodedAtFront P t = (b : List ℕ) × (rest : List ℕ) × (v : Item) × (t ≡ b ++ rest) × IsItem b v × P b v
 
-abbrev pub Stands : (Item → Type 0) → List ℕ → Type 0
-Stands P t = StandsAs (λ b v. P v) t
+abbrev pub IsAtFront : (Item → Type 0) → List ℕ → Type 0
+IsAtFront P t = IsEncodedAtFront (λ b v. P v) t
 
 -- ---- faults of CBOR
 
@@ -62,7 +62,7 @@ IsByteString v = (s : List ℕ) × (as_bytes v ≡ Some s)
 -- Something too deep begins: the 257th array, map or tag of one item, or the 17th of nested byte strings. Each of these
 -- byte strings has an item of its own as its content.
 abbrev pub IsTooDeep : List Step → List ℕ → Type 0
-IsTooDeep steps t = (Nests t × (levels steps ≡ 256)) ⊎ (Stands IsByteString t × (layers steps ≡ 16))
+IsTooDeep steps t = (Nests t × (levels steps ≡ 256)) ⊎ (IsAtFront IsByteString t × (layers steps ≡ 16))
 
 -- The CBOR fault that the error names is at the front of t, the place of the steps.
 abbrev pub IsMalformed : decoding.Error EndOfFile → List Step → List ℕ → Type 0
@@ -89,15 +89,15 @@ pub record AreTwo (b : List ℕ) (steps : List Step) (one other : List ℕ) : Ty
   pub earlier : IsEarlier first last
   pub before : ℕ
   pub whole : List ℕ
-  pub leads : Leads front b before whole
+  pub leads : PathTo front b before whole
   pub first_at : ℕ
   pub last_at : ℕ
-  pub goes_first : Goes first whole first_at one
-  pub goes_last : Goes last whole last_at other
+  pub goes_first : StepTo first whole first_at one
+  pub goes_last : StepTo last whole last_at other
 
 -- R relates the items at the fronts of both.
 abbrev pub StandTogether : (Item → Item → Type 0) → List ℕ → List ℕ → Type 0
-StandTogether R one other = Stands (λ v. Stands (R v) other) one
+StandTogether R one other = IsAtFront (λ v. IsAtFront (R v) other) one
 
 -- R relates an earlier element or key to the one at the place of the steps.
 abbrev pub Repeats : (Item → Item → Type 0) → List ℕ → List Step → Type 0
@@ -112,7 +112,7 @@ label_is i v = label.describes v (number i)
 
 -- The two items are the same label.
 abbrev pub SameLabel : Item → Item → Type 0
-SameLabel v w = (l : Name) × label.describes v l × label.describes w l
+SameLabel v w = (l : LabelView) × label.describes v l × label.describes w l
 
 -- One is IV and the other Partial IV (RFC 8152, section 3.1).
 abbrev pub BothIvs : Item → Item → Type 0
@@ -126,7 +126,7 @@ IsOutOfRange v = (z : ℤ) × (as_integer v ≡ Some z) × ((FitsSigned w64 z �
 
 -- Errors give the name `got` to the item at the front of t.
 abbrev pub BeginsCalled : List ℕ → List ℕ → Type 0
-BeginsCalled got t = StandsAs (IsCalled got) t
+BeginsCalled got t = IsEncodedAtFront (IsCalled got) t
 
 -- The item at the front of t has the name `got`. Otherwise `got` names a repeated label, or both IV and Partial IV, and
 -- the steps lead to the second of the two.
@@ -136,23 +136,23 @@ IsUnexpected got b steps t =
     ⊎ (((got ≡ codes "repeated array entry") × Repeats SameLabel b steps) ⊎ ((got ≡ codes "IV and partial-IV specified") × Repeats BothIvs b steps))
 
 -- An indefinite-length byte string whose content is no header.
-abbrev pub HoldsNoHeader : List ℕ → Type 0
-HoldsNoHeader t = (rest : List ℕ) × (t ≡ 0x5F ∷ rest) × Stands (λ v. (s : List ℕ) × (as_bytes v ≡ Some s) × DescribesNothing header s) t
+abbrev pub HasNoHeader : List ℕ → Type 0
+HasNoHeader t = (rest : List ℕ) × (t ≡ 0x5F ∷ rest) × IsAtFront (λ v. (s : List ℕ) × (as_bytes v ≡ Some s) × DescribesNothing header s) t
 
 -- ---- places
 
 -- The fault that the error names is at the front of t. The steps lead there from the front of b.
-abbrev pub StandsThere : CoseError → List ℕ → List Step → List ℕ → Type 0
-StandsThere (DecodeFailed e) b steps t = IsMalformed e steps t
-StandsThere ExtraneousData b steps t = last_step steps ≡ Some Behind
-StandsThere DuplicateMapKey b steps t = Repeats SameLabel b steps
-StandsThere OutOfRangeIntegerValue b steps t = Stands IsOutOfRange t
-StandsThere (UnexpectedItem got want) b steps t = IsUnexpected got.now b steps t
-StandsThere UnregisteredIanaValue b steps t = Stands IsUnassigned t
-StandsThere UnregisteredIanaNonPrivateValue b steps t = Stands IsUnassignedAndNotPrivate t
-StandsThere EncodeFailed b steps t = ⊥
-StandsThere OutOfMemory b steps t = ⊥
+abbrev pub FaultIsAt : CoseError → List ℕ → List Step → List ℕ → Type 0
+FaultIsAt (DecodeFailed e) b steps t = IsMalformed e steps t
+FaultIsAt ExtraneousData b steps t = last_step steps ≡ Some After
+FaultIsAt DuplicateMapKey b steps t = Repeats SameLabel b steps
+FaultIsAt OutOfRangeIntegerValue b steps t = IsAtFront IsOutOfRange t
+FaultIsAt (UnexpectedItem got want) b steps t = IsUnexpected got.now b steps t
+FaultIsAt UnregisteredIanaValue b steps t = IsAtFront IsUnassigned t
+FaultIsAt UnregisteredIanaNonPrivateValue b steps t = IsAtFront IsUnassignedAndNotPrivate t
+FaultIsAt EncodeFailed b steps t = ⊥
+FaultIsAt OutOfMemory b steps t = ⊥
 
--- The steps lead n bytes on from the front of b. The error's fault is there, or a byte string as in `HoldsNoHeader`.
+-- The steps lead n bytes on from the front of b. The error's fault is there, or a byte string as in `HasNoHeader`.
 abbrev pub IsPlace : CoseError → List ℕ → List Step → ℕ → Type 0
-IsPlace e b steps n = (t : List ℕ) × Leads steps b n t × (StandsThere e b steps t ⊎ HoldsNoHeader t)
+IsPlace e b steps n = (t : List ℕ) × PathTo steps b n t × (FaultIsAt e b steps t ⊎ HasNoHeader t)

@@ -6,10 +6,10 @@ use Rattle.coset.specs.Head.{Head}
 use Rattle.coset.specs.Heads.{major_type_number}
 use Rattle.coset.specs.ReadHeads.{head_number}
 use Rattle.tool_fault.specs.declared.step.Step.{Step}
-use Rattle.tool_fault.specs.declared.step.Step.TheVariants.{Element, Key, Value, Enclosed, ByteChunk, TextChunk, Content, Behind}
+use Rattle.tool_fault.specs.declared.step.Step.TheVariants.{Element, Key, Value, TagContent, ByteChunk, TextChunk, Content, After}
 
 -- `count` items are at the front of b, followed by s.
-pub record Passes (b : List ℕ) (count : ℕ) (s : List ℕ) : Type 0 where
+pub record BeginsWithItems (b : List ℕ) (count : ℕ) (s : List ℕ) : Type 0 where
   pub items : Items
   pub encodings : List ℕ
   pub are : AreEncodings items encodings
@@ -27,7 +27,7 @@ pub record Opens (m i : ℕ) (o : List ℕ) : Type 0 where
   pub head : List ℕ
   pub opening : Opening m i head
   pub members : List ℕ
-  pub passes : Passes members i []
+  pub passes : BeginsWithItems members i []
   pub parts : o ≡ head ++ members
 
 -- The head announces an element at index i, or has an indefinite length.
@@ -54,20 +54,20 @@ abbrev pub Holds : List ℕ → ℕ → List ℕ → Type 0
 Holds b n s = (o : List ℕ) × (rest : List ℕ) × (b ≡ o ++ (s ++ rest)) × (length o ≡ n) × IsHead 2 (length s) o
 
 -- From the item at the front of b, the step leads n bytes on, to the front of s.
-abbrev pub Goes : Step → List ℕ → ℕ → List ℕ → Type 0
-Goes (Element i) b n s = Splits (Opens 4 i) b n s
-Goes (Key i) b n s = Splits (Opens 5 (i * 2)) b n s
-Goes (Value i) b n s = Splits (Opens 5 (i * 2 + 1)) b n s
-Goes Enclosed b n s = Splits Encloses b n s
-Goes (ByteChunk i) b n s = Splits (Opens 2 i) b n s
-Goes (TextChunk i) b n s = Splits (Opens 3 i) b n s
-Goes Content b n s = Holds b n s
-Goes Behind b n s = Splits (IsFront s) b n s
+abbrev pub StepTo : Step → List ℕ → ℕ → List ℕ → Type 0
+StepTo (Element i) b n s = Splits (Opens 4 i) b n s
+StepTo (Key i) b n s = Splits (Opens 5 (i * 2)) b n s
+StepTo (Value i) b n s = Splits (Opens 5 (i * 2 + 1)) b n s
+StepTo TagContent b n s = Splits Encloses b n s
+StepTo (ByteChunk i) b n s = Splits (Opens 2 i) b n s
+StepTo (TextChunk i) b n s = Splits (Opens 3 i) b n s
+StepTo Content b n s = Holds b n s
+StepTo After b n s = Splits (IsFront s) b n s
 
 -- One after another, the steps lead n bytes on, to the front of t.
-abbrev pub Leads : List Step → List ℕ → ℕ → List ℕ → Type 0
-Leads [] b n t = (n ≡ 0) × (t ≡ b)
-Leads (step ∷ steps) b n t = (k : ℕ) × (m : ℕ) × (s : List ℕ) × Goes step b k s × Leads steps s m t × (n ≡ k + m)
+abbrev pub PathTo : List Step → List ℕ → ℕ → List ℕ → Type 0
+PathTo [] b n t = (n ≡ 0) × (t ≡ b)
+PathTo (step ∷ steps) b n t = (k : ℕ) × (m : ℕ) × (s : List ℕ) × StepTo step b k s × PathTo steps s m t × (n ≡ k + m)
 
 -- ---- depth
 
@@ -76,7 +76,7 @@ Leads (step ∷ steps) b n t = (k : ℕ) × (m : ℕ) × (s : List ℕ) × Goes 
 abbrev pub levels_from : ℕ → List Step → ℕ
 levels_from n [] = n
 levels_from n (Content ∷ steps) = levels_from 0 steps
-levels_from n (Behind ∷ steps) = levels_from n steps
+levels_from n (After ∷ steps) = levels_from n steps
 levels_from n (step ∷ steps) = levels_from (suc n) steps
 
 abbrev pub levels : List Step → ℕ

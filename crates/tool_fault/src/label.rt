@@ -2,8 +2,8 @@
 
 ghost use Rattle.std.specs.Prelude.{IfOk, IfSome, IsTrue, pos};
 ghost use Rattle.coset.specs.Labels.{label};
-ghost use Rattle.coset.specs.Names.{number};
-ghost use Rattle.tool_fault.specs.Places.{BothIvs, IsLabel, SameLabel, Stands, StandTogether, label_is};
+ghost use Rattle.coset.specs.LabelData.{number};
+ghost use Rattle.tool_fault.specs.Places.{BothIvs, IsLabel, SameLabel, IsAtFront, StandTogether, label_is};
 
 use coset::cbor::de::Pull;
 use coset::{CborSerializable, CoseError, Label};
@@ -11,7 +11,7 @@ use std::alloc::{AllocError, Global};
 
 /// Returns the label at the front of the bytes, or `None` if there is none.
 fn label_at(alloc: Global, bytes: &[u8]) -> Result<Option<Label>, AllocError>
-    ensures { IfOk result (λ o. IfSome o (λ l. Stands (IsLabel l) bytes.now)) }
+    ensures { IfOk result (λ o. IfSome o (λ l. IsAtFront (IsLabel l) bytes.now)) }
 {
     let Ok((pull, _)) = Pull::new(bytes) else {
         return Ok(None);
@@ -38,7 +38,7 @@ pub(crate) fn are_same(alloc: Global, one: &[u8], other: &[u8]) -> Result<bool, 
 
 /// Returns true if the label with this number is at the front of the bytes.
 fn is_number(alloc: Global, bytes: &[u8], number: i64) -> Result<bool, AllocError>
-    ensures { IfOk result (λ b. IsTrue b → Stands (label_is number) bytes.now) }
+    ensures { IfOk result (λ b. IsTrue b → IsAtFront (label_is number) bytes.now) }
 {
     match label_at(alloc, bytes)? {
         Some(label) => Ok(label == Label::Int(number)),

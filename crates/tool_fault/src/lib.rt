@@ -4,10 +4,10 @@
 
 mod label;
 mod malformed;
+mod named_fault;
 mod place;
 mod registry;
 mod repeats;
-mod stands;
 mod step;
 mod unexpected;
 

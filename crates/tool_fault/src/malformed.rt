@@ -2,7 +2,7 @@
 
 ghost use Rattle.std.specs.Prelude.{◌≡◌, IsTrue, []};
 ghost use Rattle.coset.specs.Faults.{Ends, IsNotSupported, Nests, NoChunk, SyntaxAt};
-ghost use Rattle.tool_fault.specs.Places.{AnnouncesMore, BeginsNoChunk, IsByteString, IsMalformed, IsSyntaxFault, IsTooDeep, Stands, last_step};
+ghost use Rattle.tool_fault.specs.Places.{AnnouncesMore, BeginsNoChunk, IsByteString, IsMalformed, IsSyntaxFault, IsTooDeep, IsAtFront, last_step};
 ghost use Rattle.tool_fault.specs.Steps.{layers, levels};
 
 use crate::step::Step;
@@ -117,7 +117,7 @@ fn levels(steps: &[Step]) -> usize
     for step in steps {
         levels = match step {
             Step::Content => 0,
-            Step::Behind => levels,
+            Step::After => levels,
             _ => levels + 1,
         };
     }
@@ -149,7 +149,7 @@ fn nests(bytes: &[u8]) -> bool
 
 /// Returns true if a byte string is at the front.
 fn is_byte_string(bytes: &[u8]) -> bool
-    ensures { IsTrue result → Stands IsByteString bytes.now }
+    ensures { IsTrue result → IsAtFront IsByteString bytes.now }
 {
     match Pull::new(bytes) {
         Ok((pull, _)) => pull.bytes_chunks().is_some(),

@@ -3,7 +3,7 @@
 ghost use Rattle.std.specs.Prelude.{◌≤◌, IfOk, IfSome, length};
 ghost use Rattle.tool_fault.specs.Places.{IsPlace};
 
-use crate::stands::{holds_no_header, stands_there};
+use crate::named_fault::{fault_is_at, has_no_header};
 use crate::step::{Step, follow};
 use coset::CoseError;
 use std::alloc::{AllocError, Global};
@@ -42,7 +42,7 @@ pub fn fault_at(
     let Some((offset, rest)) = follow(bytes, steps) else {
         return Ok(None);
     };
-    if stands_there(alloc, error, bytes, steps, earlier, rest)? || holds_no_header(alloc, rest)? {
+    if fault_is_at(alloc, error, bytes, steps, earlier, rest)? || has_no_header(alloc, rest)? {
         Ok(Some(offset))
     } else {
         Ok(None)

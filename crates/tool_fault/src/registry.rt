@@ -2,7 +2,7 @@
 
 ghost use Rattle.std.specs.Prelude.{◌≡◌, IfSome, IsTrue, Some};
 ghost use Rattle.coset.specs.Parts.{as_integer};
-ghost use Rattle.tool_fault.specs.Places.{IsOutOfRange, Stands};
+ghost use Rattle.tool_fault.specs.Places.{IsOutOfRange, IsAtFront};
 ghost use Rattle.tool_fault.specs.Registries.{HasNoName, IsUnassigned, IsUnassignedAndNotPrivate};
 
 use coset::cbor::de::Pull;
@@ -14,7 +14,7 @@ use coset::iana::{
 
 /// Returns true if the item at the front is an integer that doesn't fit an `i64`, or is negative.
 pub(crate) fn is_out_of_range(bytes: &[u8]) -> bool
-    ensures { IsTrue result → Stands IsOutOfRange bytes.now }
+    ensures { IsTrue result → IsAtFront IsOutOfRange bytes.now }
 {
     let Some(number) = integer_at(bytes) else {
         return false;
@@ -27,7 +27,7 @@ pub(crate) fn is_out_of_range(bytes: &[u8]) -> bool
 
 /// Returns the integer at the front, or `None` if there is none.
 fn integer_at(bytes: &[u8]) -> Option<Integer>
-    ensures { IfSome result (λ z. Stands (λ v. as_integer v ≡ Some z) bytes.now) }
+    ensures { IfSome result (λ z. IsAtFront (λ v. as_integer v ≡ Some z) bytes.now) }
 {
     match Pull::new(bytes) {
         Ok((item, _)) => item.integer(),
@@ -37,7 +37,7 @@ fn integer_at(bytes: &[u8]) -> Option<Integer>
 
 /// Returns the integer at the front, or `None` if there is none or it doesn't fit an `i64`.
 fn number_at(bytes: &[u8]) -> Option<i64>
-    ensures { IfSome result (λ z. Stands (λ v. as_integer v ≡ Some z) bytes.now) }
+    ensures { IfSome result (λ z. IsAtFront (λ v. as_integer v ≡ Some z) bytes.now) }
 {
     let number = integer_at(bytes)?;
     i64::try_from(number).ok()
@@ -58,7 +58,7 @@ fn has_no_name<T: EnumI64 + Drop>(number: i64) -> bool
 ///
 /// These are the registries of content formats, of key types, and of key operations.
 pub(crate) fn is_unassigned(bytes: &[u8]) -> bool
-    ensures { IsTrue result → Stands IsUnassigned bytes.now }
+    ensures { IsTrue result → IsAtFront IsUnassigned bytes.now }
 {
     let Some(number) = number_at(bytes) else {
         return false;
@@ -77,7 +77,7 @@ pub(crate) fn is_unassigned(bytes: &[u8]) -> bool
 ///
 /// These are the registries of algorithms, of header parameters, and of claims.
 pub(crate) fn is_unassigned_and_not_private(bytes: &[u8]) -> bool
-    ensures { IsTrue result → Stands IsUnassignedAndNotPrivate bytes.now }
+    ensures { IsTrue result → IsAtFront IsUnassignedAndNotPrivate bytes.now }
 {
     let Some(number) = number_at(bytes) else {
         return false;

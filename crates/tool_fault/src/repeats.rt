@@ -4,7 +4,7 @@ ghost use Rattle.std.specs.Prelude.{IfOk, IfSome, IsTrue};
 ghost use Rattle.tool_fault.specs.Places.{AreTwo, BothIvs, IsEarlier, Repeats, SameLabel};
 
 use crate::label::{are_both_ivs, are_same};
-use crate::step::{Step, follow, go};
+use crate::step::{Step, follow, take_step};
 use std::alloc::{AllocError, Global};
 
 /// Returns the step to the key or the element at `index`, if `last` leads to a later one.
@@ -27,8 +27,8 @@ fn both_places<'a>(bytes: &'a [u8], steps: &[Step], index: usize) -> Option<(&'a
     let (last, front) = steps.split_last()?;
     let first = earlier_step(*last, index)?;
     let (_, whole) = follow(bytes, front)?;
-    let (_, one) = go(whole, first)?;
-    let (_, other) = go(whole, *last)?;
+    let (_, one) = take_step(whole, first)?;
+    let (_, other) = take_step(whole, *last)?;
     Some((one, other))
 }
 

@@ -3,7 +3,7 @@
 ghost use Rattle.std.specs.Prelude.{◌≡◌, ◌+◌, ◌*◌, ◌++◌, ◌≤◌, IfSome, IsTrue, length, ℕ};
 ghost use Rattle.coset.specs.Grammar.{IsHead};
 ghost use Rattle.coset.specs.Heads.{major_type_number};
-ghost use Rattle.tool_fault.specs.Steps.{Announces, Encloses, Goes, Holds, IsFront, Leads, Opens, Passes, Splits};
+ghost use Rattle.tool_fault.specs.Steps.{Announces, Encloses, StepTo, Holds, IsFront, PathTo, Opens, BeginsWithItems, Splits};
 
 use coset::cbor::de::Pull;
 use coset::cbor::head::{Head, MajorType, read_head};
@@ -18,7 +18,7 @@ pub enum Step {
     /// To the value of a map's pair at this index.
     Value(usize),
     /// To the content of a tag.
-    Enclosed,
+    TagContent,
     /// To the chunk of an indefinite-length byte string at this index.
     ByteChunk(usize),
     /// To the chunk of an indefinite-length text string at this index.
@@ -26,12 +26,12 @@ pub enum Step {
     /// To the content of a definite-length byte string.
     Content,
     /// To the bytes after the item.
-    Behind,
+    After,
 }
 
 /// Returns the bytes after `count` items, or `None` if there are fewer items.
 fn skip(bytes: &[u8], count: usize) -> Option<&[u8]>
-    ensures { IfSome result (λ rest. Passes bytes.now count rest.now) }
+    ensures { IfSome result (λ rest. BeginsWithItems bytes.now count rest.now) }
 {
     let mut rest = bytes;
     for _ in 0..count {
@@ -110,7 +110,7 @@ fn content(bytes: &[u8]) -> Option<(usize, &[u8])>
 
 /// Returns the offset of the bytes after the item at the front, and these bytes. There must be
 /// some.
-fn behind(bytes: &[u8]) -> Option<(usize, &[u8])>
+fn after_item(bytes: &[u8]) -> Option<(usize, &[u8])>
     ensures { IfSome result (λ p. Splits (IsFront p.1.now) bytes.now p.0 p.1.now) }
 {
     let Ok((pull, rest)) = Pull::new(bytes) else {
@@ -126,18 +126,18 @@ fn behind(bytes: &[u8]) -> Option<(usize, &[u8])>
 /// there on.
 ///
 /// The bytes end with `bytes`, or with the byte string if the step leads to its content.
-pub(crate) fn go(bytes: &[u8], step: Step) -> Option<(usize, &[u8])>
-    ensures { IfSome result (λ p. Goes step bytes.now p.0 p.1.now) }
+pub(crate) fn take_step(bytes: &[u8], step: Step) -> Option<(usize, &[u8])>
+    ensures { IfSome result (λ p. StepTo step bytes.now p.0 p.1.now) }
 {
     match step {
         Step::Element(index) => member(bytes, MajorType::Array, index),
         Step::Key(index) => member(bytes, MajorType::Map, index.checked_mul(2)?),
         Step::Value(index) => member(bytes, MajorType::Map, index.checked_mul(2)?.checked_add(1)?),
-        Step::Enclosed => enclosed(bytes),
+        Step::TagContent => enclosed(bytes),
         Step::ByteChunk(index) => member(bytes, MajorType::Bytes, index),
         Step::TextChunk(index) => member(bytes, MajorType::Text, index),
         Step::Content => content(bytes),
-        Step::Behind => behind(bytes),
+        Step::After => after_item(bytes),
     }
 }
 
@@ -146,12 +146,12 @@ pub(crate) fn go(bytes: &[u8], step: Step) -> Option<(usize, &[u8])>
 /// Returns the offset of the place and the bytes from there on, or `None` if the steps lead
 /// nowhere. The bytes end with `bytes`, or with the byte string whose content the place is in.
 pub fn follow<'a>(bytes: &'a [u8], steps: &[Step]) -> Option<(usize, &'a [u8])>
-    ensures { IfSome result (λ p. Leads steps.now bytes.now p.0 p.1.now) }
+    ensures { IfSome result (λ p. PathTo steps.now bytes.now p.0 p.1.now) }
 {
     let mut offset: usize = 0;
     let mut rest = bytes;
     for step in steps {
-        let (before, part) = go(rest, *step)?;
+        let (before, part) = take_step(rest, *step)?;
         offset = offset.checked_add(before)?;
         rest = part;
     }

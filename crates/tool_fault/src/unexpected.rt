@@ -1,7 +1,7 @@
 //! Unexpected items, by the names that errors give them.
 
 ghost use Rattle.std.specs.Prelude.{◌≡◌, IfOk, IfSome, IsTrue, Some, [], length, filter, ◌==◌};
-ghost use Rattle.coset.specs.Answers.{DescribesNothing};
+ghost use Rattle.coset.specs.Results.{DescribesNothing};
 ghost use Rattle.coset.specs.Errors.{UnlessMemory};
 ghost use Rattle.coset.specs.Fields.{IsMediaType};
 ghost use Rattle.coset.specs.Item.{no_items};
@@ -53,7 +53,7 @@ fn is_kind(item: Pull<'_>, name: &str) -> bool
 }
 
 /// Returns true if the item is an empty byte string.
-fn holds_no_bytes(alloc: Global, item: Pull<'_>) -> Result<bool, AllocError>
+fn has_no_bytes(alloc: Global, item: Pull<'_>) -> Result<bool, AllocError>
     ensures { IfOk result (λ b. IsTrue b → as_bytes (pull_item item.entry) ≡ Some []) }
 {
     match item.to_bytes(alloc) {
@@ -64,7 +64,7 @@ fn holds_no_bytes(alloc: Global, item: Pull<'_>) -> Result<bool, AllocError>
 }
 
 /// Returns true if the item is an empty text string.
-fn holds_no_text(alloc: Global, item: Pull<'_>) -> Result<bool, AllocError>
+fn has_no_text(alloc: Global, item: Pull<'_>) -> Result<bool, AllocError>
     ensures { IfOk result (λ b. IsTrue b → as_text (pull_item item.entry) ≡ Some []) }
 {
     match item.to_text(alloc) {
@@ -99,7 +99,7 @@ fn is_no_media_type(text: &str) -> bool
 }
 
 /// Returns true if the item is a text that is no media type (RFC 8152, section 3.1).
-fn holds_no_media_type(alloc: Global, item: Pull<'_>) -> Result<bool, AllocError>
+fn has_no_media_type(alloc: Global, item: Pull<'_>) -> Result<bool, AllocError>
     ensures { IfOk result (λ b. IsTrue b → IsNoMediaType (pull_item item.entry)) }
 {
     match item.to_text(alloc) {
@@ -116,10 +116,10 @@ fn is_item_called(alloc: Global, got: &str, item: Pull<'_>) -> Result<bool, Allo
         → IsCalled got.now (pull_bytes item.entry) (pull_item item.entry)) }
 {
     match got {
-        "empty bstr" => holds_no_bytes(alloc, item),
-        "empty tstr" => holds_no_text(alloc, item),
+        "empty bstr" => has_no_bytes(alloc, item),
+        "empty tstr" => has_no_text(alloc, item),
         "empty array" | "empty sig array" => Ok(has_no_elements(item)),
-        "leading/trailing whitespace" | "arbitrary text" => holds_no_media_type(alloc, item),
+        "leading/trailing whitespace" | "arbitrary text" => has_no_media_type(alloc, item),
         "no kty label" => describe_none::<CoseKey>(alloc, item.slice()),
         "non-signature" => describe_none::<CoseSignature>(alloc, item.slice()),
         _ => Ok(is_kind(item, got)),

@@ -3,7 +3,7 @@
 ghost use Rattle.std.specs.Prelude.{◌≡◌, IfOk, IfErr};
 ghost use Rattle.coset_cbor.specs.Pulls.{pull_item};
 ghost use Rattle.coset_codec.specs.Alone.{AreReadAlone, IsReadAlone, elements};
-ghost use Rattle.coset_codec.specs.Answers.{IsRefused};
+ghost use Rattle.coset_codec.specs.Results.{IsRefused};
 ghost use Rattle.coset_codec.specs.declared.error.CoseError.TheVariants.{OutOfMemory};
 
 use crate::error::{CoseError, Result};

@@ -7,9 +7,9 @@ ghost use Rattle.coset_value.specs.Item.{Item, null, Items, no_items, Pairs, no_
 ghost use Rattle.coset_value.specs.View.{value_item};
 ghost use Rattle.coset_codec.specs.declared.error.CoseError.TheVariants.{OutOfMemory};
 ghost use Rattle.coset_codec.specs.declared.read.decoder.ArrayElements.TheVariants as items;
-ghost use Rattle.coset_codec.specs.declared.read.decoder.MapEntries.TheVariants.{Lent};
-ghost use Rattle.coset_codec.specs.Answers.{Reads};
-ghost use Rattle.coset_codec.specs.Inputs.{State, tree, lent, state, ItemAt, GoesBehind, IsLent, length_left, input_size, items_size, pairs_size, items_turns, pairs_turns, AreWithin, PairsWithin};
+ghost use Rattle.coset_codec.specs.declared.read.decoder.MapEntries.TheVariants.{Borrowed};
+ghost use Rattle.coset_codec.specs.Results.{Reads};
+ghost use Rattle.coset_codec.specs.Inputs.{State, tree, borrowed, state, ItemAt, MovesForward, IsBorrowed, length_left, input_size, items_size, pairs_size, items_turns, pairs_turns, AreWithin, PairsWithin};
 ghost use Rattle.coset_codec.specs.Inputs.{EntersArray, EntersMap, NextPlace, Nexts, NextsKey};
 ghost use Rattle.coset_codec.specs.Sources.{IsWrongLength, TakesEnd, source_item, source_size};
 
@@ -28,7 +28,7 @@ pub enum Decoder<'a> {
     /// A value, which is replaced by null when it is read.
     Tree(Value),
     /// The position of a checked item in bytes.
-    Lent(Cursor<'a>),
+    Borrowed(Cursor<'a>),
 }
 
 /// The elements of an array that are still to be read.
@@ -37,7 +37,7 @@ pub enum ArrayElements {
     /// The elements of a value.
     Tree(vec::IntoIter<Value>),
     /// The elements of an array in bytes.
-    Lent(Remaining),
+    Borrowed(Remaining),
 }
 
 /// The pairs of a map that are still to be read.
@@ -46,7 +46,7 @@ pub enum MapEntries {
     /// The pairs of a value.
     Tree(vec::IntoIter<(Value, Value)>),
     /// The pairs of a map in bytes.
-    Lent(Remaining),
+    Borrowed(Remaining),
 }
 
 /// Returns the elements of a value that is an array.
@@ -89,7 +89,7 @@ impl<'a> Decoder<'a> {
     {
         match source {
             ItemSource::Tree(value) => Decoder::Tree(value),
-            ItemSource::Lent(pull) => Decoder::Lent(Cursor::new(pull.slice())),
+            ItemSource::Borrowed(pull) => Decoder::Borrowed(Cursor::new(pull.slice())),
         }
     }
 
@@ -99,14 +99,14 @@ impl<'a> Decoder<'a> {
     /// `DecodeFailed` if no item is at the input.
     pub fn take(&mut self) -> Result<ItemSource<'a>>
         ensures shrinks { length_left (state self.new) ≤ length_left (state self.old) }
-        ensures strictly { OnOk result (GoesBehind (state self.old) (state self.new)) }
+        ensures strictly { OnOk result (MovesForward (state self.old) (state self.new)) }
         ensures passes { (v : Item) (z : State) → ItemAt v (state self.old) z → (state self.new ≡ z)
             × IsOkAnd result (λ s. source_item s ≡ v) }
         ensures memory { IfErr result (λ e. e ≡ OutOfMemory → ⊥) }
     {
         match self {
             Decoder::Tree(value) => Ok(ItemSource::Tree(mem::replace(value, Value::Null))),
-            Decoder::Lent(cursor) => Ok(ItemSource::Lent(cursor.take()?)),
+            Decoder::Borrowed(cursor) => Ok(ItemSource::Borrowed(cursor.take()?)),
         }
     }
 
@@ -119,7 +119,7 @@ impl<'a> Decoder<'a> {
             Decoder::Tree(value) => {
                 *value = Value::Null;
             }
-            Decoder::Lent(cursor) => cursor.skip(),
+            Decoder::Borrowed(cursor) => cursor.skip(),
         }
     }
 
@@ -130,7 +130,7 @@ impl<'a> Decoder<'a> {
     /// `UnexpectedItem` with `want` if the item is no array. The item is then skipped.
     pub fn enter_array(&mut self, want: &'static str) -> Result<ArrayElements>
         ensures shrinks { length_left (state self.new) ≤ length_left (state self.old) }
-        ensures strictly { OnOk result (GoesBehind (state self.old) (state self.new)) }
+        ensures strictly { OnOk result (MovesForward (state self.old) (state self.new)) }
         ensures deeper { IfOk result (λ m. items_size m (state self.new)
             < input_size (state self.old)) }
         ensures enters { (v : Item) (z : State) → ItemAt v (state self.old) z
@@ -138,8 +138,8 @@ impl<'a> Decoder<'a> {
     {
         match self {
             Decoder::Tree(value) => tree_elements(mem::replace(value, Value::Null), want),
-            Decoder::Lent(cursor) => match cursor.array() {
-                Some(elements) => Ok(ArrayElements::Lent(elements)),
+            Decoder::Borrowed(cursor) => match cursor.array() {
+                Some(elements) => Ok(ArrayElements::Borrowed(elements)),
                 None => Err(pull_type_error(cursor.take()?, want)),
             },
         }
@@ -151,7 +151,7 @@ impl<'a> Decoder<'a> {
     /// `UnexpectedItem` if the item is no map. The item is then skipped.
     pub fn enter_map(&mut self) -> Result<MapEntries>
         ensures shrinks { length_left (state self.new) ≤ length_left (state self.old) }
-        ensures strictly { OnOk result (GoesBehind (state self.old) (state self.new)) }
+        ensures strictly { OnOk result (MovesForward (state self.old) (state self.new)) }
         ensures deeper { IfOk result (λ m. pairs_size m (state self.new)
             < input_size (state self.old)) }
         ensures enters { (v : Item) (z : State) → ItemAt v (state self.old) z
@@ -159,8 +159,8 @@ impl<'a> Decoder<'a> {
     {
         match self {
             Decoder::Tree(value) => tree_pairs(mem::replace(value, Value::Null)),
-            Decoder::Lent(cursor) => match cursor.map() {
-                Some(elements) => Ok(MapEntries::Lent(elements)),
+            Decoder::Borrowed(cursor) => match cursor.map() {
+                Some(elements) => Ok(MapEntries::Borrowed(elements)),
                 None => Err(pull_type_error(cursor.take()?, "map")),
             },
         }
@@ -168,14 +168,14 @@ impl<'a> Decoder<'a> {
 }
 
 /// Returns true if another of these items is at the input.
-fn next_lent(elements: &mut Remaining, input: &Decoder<'_>) -> bool
-    ensures there { IsTrue result → IsLent (state input.now) }
+fn next_borrowed(elements: &mut Remaining, input: &Decoder<'_>) -> bool
+    ensures there { IsTrue result → IsBorrowed (state input.now) }
     ensures nexts { (vs : Items) (z : State)
-        → AreWithin (items.Lent elements.old) vs (state input.now) z
-        → Nexts vs (state input.now) z (items.Lent elements.new) result }
+        → AreWithin (items.Borrowed elements.old) vs (state input.now) z
+        → Nexts vs (state input.now) z (items.Borrowed elements.new) result }
 {
     match input {
-        Decoder::Lent(cursor) => elements.next(cursor),
+        Decoder::Borrowed(cursor) => elements.next(cursor),
         Decoder::Tree(_) => false,
     }
 }
@@ -189,7 +189,7 @@ impl ArrayElements {
             (state input.old) }
         ensures element { IsTrue result → input_size (state input.new) ≤ items_size self.old
             (state input.old) }
-        ensures turns { IsTrue result → (t : State) → GoesBehind (state input.new) t
+        ensures turns { IsTrue result → (t : State) → MovesForward (state input.new) t
             → items_turns self.new t < items_turns self.old (state input.old) }
         ensures nexts { (vs : Items) (z : State) → AreWithin self.old vs (state input.old) z
             → Nexts vs (state input.new) z self.new result }
@@ -202,7 +202,7 @@ impl ArrayElements {
                 }
                 None => false,
             },
-            ArrayElements::Lent(elements) => next_lent(elements, input),
+            ArrayElements::Borrowed(elements) => next_borrowed(elements, input),
         }
     }
 
@@ -249,9 +249,9 @@ impl ArrayElements {
 
     /// Returns an `ArrayElements` without elements.
     pub fn none() -> ArrayElements
-        ensures { (s : List ℕ) → AreWithin result no_items (lent s) (lent s) }
+        ensures { (s : List ℕ) → AreWithin result no_items (borrowed s) (borrowed s) }
     {
-        ArrayElements::Lent(Remaining::none())
+        ArrayElements::Borrowed(Remaining::none())
     }
 
     /// Skips the elements that are left. Allocates nothing.
@@ -262,8 +262,8 @@ impl ArrayElements {
     {
         match self {
             ArrayElements::Tree(_) => {}
-            ArrayElements::Lent(elements) => match input {
-                Decoder::Lent(cursor) => elements.finish(cursor),
+            ArrayElements::Borrowed(elements) => match input {
+                Decoder::Borrowed(cursor) => elements.finish(cursor),
                 Decoder::Tree(_) => {}
             },
         }
@@ -271,7 +271,7 @@ impl ArrayElements {
 }
 
 /// Reads the next key of a map in bytes. The key's value is then at the input.
-fn lent_key<K: FromPull + Drop>(
+fn borrowed_key<K: FromPull + Drop>(
     alloc: Global,
     elements: &mut Remaining,
     input: &mut Decoder<'_>,
@@ -282,15 +282,15 @@ fn lent_key<K: FromPull + Drop>(
     ensures turns { IfOk result (λ o. IsSome o
         → length_left (state input.new) < length_left (state input.old)) }
     ensures nexts { (ps : Pairs) (z : State)
-        → PairsWithin (Lent elements.old) ps (state input.old) z
-        → NextsKey K.shape K.view ps (state input.new) z (Lent elements.new) result }
+        → PairsWithin (Borrowed elements.old) ps (state input.old) z
+        → NextsKey K.shape K.view ps (state input.new) z (Borrowed elements.new) result }
 {
-    if !next_lent(elements, input) {
+    if !next_borrowed(elements, input) {
         return Ok(None);
     }
     let key = K::from_input(alloc, input);
     // Moves on to the key's value, which is always there.
-    if !next_lent(elements, input) {
+    if !next_borrowed(elements, input) {
         return Ok(None);
     }
     match key {
@@ -350,15 +350,15 @@ impl MapEntries {
                 Some((key, value)) => Ok(Some(tree_key(alloc, key, value, input)?)),
                 None => Ok(None),
             },
-            MapEntries::Lent(elements) => lent_key(alloc, elements, input),
+            MapEntries::Borrowed(elements) => borrowed_key(alloc, elements, input),
         }
     }
 
     /// Returns a `MapEntries` without pairs.
     pub fn none() -> MapEntries
-        ensures { (s : List ℕ) → PairsWithin result no_pairs (lent s) (lent s) }
+        ensures { (s : List ℕ) → PairsWithin result no_pairs (borrowed s) (borrowed s) }
     {
-        MapEntries::Lent(Remaining::none())
+        MapEntries::Borrowed(Remaining::none())
     }
 
     /// Skips the pairs that are left. Allocates nothing.
@@ -369,8 +369,8 @@ impl MapEntries {
     {
         match self {
             MapEntries::Tree(_) => {}
-            MapEntries::Lent(elements) => match input {
-                Decoder::Lent(cursor) => elements.finish(cursor),
+            MapEntries::Borrowed(elements) => match input {
+                Decoder::Borrowed(cursor) => elements.finish(cursor),
                 Decoder::Tree(_) => {}
             },
         }

@@ -3,7 +3,7 @@
 
 ghost use Rattle.std.specs.Prelude.{◌≡◌, ◌≤◌};
 ghost use Rattle.coset_value.specs.Item.{Items};
-ghost use Rattle.coset_codec.specs.Answers.{Reads, ReadsElements};
+ghost use Rattle.coset_codec.specs.Results.{Reads, ReadsElements};
 ghost use Rattle.coset_codec.specs.Inputs.{AreWithin, State, length_left, state, ReadsForward};
 ghost use Rattle.coset_codec.specs.Shape.{Elements, array_of, end, ◌then◌};
 
@@ -66,7 +66,7 @@ impl DecodeElements for () {
 
 /// An element, and those after it.
 impl<A: Decode + Drop, P: DecodeElements + Drop> DecodeElements for (A, P) {
-    ghost use Rattle.coset_codec.specs.ShapeLaws.{fits_behind};
+    ghost use Rattle.coset_codec.specs.ShapeLaws.{fits_after};
 
     ghost View = { A.View × P.View };
 
@@ -74,7 +74,7 @@ impl<A: Decode + Drop, P: DecodeElements + Drop> DecodeElements for (A, P) {
 
     ghost elements = { A.shape then P.elements };
 
-    ghost fits = { fits_behind A.shape P.elements P.fits };
+    ghost fits = { fits_after A.shape P.elements P.fits };
 
     #[inline]
     fn decode_elements(

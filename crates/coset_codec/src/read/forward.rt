@@ -8,9 +8,9 @@ ghost use Rattle.coset_value.specs.Parts.{as_integer};
 ghost use Rattle.coset_value.specs.View.{bits_of, value_item};
 ghost use Rattle.coset_cbor.specs.Scalars.{as_float};
 ghost use Rattle.coset_codec.specs.declared.error.CoseError.TheVariants.{DuplicateMapKey, OutOfMemory, OutOfRangeIntegerValue};
-ghost use Rattle.coset_codec.specs.Answers.{Reads};
+ghost use Rattle.coset_codec.specs.Results.{Reads};
 ghost use Rattle.coset_codec.specs.Errors.{IsUnexpected, UnlessMemory};
-ghost use Rattle.coset_codec.specs.Inputs.{State, state, GoesBehind, IsLent, ReadsAt, ItemAt, TakesNull, TakesPart, length_left, ReadsForward};
+ghost use Rattle.coset_codec.specs.Inputs.{State, state, MovesForward, IsBorrowed, ReadsAt, ItemAt, TakesNull, TakesPart, length_left, ReadsForward};
 ghost use Rattle.coset_codec.specs.Kinds.{Says, SaysNonempty, kind};
 ghost use Rattle.coset_codec.specs.Shape.{bstr, nonempty_bstr, int64, or_nil, tstr, uint};
 ghost use Rattle.coset_codec.specs.Sources.{Copies};
@@ -27,7 +27,7 @@ impl<'a> Decoder<'a> {
     /// Reads the number of an integer, or returns `None` for any other item. Allocates nothing.
     pub fn integer(&mut self) -> Option<Integer>
         ensures shrinks { length_left (state self.new) ≤ length_left (state self.old) }
-        ensures strictly { IfSome result (λ _. GoesBehind (state self.old) (state self.new)) }
+        ensures strictly { IfSome result (λ _. MovesForward (state self.old) (state self.new)) }
         ensures stays { result ≡ None → state self.new ≡ state self.old }
         ensures reads { (v : Item) (z : State) → ItemAt v (state self.old) z
             → TakesPart as_integer (λ n. n) v (state self.old) (state self.new) z result }
@@ -40,7 +40,7 @@ impl<'a> Decoder<'a> {
                 }
                 None => None,
             },
-            Decoder::Lent(cursor) => cursor.integer(),
+            Decoder::Borrowed(cursor) => cursor.integer(),
         }
     }
 
@@ -48,7 +48,7 @@ impl<'a> Decoder<'a> {
     /// nothing.
     pub fn float(&mut self) -> Option<Float>
         ensures shrinks { length_left (state self.new) ≤ length_left (state self.old) }
-        ensures strictly { IfSome result (λ _. GoesBehind (state self.old) (state self.new)) }
+        ensures strictly { IfSome result (λ _. MovesForward (state self.old) (state self.new)) }
         ensures stays { result ≡ None → state self.new ≡ state self.old }
         ensures reads { (v : Item) (z : State) → ItemAt v (state self.old) z
             → TakesPart as_float bits_of v (state self.old) (state self.new) z result }
@@ -62,21 +62,21 @@ impl<'a> Decoder<'a> {
                 *value = Value::Null;
                 Some(float)
             }
-            Decoder::Lent(cursor) => cursor.float(),
+            Decoder::Borrowed(cursor) => cursor.float(),
         }
     }
 
     /// Skips the item and returns true if it is null. Allocates nothing.
     pub fn null(&mut self) -> bool
         ensures shrinks { length_left (state self.new) ≤ length_left (state self.old) }
-        ensures strictly { IsTrue result → GoesBehind (state self.old) (state self.new) }
+        ensures strictly { IsTrue result → MovesForward (state self.old) (state self.new) }
         ensures stays { result ≡ false → state self.new ≡ state self.old }
         ensures reads { (v : Item) (z : State) → ItemAt v (state self.old) z
             → TakesNull v (state self.old) (state self.new) z result }
     {
         match self {
             Decoder::Tree(value) => value.is_null(),
-            Decoder::Lent(cursor) => cursor.null(),
+            Decoder::Borrowed(cursor) => cursor.null(),
         }
     }
 
@@ -113,11 +113,11 @@ impl<'a> Decoder<'a> {
     pub fn value(&mut self, alloc: Global) -> Result<Value>
         ensures forward { ReadsForward (state self.old) (state self.new) result
             (λ v. Copies value_item v result) }
-        ensures memory { IfErr result (λ e. e ≡ OutOfMemory → IsLent (state self.old)) }
+        ensures memory { IfErr result (λ e. e ≡ OutOfMemory → IsBorrowed (state self.old)) }
     {
         match self {
             Decoder::Tree(value) => Ok(mem::replace(value, Value::Null)),
-            Decoder::Lent(cursor) => Ok(cursor.value(alloc)?),
+            Decoder::Borrowed(cursor) => Ok(cursor.value(alloc)?),
         }
     }
 
@@ -131,11 +131,11 @@ impl<'a> Decoder<'a> {
             (λ v. Reads bstr (λ b. b.items) v result) }
         ensures says { ReadsAt (state self.old) (state self.new)
             (λ v. IfErr result (λ e. UnlessMemory e (Says (kind v) want.now))) }
-        ensures memory { IfErr result (λ e. e ≡ OutOfMemory → IsLent (state self.old)) }
+        ensures memory { IfErr result (λ e. e ≡ OutOfMemory → IsBorrowed (state self.old)) }
     {
         match self {
             Decoder::Tree(value) => tree_bytes(mem::replace(value, Value::Null), want),
-            Decoder::Lent(cursor) => match cursor.bytes(alloc)? {
+            Decoder::Borrowed(cursor) => match cursor.bytes(alloc)? {
                 Some(bytes) => Ok(bytes),
                 None => Err(pull_type_error(cursor.take()?, want)),
             },
@@ -152,11 +152,11 @@ impl<'a> Decoder<'a> {
             (λ v. Reads tstr string_bytes v result) }
         ensures says { ReadsAt (state self.old) (state self.new)
             (λ v. IfErr result (λ e. UnlessMemory e (Says (kind v) want.now))) }
-        ensures memory { IfErr result (λ e. e ≡ OutOfMemory → IsLent (state self.old)) }
+        ensures memory { IfErr result (λ e. e ≡ OutOfMemory → IsBorrowed (state self.old)) }
     {
         match self {
             Decoder::Tree(value) => tree_text(mem::replace(value, Value::Null), want),
-            Decoder::Lent(cursor) => match cursor.text(alloc)? {
+            Decoder::Borrowed(cursor) => match cursor.text(alloc)? {
                 Some(text) => Ok(text),
                 None => Err(pull_type_error(cursor.take()?, want)),
             },

@@ -6,7 +6,7 @@ ghost use Rattle.std.specs.Prelude.{◌≡◌, ◌≤◌, ◌<◌, [], option_ma
 ghost use Rattle.coset_value.specs.Item.{Items};
 ghost use Rattle.coset_codec.specs.Errors.{stored};
 ghost use Rattle.coset_codec.specs.InPlace.{BeginsNext, GetsOne, GetsPlace};
-ghost use Rattle.coset_codec.specs.Inputs.{State, state, AreWithin, GoesBehind, input_size, items_size, items_turns, length_left};
+ghost use Rattle.coset_codec.specs.Inputs.{State, state, AreWithin, MovesForward, input_size, items_size, items_turns, length_left};
 
 use crate::error::{CoseError, ErrorStored};
 use crate::read::{ArrayElements, Decoder};
@@ -58,7 +58,7 @@ pub fn next_place<T: InPlace>(
         (state input.old) }
     ensures element { IfOk result (λ b. IsTrue b
         → input_size (state input.new) ≤ items_size elements.old (state input.old)) }
-    ensures turns { IfOk result (λ b. IsTrue b → (t : State) → GoesBehind (state input.new) t
+    ensures turns { IfOk result (λ b. IsTrue b → (t : State) → MovesForward (state input.new) t
         → items_turns elements.new t < items_turns elements.old (state input.old)) }
     ensures place { IfOk result (GetsPlace T.is_empty all.old.items all.new.items) }
     ensures next { (vs : Items) (z : State) → AreWithin elements.old vs (state input.old) z

@@ -3,7 +3,7 @@
 ghost use Rattle.std.specs.Prelude.{◌≡◌, ◌≤◌, Some, None, map, IfErr};
 ghost use Rattle.coset_value.specs.Item.{Items, no_items};
 ghost use Rattle.coset_value.specs.Parts.{as_array};
-ghost use Rattle.coset_codec.specs.Answers.{Reads};
+ghost use Rattle.coset_codec.specs.Results.{Reads};
 ghost use Rattle.coset_codec.specs.Lists.{ReadsEach};
 ghost use Rattle.coset_codec.specs.Errors.{UnlessMemory};
 ghost use Rattle.coset_codec.specs.Inputs.{State, state, AreWithin, ReadsAt, length_left, ReadsForward};

@@ -6,11 +6,11 @@ ghost use Rattle.coset_value.specs.Item.{Item, Pairs};
 ghost use Rattle.coset_value.specs.Parts.{as_map};
 ghost use Rattle.coset_codec.specs.declared.error.CoseError.TheVariants.{OutOfMemory, DuplicateMapKey};
 ghost use Rattle.coset_codec.specs.Errors.{UnlessMemory};
-ghost use Rattle.coset_codec.specs.Gathering.{ReadsPairs};
-ghost use Rattle.coset_codec.specs.Inputs.{State, state, GoesBehind, NextsKey, PairsWithin, ReadsAt, length_left, pairs_turns};
+ghost use Rattle.coset_codec.specs.Visiting.{ReadsPairs};
+ghost use Rattle.coset_codec.specs.Inputs.{State, state, MovesForward, NextsKey, PairsWithin, ReadsAt, length_left, pairs_turns};
 ghost use Rattle.coset_codec.specs.Kinds.{Says, kind};
-ghost use Rattle.coset_codec.specs.Maps.{Names, Fields, Adds, Refuses, Walks, are_distinct, labelled};
-ghost use Rattle.coset_codec.specs.MapLaws.{LawfulNames, LawfulFields};
+ghost use Rattle.coset_codec.specs.Maps.{MapLabels, Fields, Adds, Refuses, Walks, are_distinct, labelled};
+ghost use Rattle.coset_codec.specs.MapLaws.{LawfulMapLabels, LawfulFields};
 
 use crate::error::{CoseError, Result};
 use crate::read::{Decoder, MapEntries};
@@ -23,19 +23,19 @@ pub trait MapVisitor: Sized {
     type Label: Drop;
 
     /// What contracts see of a label, and of the fields.
-    ghost Name: { Type 0 };
+    ghost LabelView: { Type 0 };
 
-    ghost Got: { Type 0 };
+    ghost FieldValues: { Type 0 };
 
     /// Which keys are labels, and the fields.
-    ghost names: { Names Name };
+    ghost names: { MapLabels LabelView };
 
-    ghost fields: { Fields Name Got };
+    ghost fields: { Fields LabelView FieldValues };
 
-    ghost named: { Self.Label → Name };
+    ghost named: { Self.Label → LabelView };
 
     /// The fields, and the pairs of the rest by label.
-    ghost view: { Self → Got × List (Name × Item) };
+    ghost view: { Self → FieldValues × List (LabelView × Item) };
 
     /// Reads the next label, or returns `None` if no pair is left. The label's value is then at the
     /// input.
@@ -79,9 +79,9 @@ pub trait MapVisitor: Sized {
             ≡ not (are_distinct names.same (keys_of (view self.now).1))) }
         ensures memory { IfErr result (λ e. e ≡ OutOfMemory) };
 
-    ghost lawful_names: { LawfulNames Name names };
+    ghost lawful_names: { LawfulMapLabels LabelView names };
 
-    ghost lawful_fields: { LawfulFields Name Got names fields };
+    ghost lawful_fields: { LawfulFields LabelView FieldValues names fields };
 }
 
 /// Returns the final result after the pairs were read. A repeated label in the rest precedes the
@@ -91,65 +91,69 @@ pub trait MapVisitor: Sized {
 /// - `OutOfMemory` if an allocation fails.
 /// - `DuplicateMapKey` if a label of the rest repeats.
 /// - Otherwise the error of `all`.
-fn first_fault<G: MapVisitor>(alloc: Global, so_far: &G, all: Result<()>) -> Result<()>
-    ensures read { OnOk result ((are_distinct G.names.same (keys_of (G.view so_far.now).1) ≡ true)
+fn first_fault<V: MapVisitor>(alloc: Global, visitor: &V, all: Result<()>) -> Result<()>
+    ensures read { OnOk result ((are_distinct V.names.same (keys_of (V.view visitor.now).1) ≡ true)
         × (all ≡ Ok tt)) }
     ensures refused { IfErr result (λ e. UnlessMemory e (λ f. (all ≡ Err f)
         ⊎ ((f ≡ DuplicateMapKey)
-        × (are_distinct G.names.same (keys_of (G.view so_far.now).1) ≡ false)))) }
+        × (are_distinct V.names.same (keys_of (V.view visitor.now).1) ≡ false)))) }
 {
-    if so_far.repeats(alloc)? {
+    if visitor.repeats(alloc)? {
         return Err(CoseError::DuplicateMapKey);
     }
     all
 }
 
-/// Reads the pairs that are left into `so_far`. A pair with a fault is skipped, and `so_far` keeps
-/// the pairs before it.
+/// Reads the pairs that are left into `visitor`. A pair with a fault is skipped, and `visitor`
+/// keeps the pairs before it.
 ///
 /// # Errors
 /// - `OutOfMemory` if an allocation fails.
 /// - The fault of the first pair that has one: in its key, then in its value.
-fn read_pairs<G: MapVisitor>(
+fn read_pairs<V: MapVisitor>(
     alloc: Global,
     pairs: &mut MapEntries,
     input: &mut Decoder<'_>,
-    so_far: &mut G,
+    visitor: &mut V,
 ) -> Result<()>
     ensures shrinks { length_left (state input.new) ≤ length_left (state input.old) }
     ensures reads { (all ps : Pairs) (z : State)
-        → Walks _ _ G.names G.fields all (G.view so_far.old) ps
+        → Walks _ _ V.names V.fields all (V.view visitor.old) ps
         → PairsWithin pairs.old ps (state input.old) z
-        → ReadsPairs G.names G.fields all (G.view so_far.new) (state input.new) z pairs.new result }
+        → ReadsPairs V.names V.fields all (V.view visitor.new) (state input.new) z pairs.new result }
 {
-    while let Some(label) = G::next_label(alloc, pairs, input)? {
-        so_far.add(alloc, label, input)?;
+    while let Some(label) = V::next_label(alloc, pairs, input)? {
+        visitor.add(alloc, label, input)?;
     }
     Ok(())
 }
 
-/// Reads a map into `so_far`, from the first pair on, and leaves the input just after the map.
-/// After an error, `so_far` keeps the pairs before the fault.
+/// Reads a map into `visitor`, from the first pair on, and leaves the input just after the map.
+/// After an error, `visitor` keeps the pairs before the fault.
 ///
 /// # Errors
 /// - `OutOfMemory` if an allocation fails.
 /// - `UnexpectedItem` if the item is no map.
 /// - The fault of the first pair that has one: in its key, then a repeated label, then in its
 ///   value.
-pub fn read_map<G: MapVisitor>(alloc: Global, input: &mut Decoder<'_>, so_far: &mut G) -> Result<()>
-    requires fields { G.fields.describes [] (G.view so_far.old).0 }
-    requires rest { (G.view so_far.old).1 ≡ [] }
+pub fn read_map<V: MapVisitor>(
+    alloc: Global,
+    input: &mut Decoder<'_>,
+    visitor: &mut V,
+) -> Result<()>
+    requires fields { V.fields.describes [] (V.view visitor.old).0 }
+    requires rest { (V.view visitor.old).1 ≡ [] }
     ensures shrinks { length_left (state input.new) ≤ length_left (state input.old) }
-    ensures strictly { OnOk result (GoesBehind (state input.old) (state input.new)) }
+    ensures strictly { OnOk result (MovesForward (state input.old) (state input.new)) }
     ensures read { ReadsAt (state input.old) (state input.new) (λ v. OnOk result
-        ((labelled G.names G.fields).describes v (G.view so_far.new))) }
+        ((labelled V.names V.fields).describes v (V.view visitor.new))) }
     ensures refused { ReadsAt (state input.old) (state input.new) (λ v. IfErr result
-        (λ e. UnlessMemory e ((labelled G.names G.fields).faults v))) }
+        (λ e. UnlessMemory e ((labelled V.names V.fields).faults v))) }
     ensures says { ReadsAt (state input.old) (state input.new) (λ v. IfErr result
         (λ e. as_map v ≡ None → Says (kind v) (codes "map") e)) }
 {
     let mut pairs = input.enter_map()?;
-    let all = read_pairs(alloc, &mut pairs, input, so_far);
+    let all = read_pairs(alloc, &mut pairs, input, visitor);
     pairs.finish(input);
-    first_fault(alloc, so_far, all)
+    first_fault(alloc, visitor, all)
 }

@@ -19,7 +19,7 @@ pub enum ItemSource<'a> {
     /// A value.
     Tree(Value),
     /// A checked item in bytes.
-    Lent(Pull<'a>),
+    Borrowed(Pull<'a>),
 }
 
 /// Returns the bytes of a value that is a byte string.
@@ -49,7 +49,7 @@ impl ItemSource<'_> {
     {
         match self {
             ItemSource::Tree(value) => type_error(value, want),
-            ItemSource::Lent(pull) => pull_type_error(*pull, want),
+            ItemSource::Borrowed(pull) => pull_type_error(*pull, want),
         }
     }
 }

@@ -4,7 +4,7 @@ ghost use Rattle.std.specs.Prelude.{length, Option, Some, option_map, OnOk, IfEr
 ghost use Rattle.coset_value.specs.Item.{Item, array, item, bytes, tag};
 ghost use Rattle.coset_value.specs.View.{value_item};
 ghost use Rattle.coset_cbor.specs.Least.{Extends};
-ghost use Rattle.coset_codec.specs.Answers.{Images, Writes};
+ghost use Rattle.coset_codec.specs.Results.{Images, Writes};
 ghost use Rattle.coset_codec.specs.Encoding.{AppendsElements, Encodes, HasNoImage, two_elements, three_elements, four_elements, five_elements};
 ghost use Rattle.coset_codec.specs.Shape.{images};
 

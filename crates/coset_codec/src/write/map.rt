@@ -5,7 +5,7 @@ ghost use Rattle.std.specs.Prelude.{◌≡◌, ◌+◌, ◌++◌, ◌<◌, ◌^�
 ghost use Rattle.coset_value.specs.View.{value_item};
 ghost use Rattle.coset_cbor.specs.Least.{Extends, least_head};
 ghost use Rattle.coset_codec.specs.Encoding.{AppendsAll, AppendsField, HasNoImage};
-ghost use Rattle.coset_codec.specs.Maps.{field_shape_image, unless_empty, named_image};
+ghost use Rattle.coset_codec.specs.Maps.{field_shape_image, unless_empty, labelled_image};
 ghost use Rattle.coset_codec.specs.Shape.{nonempty_bstr, present_image};
 
 use crate::error::Result;
@@ -117,10 +117,11 @@ pub fn write_nonempty(alloc: Global, label: i64, bytes: &Vec<u8>, out: &mut Vec<
 /// `out` is then as [`Encode::encode`] leaves it.
 pub fn write_rest<L: Encode>(alloc: Global, rest: &[(L, Value)], out: &mut Vec<u8>) -> Result<()>
     ensures ok { OnOk result
-        (AppendsAll (named_image L.image (map (λ e. (e.0, value_item e.1)) rest.now)) out.old.items
+        (AppendsAll (labelled_image L.image (map (λ e. (e.0, value_item e.1)) rest.now))
+        out.old.items
         out.new.items) }
     ensures refused { IfErr result
-        (HasNoImage (named_image L.image (map (λ e. (e.0, value_item e.1)) rest.now))) }
+        (HasNoImage (labelled_image L.image (map (λ e. (e.0, value_item e.1)) rest.now))) }
     ensures kept { Extends out.old.items out.new.items }
 {
     for (label, value) in rest {

@@ -41,20 +41,20 @@ pub header::reading::fill_counter_signatures-returns-clause-fills : goal.header:
 header::reading::fill_counter_signatures-returns-clause-fills t c = elim c.if-one.branch [
   | header::reading::fill_counter_signatures-then-one w ↦ λ v z stands.
       let here = c.in_ok-one.ensures.enters v z stands in
-      let read = w.fill_bare-filled.ensures.fills here.0 z here.2 in (
+      let read = w.fill_single_signature-filled.ensures.fills here.0 z here.2 in (
         c.finish.ensures.passes read.0.0 z (rw (w.elements-is, w.input-is) read.0.1),
         rw (w.all-is, w.filled-is, w.error-is) (one_filled (layered_signature c.args.layers) v here.0 _ _ here.1 (rw w.if-one.true at here.3) read.1),
       )
   | header::reading::fill_counter_signatures-else-one w ↦ λ v z stands.
       let here = c.in_ok-one.ensures.enters v z stands in
-      let read = w.fill_listed-filled.ensures.fills here.0 z here.2 in (
+      let read = w.fill_signature_list-filled.ensures.fills here.0 z here.2 in (
         c.finish.ensures.passes read.0.0 z (rw (w.elements-is, w.input-is) read.0.1),
         rw (w.all-is, w.filled-is, w.error-is) (more_filled (layered_signature c.args.layers) v here.0 _ _ here.1 (rw w.if-one.false at here.3) read.1),
       )
 ]
 
-pub signature::fill_listed-loop-all-preserved : goal.signature::fill_listed-loop-all-preserved
-signature::fill_listed-loop-all-preserved t c =
+pub signature::fill_signature_list-loop-all-preserved : goal.signature::fill_signature_list-loop-all-preserved
+signature::fill_signature_list-loop-all-preserved t c =
     let next = rw c.if-branch.true at c.in_ok-next_place.ensures in
     let read = c.in_ok-fill_signature.ensures.shrinks in
     record {
@@ -76,8 +76,8 @@ signature::fill_listed-loop-all-preserved t c =
           (search rules) next.place.1);
     }
 
-pub signature::fill_listed-returns-in_err-fill_signature-clause-fills : goal.signature::fill_listed-returns-in_err-fill_signature-clause-fills
-signature::fill_listed-returns-in_err-fill_signature-clause-fills t c = λ vs z within.
+pub signature::fill_signature_list-returns-in_err-fill_signature-clause-fills : goal.signature::fill_signature_list-returns-in_err-fill_signature-clause-fills
+signature::fill_signature_list-returns-in_err-fill_signature-clause-fills t c = λ vs z within.
     let next = rw c.if-branch.true at c.in_ok-next_place.ensures in
     let p = c.loop-all.invariant.fills vs z within in
     one_refused_more (layered_signature c.args.layers) vs (state c.loop-all.input) (state c.next_place.new.input)
@@ -85,8 +85,8 @@ signature::fill_listed-returns-in_err-fill_signature-clause-fills t c = λ vs z 
     (signature_view c.fill_signature.new.signed) c.from_residual-in_err-fill_signature.result c.fill_signature.new.error c.in_err-fill_signature.field-0.0
     c.from_residual-in_err-fill_signature.ensures.1 p (next.next p.others z p.within) c.in_err-fill_signature.ensures.fills
 
-pub signature::fill_listed-returns-clause-fills : goal.signature::fill_listed-returns-clause-fills
-signature::fill_listed-returns-clause-fills t c = λ vs z within.
+pub signature::fill_signature_list-returns-clause-fills : goal.signature::fill_signature_list-returns-clause-fills
+signature::fill_signature_list-returns-clause-fills t c = λ vs z within.
     let next = rw c.if-branch.false at c.in_ok-next_place.ensures in
     let p = c.loop-all.invariant.fills vs z within in
     let none = next.next p.others z p.within in (
@@ -137,7 +137,7 @@ header::reading::fill_pairs-loop-version-preserved t c =
           so_far_more c.in-Some.version c.args.layers all c.loop-version.header c.fill_fields.new.header c.keep_signatures.new.header
           (state c.loop-version.input) (state c.fill_fields.new.input) (state c.fill_counter_signatures.new.input) z
           c.loop-version.pairs c.fill_fields.new.pairs (map signature_view c.fill_counter_signatures.new.all.items) p
-          (next.fills all p.left p.values z p.walks p.within).0 next.others (sym c.holds.ensures ∙ c.if-holds.false) read.fills keeps;
+          (next.fills all p.left p.values z p.walks p.within).0 next.others (sym c.has_signatures_of.ensures ∙ c.if-has_signatures_of.false) read.fills keeps;
     }
 
 pub header::reading::fill_pairs-loop-version-smaller : goal.header::reading::fill_pairs-loop-version-smaller
@@ -156,14 +156,14 @@ header::reading::fill_pairs-returns-in_err-version-clause-fills t c = λ all z w
     c.from_residual.ensures.1
     (c.in_err-version.ensures.fills all p.left p.values z p.walks p.within)
 
-pub header::reading::fill_pairs-returns-then-holds-clause-fills : goal.header::reading::fill_pairs-returns-then-holds-clause-fills
-header::reading::fill_pairs-returns-then-holds-clause-fills t c = λ all z within.
+pub header::reading::fill_pairs-returns-then-has_signatures_of-clause-fills : goal.header::reading::fill_pairs-returns-then-has_signatures_of-clause-fills
+header::reading::fill_pairs-returns-then-has_signatures_of-clause-fills t c = λ all z within.
     let next = rw c.in-Some.is at c.in_ok-version.ensures in
     let p = c.loop-version.invariant.fills all z within in
     second_refused c.in-Some.version c.args.layers all c.loop-version.header c.fill_fields.new.header (state c.loop-version.input)
-    (state c.fill_fields.new.input) (state c.refuse_second.new.input) z c.loop-version.pairs c.fill_fields.new.pairs _
-    (stored c.refuse_second.new.error c.refuse_second.result) p (next.fills all p.left p.values z p.walks p.within).0 next.others
-    (sym c.holds.ensures ∙ c.if-holds.true) c.refuse_second.ensures.passes
+    (state c.fill_fields.new.input) (state c.reject_second_value.new.input) z c.loop-version.pairs c.fill_fields.new.pairs _
+    (stored c.reject_second_value.new.error c.reject_second_value.result) p (next.fills all p.left p.values z p.walks p.within).0 next.others
+    (sym c.has_signatures_of.ensures ∙ c.if-has_signatures_of.true) c.reject_second_value.ensures.passes
 
 pub header::reading::fill_pairs-returns-in-Err-clause-fills : goal.header::reading::fill_pairs-returns-in-Err-clause-fills
 header::reading::fill_pairs-returns-in-Err-clause-fills t c = λ all z within.
@@ -206,7 +206,7 @@ signature::fill_signature-returns-clause-fills t c = λ v z stands.
 pub signature::fill_elements-returns-in_err-is_string-clause-fills : goal.signature::fill_elements-returns-in_err-is_string-clause-fills
 signature::fill_elements-returns-in_err-is_string-clause-fills t c = λ vs z within.
     elements_refused c.args.layers vs (state c.begin_elements.new.input) z c.begin_elements.new.elements
-    (option_map (λ b. b.items) c.begin_elements.new.kept) c.begin_elements.new.why _ c.from_residual.result c.begin_elements.new.error
+    (option_map (λ b. b.items) c.begin_elements.new.kept) c.begin_elements.new.first_error _ c.from_residual.result c.begin_elements.new.error
     c.in_err-is_string.field-0.0 c.from_residual.ensures.1 (c.in_err-is_string.ensures.begins vs z within)
 
 pub signature::fill_elements-returns-in_err-end_elements-clause-fills : goal.signature::fill_elements-returns-in_err-end_elements-clause-fills
@@ -235,10 +235,11 @@ signature::fill_elements-returns-then-not-is_string-clause-fills t c = λ vs z w
     let o = option_map (λ b. b.items) c.begin_elements.new.kept in
     let P : Item → Type 0 = λ v. (layered_header c.args.layers).describes v (header_view c.fill_header-unprotected.new.header) in
     let s = second_read vs (state c.begin_elements.new.input)
-    (state c.fill_header-unprotected.new.input) z c.begin_elements.new.elements o c.begin_elements.new.why false P
+    (state c.fill_header-unprotected.new.input) z c.begin_elements.new.elements o c.begin_elements.new.first_error false P
     (read.begins vs z within) c.in_ok-unprotected.ensures.fills in
     protected_refused c.args.layers vs (state c.fill_header-unprotected.new.input)
-    (state c.end_elements.new.input) z c.begin_elements.new.elements c.end_elements.new.elements o c.begin_elements.new.why P c.end_elements.new.signature.items
+    (state c.end_elements.new.input) z c.begin_elements.new.elements c.end_elements.new.elements o c.begin_elements.new.first_error P
+    c.end_elements.new.signature.items
     (signature_view c.args.signed.now) s
     (c.in_ok-end_elements.ensures.ends s.others z s.within)
 
@@ -253,13 +254,13 @@ signature::fill_elements-returns-clause-fills t c = λ vs z within.
     (out-roll-CoseSignature _) ∙ ap (λ g. record { protected = p; unprotected = header_view g.unprotected; signature = b }) (out-roll-CoseSignature _)) in
     let x : SignatureView = record { protected = p; unprotected = header_view c.fill_header-unprotected.new.header; signature = b } in
     let s = second_read vs (state c.begin_elements.new.input)
-    (state c.fill_header-unprotected.new.input) z c.begin_elements.new.elements o c.begin_elements.new.why true
+    (state c.fill_header-unprotected.new.input) z c.begin_elements.new.elements o c.begin_elements.new.first_error true
     (λ v. (layered_header c.args.layers).describes v x.unprotected)
     (read.begins vs z within) c.in_ok-unprotected.ensures.fills in
     subst (λ y. ((left : Items) × AreWithin c.end_elements.new.elements left (state c.end_elements.new.input) z)
     × Fills (layered_signature c.args.layers) (array vs) y r) (sym view)
     (elements_filled c.args.layers vs (state c.fill_header-unprotected.new.input)
-    (state c.end_elements.new.input) z c.begin_elements.new.elements c.end_elements.new.elements o c.begin_elements.new.why x r s
+    (state c.end_elements.new.input) z c.begin_elements.new.elements c.end_elements.new.elements o c.begin_elements.new.first_error x r s
     (c.in_ok-end_elements.ensures.ends s.others z s.within)
     (λ d is. c.fill_protected.ensures d (ap (λ g. (protected_view g.protected).original) (out-roll-CoseSignature _)
     ∙ (ap (λ g. (protected_view g.protected).original) (out-roll-CoseSignature _)

@@ -22,11 +22,11 @@ decreases-header::reading::fill_pairs l = layer * l.layers + 8 * pairs_size l.pa
 abbrev pub decreases-header::reading::fill_counter_signatures : goal.decreases-header::reading::fill_counter_signatures
 decreases-header::reading::fill_counter_signatures l = layer * l.layers + 8 * input_size (state l.input.now) + 3
 
-abbrev pub decreases-signature::fill_bare : goal.decreases-signature::fill_bare
-decreases-signature::fill_bare l = layer * l.layers + 8 * items_size l.elements.now (state l.input.now) + 8
+abbrev pub decreases-signature::fill_single_signature : goal.decreases-signature::fill_single_signature
+decreases-signature::fill_single_signature l = layer * l.layers + 8 * items_size l.elements.now (state l.input.now) + 8
 
-abbrev pub decreases-signature::fill_listed : goal.decreases-signature::fill_listed
-decreases-signature::fill_listed l = layer * l.layers + 8 * items_size l.elements.now (state l.input.now) + 8
+abbrev pub decreases-signature::fill_signature_list : goal.decreases-signature::fill_signature_list
+decreases-signature::fill_signature_list l = layer * l.layers + 8 * items_size l.elements.now (state l.input.now) + 8
 
 abbrev pub decreases-signature::fill_signature : goal.decreases-signature::fill_signature
 decreases-signature::fill_signature l = layer * l.layers + 8 * input_size (state l.input.now) + 6
@@ -53,13 +53,13 @@ abbrev pub decreases-header::reading::fill_pairs-loop-version : goal.decreases-h
 decreases-header::reading::fill_pairs-loop-version l = pairs_turns l.pairs (state l.input)
 
 -- The signatures so far are those of the items so far, and the input is at the others.
-abbrev pub invariant-signature::fill_listed-loop-all : goal.invariant-signature::fill_listed-loop-all
-invariant-signature::fill_listed-loop-all l = record {
+abbrev pub invariant-signature::fill_signature_list-loop-all : goal.invariant-signature::fill_signature_list-loop-all
+invariant-signature::fill_signature_list-loop-all l = record {
   shrinks : length_left (state l.input) ≤ length_left (state l.fn.input);
   size : items_size l.elements (state l.input) ≤ items_size l.fn.elements (state l.fn.input);
   fills : (vs : Items) (z : State) → AreWithin l.fn.elements vs (state l.fn.input) z
       → Filled SignatureView (layered_signature l.layers) vs z l.elements (state l.input) (map signature_view l.all.items);
 }
 
-abbrev pub decreases-signature::fill_listed-loop-all : goal.decreases-signature::fill_listed-loop-all
-decreases-signature::fill_listed-loop-all l = items_turns l.elements (state l.input)
+abbrev pub decreases-signature::fill_signature_list-loop-all : goal.decreases-signature::fill_signature_list-loop-all
+decreases-signature::fill_signature_list-loop-all l = items_turns l.elements (state l.input)

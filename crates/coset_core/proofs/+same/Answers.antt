@@ -1,5 +1,5 @@
 use Rattle.std.proofs.Common.{◌≡◌, Bool, ◌&&◌, map, sym, ◌∙◌, rules}
-use Rattle.coset_core.specs.FieldViews.{counter_signatures_held, countersignatures_held, fields_view}
+use Rattle.coset_core.specs.FieldViews.{counter_signature_list, countersignature_v2_list, fields_view}
 use Rattle.coset_core.specs.Headers.{signatures_of}
 use Rattle.coset_core.specs.Same.{fields_eq, signatures_eq}
 use Rattle.coset_core.specs.Views.{countersignature_view, signature_view}
@@ -13,11 +13,11 @@ abbrev fields_test : Header → Header → Bool
 fields_test a b = fields_eq (fields_view a) (fields_view b)
 
 abbrev first_test : Header → Header → Bool
-first_test a b = signatures_eq (signatures_of (map signature_view (counter_signatures_held a))) (signatures_of (map signature_view (counter_signatures_held b)))
+first_test a b = signatures_eq (signatures_of (map signature_view (counter_signature_list a))) (signatures_of (map signature_view (counter_signature_list b)))
 
 abbrev second_test : Header → Header → Bool
-second_test a b = signatures_eq (signatures_of (map countersignature_view (countersignatures_held a)))
-    (signatures_of (map countersignature_view (countersignatures_held b)))
+second_test a b = signatures_eq (signatures_of (map countersignature_view (countersignature_v2_list a)))
+    (signatures_of (map countersignature_view (countersignature_v2_list b)))
 
 pub header::same_header-returns-then-same_signatures : goal.header::same_header-returns-then-same_signatures
 header::same_header-returns-then-same_signatures t c =

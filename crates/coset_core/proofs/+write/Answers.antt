@@ -36,11 +36,11 @@ header::writing::write_countersignatures-returns-clause-ok t c =
     c.in_ok-write_parameter.ensures.written c.in_ok-write_counter_signatures_head.ensures.one c.in_ok-write_counter_signatures_head.ensures.array
     c.in_ok-write_each_countersignature.ensures.ok
 
-pub header::writing::write_header-returns-in_err-ask_distinct-clause-written : goal.header::writing::write_header-returns-in_err-ask_distinct-clause-written
-header::writing::write_header-returns-in_err-ask_distinct-clause-written t c =
+pub header::writing::write_header-returns-in_err-check_distinct-clause-written : goal.header::writing::write_header-returns-in_err-check_distinct-clause-written
+header::writing::write_header-returns-in_err-check_distinct-clause-written t c =
     let x = header_level (out-Header c.args.header.now) in
-    unencoded c.from_residual.result c.in_err-ask_distinct.field-0.0 _ (header_image (header_view c.args.header.now)) _ _ c.from_residual.ensures.1
-    (λ e. ap header_image (header-opened c.args.header.now) ∙ unwritten-rest x e) (rw c.deref.ensures.value at c.in_err-ask_distinct.ensures.refused)
+    unencoded c.from_residual.result c.in_err-check_distinct.field-0.0 _ (header_image (header_view c.args.header.now)) _ _ c.from_residual.ensures.1
+    (λ e. ap header_image (header-opened c.args.header.now) ∙ unwritten-rest x e) (rw c.deref.ensures.value at c.in_err-check_distinct.ensures.refused)
 
 pub header::writing::write_header-returns-in_err-write_counter_signatures-clause-written :
     goal.header::writing::write_header-returns-in_err-write_counter_signatures-clause-written
@@ -69,7 +69,7 @@ header::writing::write_header-returns-clause-written t c =
     (optional-view (λ b. b.items) bstr.image x.countersignature0_v2) c.in_ok-write_optional.ensures.ok in
     subst (λ h. Encodes (header_image h) c.args.out.now.items c.write_rest.new.out.items c.write_rest.result) (sym opened)
     (map-put (fields_in h) (counter_signatures_in h) (countersignatures_in h) x.rest.items _ _ _ _ _ _ _ c.write_rest.result refl
-    (rw c.deref.ensures.value at c.in_ok-ask_distinct.ensures.ok)
+    (rw c.deref.ensures.value at c.in_ok-check_distinct.ensures.ok)
     (subst (λ h. count_pairs h < 2 ^ 64) opened c.in_ok-write_head.ensures.fits)
     (subst (λ h. c.write_head.new.out.items ≡ c.args.out.now.items ++ least_head 5 (count_pairs h)) opened c.in_ok-write_head.ensures.ok)
     c.in_ok-write_fields.ensures.ok

@@ -8,10 +8,10 @@ ghost use Rattle.coset_iana.specs.HeaderParameter as parameters;
 ghost use Rattle.coset_codec.specs.declared.error.CoseError.TheVariants as errors;
 ghost use Rattle.coset_label.specs.Views.{algorithm_view};
 ghost use Rattle.coset_label.specs.Labels.{algorithm};
-ghost use Rattle.coset_label.specs.Names.{number, text_label, assigned};
+ghost use Rattle.coset_label.specs.LabelData.{number, text_label, assigned};
 ghost use Rattle.coset_core.specs.Views.{countersignature_view, critical_view, header_view, signature_view};
 ghost use Rattle.coset_core.specs.Headers.{empty_header};
-ghost use Rattle.coset_core.specs.Built.{with_algorithm, and_critical, with_content_type, with_key_id, with_iv, with_partial_iv, with_countersignature0_v2, and_counter_signature, and_countersignature_v2, and_pair, IsOtherLabel};
+ghost use Rattle.coset_core.specs.Built.{with_algorithm, push_critical, with_content_type, with_key_id, with_iv, with_partial_iv, with_countersignature0_v2, push_counter_signature, push_countersignature_v2, push_pair, IsOtherLabel};
 
 use crate::countersignature::CoseCountersignature;
 use crate::header::Header;
@@ -80,7 +80,7 @@ impl HeaderBuilder {
     /// `OutOfMemory` if an allocation fails.
     pub fn add_critical(self, parameter: HeaderParameter) -> Result<HeaderBuilder>
         ensures ok { IfOk result (λ b. header_view b
-            ≡ and_critical (assigned (parameters.number parameter)) (header_view self)) }
+            ≡ push_critical (assigned (parameters.number parameter)) (header_view self)) }
         ensures memory { IfErr result (λ e. e ≡ errors.OutOfMemory) }
     {
         self.add_critical_label(RegisteredLabelWithPrivate::Assigned(parameter))
@@ -96,7 +96,7 @@ impl HeaderBuilder {
         label: RegisteredLabelWithPrivate<HeaderParameter>,
     ) -> Result<HeaderBuilder>
         ensures ok { IfOk result (λ b. header_view b
-            ≡ and_critical (critical_view label) (header_view self)) }
+            ≡ push_critical (critical_view label) (header_view self)) }
         ensures memory { IfErr result (λ e. e ≡ errors.OutOfMemory) }
     {
         self.0.crit.push(label)?;
@@ -200,7 +200,7 @@ impl HeaderBuilder {
     /// `OutOfMemory` if an allocation fails.
     pub fn add_counter_signature(mut self, signature: CoseSignature) -> Result<HeaderBuilder>
         ensures ok { IfOk result (λ b. header_view b
-            ≡ and_counter_signature (signature_view signature) (header_view self)) }
+            ≡ push_counter_signature (signature_view signature) (header_view self)) }
         ensures memory { IfErr result (λ e. e ≡ errors.OutOfMemory) }
     {
         self.0.counter_signatures.push(signature)?;
@@ -216,7 +216,7 @@ impl HeaderBuilder {
         signature: CoseCountersignature,
     ) -> Result<HeaderBuilder>
         ensures ok { IfOk result (λ b. header_view b
-            ≡ and_countersignature_v2 (countersignature_view signature) (header_view self)) }
+            ≡ push_countersignature_v2 (countersignature_view signature) (header_view self)) }
         ensures memory { IfErr result (λ e. e ≡ errors.OutOfMemory) }
     {
         self.0.countersignatures_v2.push(signature)?;
@@ -255,7 +255,7 @@ impl HeaderBuilder {
     pub fn value(mut self, label: i64, value: Value) -> Result<HeaderBuilder>
         requires { IsOtherLabel label }
         ensures ok { IfOk result (λ b. header_view b
-            ≡ and_pair (number label) (value_item value) (header_view self)) }
+            ≡ push_pair (number label) (value_item value) (header_view self)) }
         ensures memory { IfErr result (λ e. e ≡ errors.OutOfMemory) }
     {
         prove!(label < 1 || (7 < label && !(label == 11 || label == 12)));
@@ -271,7 +271,7 @@ impl HeaderBuilder {
     /// `OutOfMemory` if an allocation fails.
     pub fn text_value(mut self, label: String, value: Value) -> Result<HeaderBuilder>
         ensures ok { IfOk result (λ b. header_view b
-            ≡ and_pair (text_label (string_bytes label)) (value_item value) (header_view self)) }
+            ≡ push_pair (text_label (string_bytes label)) (value_item value) (header_view self)) }
         ensures memory { IfErr result (λ e. e ≡ errors.OutOfMemory) }
     {
         self.0.rest.push((Label::Text(label), value))?;
@@ -284,7 +284,7 @@ impl HeaderBuilder {
     /// `OutOfMemory` if an allocation fails.
     pub fn text_value_from(self, alloc: Global, label: &str, value: Value) -> Result<HeaderBuilder>
         ensures ok { IfOk result (λ b. header_view b
-            ≡ and_pair (text_label label.now) (value_item value) (header_view self)) }
+            ≡ push_pair (text_label label.now) (value_item value) (header_view self)) }
         ensures memory { IfErr result (λ e. e ≡ errors.OutOfMemory) }
     {
         self.text_value(String::from_str(alloc, label)?, value)

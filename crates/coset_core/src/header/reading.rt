@@ -11,18 +11,18 @@ ghost use Rattle.coset_codec.specs.declared.error.CoseError.TheVariants as error
 ghost use Rattle.coset_codec.specs.declared.error.CoseError.TheVariants.{DuplicateMapKey};
 ghost use Rattle.coset_codec.specs.InPlace.{Fills};
 ghost use Rattle.coset_codec.specs.Errors.{IsUnexpected, UnlessMemory, stored, made_in_place};
-ghost use Rattle.coset_codec.specs.Inputs.{State, state, GoesBehind, ReadsAt, length_left, input_size, pairs_size, pairs_turns, PairsWithin, items_size, ItemAt, EntersMap};
+ghost use Rattle.coset_codec.specs.Inputs.{State, state, MovesForward, ReadsAt, length_left, input_size, pairs_size, pairs_turns, PairsWithin, items_size, ItemAt, EntersMap};
 ghost use Rattle.coset_codec.specs.Maps.{Adds, Refuses, RefusesValue, TakesValue, is_nonempty, optional, unless_empty};
 ghost use Rattle.coset_codec.specs.Shape.{any, nonempty_bstr, any_number, one_or_many};
 ghost use Rattle.coset_codec.specs.declared.read.decoder.MapEntries.{MapEntries};
-ghost use Rattle.coset_label.specs.Labels.{names};
-ghost use Rattle.coset_label.specs.Names.{same_name};
-ghost use Rattle.coset_label.specs.Names.{number};
+ghost use Rattle.coset_label.specs.Labels.{cose_labels};
+ghost use Rattle.coset_label.specs.LabelData.{same_label};
+ghost use Rattle.coset_label.specs.LabelData.{number};
 ghost use Rattle.coset_label.specs.Views.{label_view};
-ghost use Rattle.coset_core.specs.FieldViews.{fields_view, signatures_held};
+ghost use Rattle.coset_core.specs.FieldViews.{fields_view, signature_lists};
 ghost use Rattle.coset_core.specs.Views.{header_view, signature_view};
-ghost use Rattle.coset_core.specs.Fields.{FieldsView, Versions, fields, parts_of, HasOneIv, excludes};
-ghost use Rattle.coset_core.specs.Filling.{FillsFields, FillsSome, GoesTo, Keeps, NamesNoVersion, WalksTo, held_of, label_of};
+ghost use Rattle.coset_core.specs.Fields.{FieldsView, PerVersion, fields, parts_of, HasOneIv, excludes};
+ghost use Rattle.coset_core.specs.Filling.{FillsFields, FillsSome, GoesTo, Keeps, NamesNoVersion, WalksTo, signatures_of_version, label_of};
 ghost use Rattle.coset_core.specs.Headers.{empty_header, layered_header, layered_signature};
 ghost use Rattle.coset_core.specs.OneOrMore.{EntersOnes};
 
@@ -30,9 +30,9 @@ use crate::content_type::set_content_type;
 use crate::countersignature::countersignatures_of;
 use crate::critical::set_critical;
 use crate::header::Header;
-use crate::header::writing::ask_distinct;
+use crate::header::writing::check_distinct;
 use crate::one_or_more::enter_one_or_more;
-use crate::signature::{CoseSignature, drop_nested, fill_bare, fill_listed};
+use crate::signature::{CoseSignature, drop_nested, fill_signature_list, fill_single_signature};
 use coset_codec::error::{ErrorStored, store_error};
 use coset_codec::read::{ArrayElements, Decoder, MapEntries, set_field, set_nonempty};
 use coset_codec::{CoseError, Result};
@@ -68,7 +68,7 @@ fn set_iv(
 
 /// A version of counter signatures, by the label of its header parameter.
 #[derive(Clone, Copy)]
-pub(crate) enum Version {
+pub(crate) enum CountersignatureVersion {
     /// Label 7 (RFC 8152, section 4.5).
     V1,
     /// Label 11.
@@ -91,7 +91,7 @@ pub(crate) enum Field {
     /// Label 6.
     PartialIv,
     /// Label 7 or 11.
-    Signatures(Version),
+    Signatures(CountersignatureVersion),
     /// Label 12.
     Countersignature0V2,
     /// Any other label.
@@ -112,17 +112,17 @@ fn field_of(label: &Label) -> Field
         4 => Field::KeyId,
         5 => Field::Iv,
         6 => Field::PartialIv,
-        7 => Field::Signatures(Version::V1),
-        11 => Field::Signatures(Version::V2),
+        7 => Field::Signatures(CountersignatureVersion::V1),
+        11 => Field::Signatures(CountersignatureVersion::V2),
         12 => Field::Countersignature0V2,
         _ => Field::Rest,
     }
 }
 
 /// Returns the version of the counter signatures with this label, or `None` for any other label.
-fn version_of(label: &Label) -> Option<Version>
+fn version_of(label: &Label) -> Option<CountersignatureVersion>
     ensures { MatchOption result (NamesNoVersion (label_view label.now))
-        (λ version. same_name (label_of version) (label_view label.now) ≡ true) }
+        (λ version. same_label (label_of version) (label_view label.now) ≡ true) }
 {
     match field_of(label) {
         Field::Signatures(version) => Some(version),
@@ -149,18 +149,18 @@ fn set_parameter(
     requires other { NamesNoVersion (label_view label) }
     requires one_iv { HasOneIv (fields_view header.old) }
     ensures shrinks { length_left (state input.new) ≤ length_left (state input.old) }
-    ensures takes { (o : Versions (Option Item)) → ReadsAt (state input.old) (state input.new)
+    ensures takes { (o : PerVersion (Option Item)) → ReadsAt (state input.old) (state input.new)
         (λ v. OnOk result
-        (Adds names (fields (optional any) (optional any)) (label_view label) v
+        (Adds cose_labels (fields (optional any) (optional any)) (label_view label) v
         (parts_of (fields_view header.old, o)) (parts_of (fields_view header.new, o)))) }
-    ensures refused { (o : Versions (Option Item)) → ReadsAt (state input.old) (state input.new)
-        (λ v. IfErr result (λ e. UnlessMemory e (λ f. Refuses names
+    ensures refused { (o : PerVersion (Option Item)) → ReadsAt (state input.old) (state input.new)
+        (λ v. IfErr result (λ e. UnlessMemory e (λ f. Refuses cose_labels
         (fields (optional any) (optional any)) (label_view label) v
         (parts_of (fields_view header.old, o)) f
         ⊎ excludes (label_view label) (parts_of (fields_view header.old, o)) f))) }
     ensures kept { OnErr result (fields_view header.new ≡ fields_view header.old) }
     ensures one_iv { HasOneIv (fields_view header.new) }
-    ensures others { signatures_held header.new ≡ signatures_held header.old }
+    ensures others { signature_lists header.new ≡ signature_lists header.old }
 {
     match field_of(&label) {
         Field::Alg => set_field(alloc, &mut header.alg, input),
@@ -192,17 +192,17 @@ fn fill_until_signatures(
     alloc: Global,
     pairs: &mut MapEntries,
     input: &mut Decoder<'_>,
-) -> Result<Option<Version>>
+) -> Result<Option<CountersignatureVersion>>
     requires one_iv { HasOneIv (fields_view header.old) }
     ensures one_iv { HasOneIv (fields_view header.new) }
-    ensures others { signatures_held header.new ≡ signatures_held header.old }
+    ensures others { signature_lists header.new ≡ signature_lists header.old }
     ensures shrinks { length_left (state input.new) ≤ length_left (state input.old) }
     ensures size { pairs_size pairs.new (state input.new) ≤ pairs_size pairs.old (state input.old) }
     ensures value { IfOk result (λ o. IsSome o → input_size (state input.new) ≤ pairs_size pairs.old
         (state input.old)) }
     ensures turns { IfOk result (λ o. IsSome o → pairs_turns pairs.new (state input.new) <
         pairs_turns pairs.old (state input.old)) }
-    ensures fills { (all ps : Pairs) (o : Versions (Option Item)) (z : State)
+    ensures fills { (all ps : Pairs) (o : PerVersion (Option Item)) (z : State)
         → WalksTo all (fields_view header.old) o ps → PairsWithin pairs.old ps (state input.old) z
         → FillsSome all o z (fields_view header.new) (state input.new) pairs.new result }
 {
@@ -218,13 +218,13 @@ fn fill_until_signatures(
 /// Returns `error`, which comes from the check for repeated labels. If the input is at a value of
 /// counter signatures, skips it.
 #[cold]
-fn refuse(
-    filled: Result<Option<Version>>,
+fn skip_value_with_error(
+    filled: Result<Option<CountersignatureVersion>>,
     input: &mut Decoder<'_>,
     error: CoseError,
-) -> Result<Option<Version>>
+) -> Result<Option<CountersignatureVersion>>
     ensures shrinks { length_left (state input.new) ≤ length_left (state input.old) }
-    ensures passes { (all : Pairs) (o : Versions (Option Item)) (f : FieldsView) (z : State)
+    ensures passes { (all : Pairs) (o : PerVersion (Option Item)) (f : FieldsView) (z : State)
         (m : MapEntries) → FillsSome all o z f (state input.old) m filled
         → (left : Pairs) × PairsWithin m left (state input.new) z }
     ensures refused { IsErrAnd result (λ e. e ≡ error) }
@@ -251,25 +251,25 @@ fn fill_fields(
     pairs: &mut MapEntries,
     input: &mut Decoder<'_>,
     error: &mut CoseError,
-) -> Result<Option<Version>, ErrorStored>
+) -> Result<Option<CountersignatureVersion>, ErrorStored>
     requires one_iv { HasOneIv (fields_view header.old) }
     ensures one_iv { HasOneIv (fields_view header.new) }
-    ensures others { signatures_held header.new ≡ signatures_held header.old }
+    ensures others { signature_lists header.new ≡ signature_lists header.old }
     ensures shrinks { length_left (state input.new) ≤ length_left (state input.old) }
     ensures size { pairs_size pairs.new (state input.new) ≤ pairs_size pairs.old (state input.old) }
     ensures value { IfOk result (λ o. IsSome o → input_size (state input.new) ≤ pairs_size pairs.old
         (state input.old)) }
     ensures turns { IfOk result (λ o. IsSome o → pairs_turns pairs.new (state input.new) <
         pairs_turns pairs.old (state input.old)) }
-    ensures fills { (all ps : Pairs) (o : Versions (Option Item)) (z : State)
+    ensures fills { (all ps : Pairs) (o : PerVersion (Option Item)) (z : State)
         → WalksTo all (fields_view header.old) o ps → PairsWithin pairs.old ps (state input.old) z
         → FillsFields all o z (fields_view header.new) (state input.new) pairs.new
         (stored error.new result) }
 {
     let filled = fill_until_signatures(header, alloc, pairs, input);
-    let distinct = match ask_distinct(alloc, &header.rest) {
+    let distinct = match check_distinct(alloc, &header.rest) {
         Ok(()) => filled,
-        Err(repeated) => refuse(filled, input, repeated),
+        Err(repeated) => skip_value_with_error(filled, input, repeated),
     };
     store_error(distinct, error)
 }
@@ -285,7 +285,7 @@ fn begin_pairs(
     error: &mut CoseError,
 ) -> Result<(), ErrorStored>
     ensures shrinks { length_left (state input.new) ≤ length_left (state input.old) }
-    ensures strictly { OnOk result (GoesBehind (state input.old) (state input.new)) }
+    ensures strictly { OnOk result (MovesForward (state input.old) (state input.new)) }
     ensures deeper { OnOk result (pairs_size pairs.new (state input.new)
         < input_size (state input.old)) }
     ensures enters { (v : Item) (z : State) → ItemAt v (state input.old) z
@@ -310,7 +310,7 @@ pub(crate) fn fill_header(
 ) -> Result<(), ErrorStored>
     requires empty { header_view header.old ≡ empty_header }
     ensures shrinks { length_left (state input.new) ≤ length_left (state input.old) }
-    ensures strictly { OnOk result (GoesBehind (state input.old) (state input.new)) }
+    ensures strictly { OnOk result (MovesForward (state input.old) (state input.new)) }
     ensures fills { (v : Item) (z : State) → ItemAt v (state input.old) z → (state input.new ≡ z)
         × Fills (layered_header layers) v (header_view header.new)
         (stored error.new result) }
@@ -344,8 +344,8 @@ fn fill_pairs(
         (stored error.new result) }
 {
     while let Some(version) = fill_fields(header, alloc, pairs, input, error)? {
-        if holds(header, version) {
-            return refuse_second(input, error);
+        if has_signatures_of(header, version) {
+            return reject_second_value(input, error);
         }
         let mut read = Vec::new(alloc);
         if let Err(refused) = fill_counter_signatures(&mut read, alloc, input, layers, error) {
@@ -360,12 +360,12 @@ fn fill_pairs(
 }
 
 /// Returns true if the header has counter signatures of this version.
-fn holds(header: &Header, version: Version) -> bool
-    ensures { result ≡ is_nonempty (held_of version header.now) }
+fn has_signatures_of(header: &Header, version: CountersignatureVersion) -> bool
+    ensures { result ≡ is_nonempty (signatures_of_version version header.now) }
 {
     match version {
-        Version::V1 => !header.counter_signatures.is_empty(),
-        Version::V2 => !header.countersignatures_v2.is_empty(),
+        CountersignatureVersion::V1 => !header.counter_signatures.is_empty(),
+        CountersignatureVersion::V2 => !header.countersignatures_v2.is_empty(),
     }
 }
 
@@ -376,7 +376,7 @@ fn holds(header: &Header, version: Version) -> bool
 #[inline(never)]
 fn keep_signatures(
     header: &mut Header,
-    version: Version,
+    version: CountersignatureVersion,
     alloc: Global,
     read: Vec<CoseSignature>,
     error: &mut CoseError,
@@ -387,8 +387,8 @@ fn keep_signatures(
     ensures kept { OnOk result (error.new ≡ error.old) }
 {
     match version {
-        Version::V1 => header.counter_signatures = read,
-        Version::V2 => {
+        CountersignatureVersion::V1 => header.counter_signatures = read,
+        CountersignatureVersion::V2 => {
             let all = store_error(countersignatures_of(alloc, read), error)?;
             header.countersignatures_v2 = all;
         }
@@ -399,7 +399,7 @@ fn keep_signatures(
 /// Stores the error for a second value of label 7 or 11, and skips that value.
 #[cold]
 #[inline(never)]
-fn refuse_second(input: &mut Decoder<'_>, error: &mut CoseError) -> Result<(), ErrorStored>
+fn reject_second_value(input: &mut Decoder<'_>, error: &mut CoseError) -> Result<(), ErrorStored>
     ensures shrinks { length_left (state input.new) ≤ length_left (state input.old) }
     ensures passes { (v : Item) (z : State) → ItemAt v (state input.old) z → (state input.new ≡ z)
         × (stored error.new result ≡ Err DuplicateMapKey) }
@@ -455,9 +455,9 @@ fn fill_counter_signatures(
     let mut elements = ArrayElements::none();
     let one = begin_one_or_more(&mut elements, input, error)?;
     let filled = if one {
-        fill_bare(all, alloc, &mut elements, input, layers, error)
+        fill_single_signature(all, alloc, &mut elements, input, layers, error)
     } else {
-        fill_listed(all, alloc, &mut elements, input, layers, error)
+        fill_signature_list(all, alloc, &mut elements, input, layers, error)
     };
     elements.finish(input);
     filled

@@ -10,7 +10,7 @@ ghost use Rattle.coset_codec.specs.Maps.{are_distinct, unless_empty};
 ghost use Rattle.coset_codec.specs.Shape.{some_of};
 ghost use Rattle.coset_codec.specs.Encoding.{HasNoImage, AppendsField, AppendsItem, Encodes};
 ghost use Rattle.coset_label.specs.Views.{entry_view};
-ghost use Rattle.coset_label.specs.Names.{same_name};
+ghost use Rattle.coset_label.specs.LabelData.{same_label};
 ghost use Rattle.coset_core.specs.FieldViews.{fields_view};
 ghost use Rattle.coset_core.specs.Views.{countersignature_view, critical_view, header_view, signature_view};
 ghost use Rattle.coset_core.specs.Fields.{critical};
@@ -109,10 +109,10 @@ fn write_fields(alloc: Global, header: &Header, out: &mut Vec<u8>) -> Result<()>
 }
 
 /// Checks that no label of the rest occurs twice.
-pub(crate) fn ask_distinct(alloc: Global, rest: &[(Label, Value)]) -> Result<()>
-    ensures ok { OnOk result (are_distinct same_name (keys_of (map entry_view rest.now)) ≡ true) }
+pub(crate) fn check_distinct(alloc: Global, rest: &[(Label, Value)]) -> Result<()>
+    ensures ok { OnOk result (are_distinct same_label (keys_of (map entry_view rest.now)) ≡ true) }
     ensures refused { IfErr result (λ e. UnlessMemory e (λ f. (f ≡ DuplicateMapKey)
-        × (are_distinct same_name (keys_of (map entry_view rest.now)) ≡ false))) }
+        × (are_distinct same_label (keys_of (map entry_view rest.now)) ≡ false))) }
 {
     if has_repeats(alloc, rest)? {
         return Err(CoseError::DuplicateMapKey);
@@ -148,7 +148,7 @@ pub(crate) fn write_header(alloc: Global, header: &Header, out: &mut Vec<u8>) ->
         result }
     ensures kept { Extends out.old.items out.new.items }
 {
-    ask_distinct(alloc, &header.rest)?;
+    check_distinct(alloc, &header.rest)?;
     write_head(header, out)?;
     write_fields(alloc, header, out)?;
     write_counter_signatures(alloc, &header.counter_signatures, out)?;

@@ -2,8 +2,8 @@ use mir.Syntax.{w32, w64}
 use mir.Val.{of_z, to_z}
 use Rattle.std.proofs.Common.{◌≡◌, ◌∙◌, rules, subst}
 use Rattle.std.proofs.lemmas.Int.{to_z-of_z}
-use Rattle.coset.specs.Names.{number}
-use Rattle.ffi_query.specs.Answers.{Answers}
+use Rattle.coset.specs.LabelData.{number}
+use Rattle.ffi_query.specs.Results.{Answers}
 use Rattle.ffi_query.specs.Labels.{IsValueOf}
 use Rattle.ffi_c.specs.Replies.{Replies, reply_status}
 use Rattle.ffi_c.proofs.Replying.{replied}

@@ -2,8 +2,8 @@ use mir.Syntax.{w32, w64}
 use mir.Val.{of_z, to_z}
 use Rattle.std.proofs.Common.{◌≡◌, ◌∙◌, rules, subst}
 use Rattle.std.proofs.lemmas.Int.{to_z-of_z}
-use Rattle.coset.specs.Names.{number}
-use Rattle.ffi_query.specs.Answers.{AnswersOr}
+use Rattle.coset.specs.LabelData.{number}
+use Rattle.ffi_query.specs.Results.{ReturnsOr}
 use Rattle.ffi_query.specs.Labels.{HasNoString, IsStringOf}
 use Rattle.ffi_c.specs.Replies.{Replies, reply_status}
 use Rattle.ffi_c.proofs.Replying.{replied}
@@ -15,12 +15,12 @@ returns-in-Some c =
     let m = c.in-Some.map in
     let answers =
     subst
-    (λ n. AnswersOr k c.args.input.now (IsStringOf k m (number n)) (HasNoString k m (number n)) c.args.out.now c.string_of.new.out c.string_of.result)
+    (λ n. ReturnsOr k c.args.input.now (IsStringOf k m (number n)) (HasNoString k m (number n)) c.args.out.now c.string_of.new.out c.string_of.result)
     (to_z-of_z w64 c.args.label c.ranges.label) c.string_of.ensures in
     let status : to_z w32 (of_z w32 c.reply.result) ≡ reply_status c.string_of.result = search rules in
     replied
     (λ q. Replies
-    (AnswersOr q.0 c.args.input.now (IsStringOf q.0 q.1 (number c.args.label)) (HasNoString q.0 q.1 (number c.args.label)) c.args.out.now
+    (ReturnsOr q.0 c.args.input.now (IsStringOf q.0 q.1 (number c.args.label)) (HasNoString q.0 q.1 (number c.args.label)) c.args.out.now
     c.string_of.new.out)
     (to_z w32 (of_z w32 c.reply.result)) c.reply.new.place)
     _ _ (k, m) (c.in-Some.ensures ∙ c.map_query.ensures) (c.string_of.result, answers, status, c.reply.ensures.number)

@@ -33,7 +33,7 @@ pub items_until-returns-in-Some : goal.items_until-returns-in-Some
 items_until-returns-in-Some g t c =
     let h = until_stops (item_at c.args.depth) (item_steps c.args.depth) (left_of (until_at (item_at c.args.depth) (length c.args.bytes.now) c.args.bytes.now))
     (c.args.steps.now + until_steps (item_at c.args.depth) (item_steps c.args.depth)
-    (length c.args.bytes.now) c.args.bytes.now) c.loop.steps c.past_break.new.steps
+    (length c.args.bytes.now) c.args.bytes.now) c.loop.steps c.skip_break.new.steps
     (length c.args.bytes.now) c.loop.counter c.loop.rest.now c.loop-test.true c.in-Some.ensures.0 c.in-Some.ensures.2 c.loop.invariant in
     record { left = h.0 ∙ ap rest_is (sym c.in-Some.ensures.1); steps = h.1 }
 
@@ -94,7 +94,7 @@ pairs_until-returns-in-Some g t c =
     let h = until_stops (pair_at (item_at c.args.depth)) (pair_steps (item_at c.args.depth) (item_steps c.args.depth))
     (left_of (until_at (pair_at (item_at c.args.depth)) (length c.args.bytes.now) c.args.bytes.now))
     (c.args.steps.now + until_steps (pair_at (item_at c.args.depth)) (pair_steps (item_at c.args.depth) (item_steps c.args.depth))
-    (length c.args.bytes.now) c.args.bytes.now) c.loop.steps c.past_break.new.steps
+    (length c.args.bytes.now) c.args.bytes.now) c.loop.steps c.skip_break.new.steps
     (length c.args.bytes.now) c.loop.counter c.loop.rest.now c.loop-test.true c.in-Some.ensures.0 c.in-Some.ensures.2 c.loop.invariant in
     record { left = h.0 ∙ ap rest_is (sym c.in-Some.ensures.1); steps = h.1 }
 

@@ -10,7 +10,7 @@ returns-in-Some g c =
     let h = until_stops (chunk_at c.args.is_text) (chunk_steps c.args.is_text)
     (left_of (until_at (chunk_at c.args.is_text) (length c.args.bytes.now) c.args.bytes.now))
     (c.args.steps.now + until_steps (chunk_at c.args.is_text) (chunk_steps c.args.is_text)
-    (length c.args.bytes.now) c.args.bytes.now) c.loop.steps c.past_break.new.steps
+    (length c.args.bytes.now) c.args.bytes.now) c.loop.steps c.skip_break.new.steps
     (length c.args.bytes.now) c.loop.counter c.loop.rest.now c.loop-test.true c.in-Some.ensures.0 c.in-Some.ensures.2 c.loop.invariant in
     record { left = h.0 ∙ ap rest_is (sym c.in-Some.ensures.1); steps = h.1 }
 

@@ -22,7 +22,7 @@ returns-in-Ok g c =
       found = (is.item, item_steps 256 s, is.is_item, is.cost, steps);
       refused = tt;
       memory = tt;
-      stands = tt;
+      fault = tt;
       bound = omega arith;
     }
 
@@ -37,6 +37,6 @@ returns-in-Err g c =
       found = tt;
       refused = λ v b rest parts is. no_front s c.in-Err.fault failed v b rest parts is;
       memory = c.error_of.ensures.other;
-      stands = c.error_of.ensures.stands s refl (fault_is_there s c.in-Err.fault (λ i. omega (arith, c.type_inv.bytes i)) failed);
+      fault = c.error_of.ensures.fault s refl (fault_is_there s c.in-Err.fault (λ i. omega (arith, c.type_inv.bytes i)) failed);
       bound = omega arith;
     }

@@ -17,7 +17,7 @@ returns-in-Err-Fault c =
     record {
       strictly = tt;
       refused = λ _ v b rest parts is. no_front c.args.bytes.now c.in-Err-Fault.fault failed v b rest parts is;
-      fault = c.error_of.ensures.stands c.args.bytes.now refl
+      fault = c.error_of.ensures.fault c.args.bytes.now refl
           (fault_is_there c.args.bytes.now c.in-Err-Fault.fault (λ i. omega (arith, c.type_inv.bytes i)) failed);
       reads = λ v a is. absurd (no_fault_there v c.args.bytes.now a c.in-Err-Fault.fault is failed);
     }

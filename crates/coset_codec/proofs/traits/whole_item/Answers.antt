@@ -9,7 +9,7 @@ returns-in_err-pull-clause-whole c =
     let s = c.args.s.now in
     let e = c.in_err-pull.field-0.0 in
     on_err pull_item s c.from_residual.result (λ f. f ≡ decode_failure e) c.from_residual.ensures.1
-    (λ f is. rw is (inl (byte_fault s e c.in_err-pull.ensures.memory c.in_err-pull.ensures.stands), no_whole s c.in_err-pull.ensures.refused))
+    (λ f is. rw is (inl (byte_fault s e c.in_err-pull.ensures.memory c.in_err-pull.ensures.fault), no_whole s c.in_err-pull.ensures.refused))
 
 pub returns-then-not-is_empty-clause-whole : goal.returns-then-not-is_empty-clause-whole
 returns-then-not-is_empty-clause-whole c =

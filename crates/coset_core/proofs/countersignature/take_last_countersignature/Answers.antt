@@ -1,5 +1,5 @@
 use Rattle.std.proofs.Common.{◌≡◌, ◌+◌, [], ap, arith}
-use Rattle.coset_core.specs.Held.{header_count}
+use Rattle.coset_core.specs.SignatureCounts.{header_count}
 use Rattle.coset_core.specs.ViewLaws.{countersignature-opened}
 use Rattle.coset_core.specs.Views.{countersignature_view, header_view, protected_view}
 use Rattle.coset_core.specs.declared.countersignature.CoseCountersignature.{out-CoseCountersignature}
@@ -13,5 +13,5 @@ returns-clause-fewer c =
     let view : within (countersignature_view s) ≡ header_count (protected_view x.protected).header + header_count (header_view x.unprotected) =
     ap within (countersignature-opened s) in
     let less = second_taken [] c.args.all.now.items c.pop.new.self.items s c.in_ok-protected.ensures.items in
-    let held = c.held_by.ensures in
+    let held = c.take_counter_signatures.ensures in
     omega (arith, view, less, held)

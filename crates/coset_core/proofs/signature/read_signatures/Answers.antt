@@ -16,7 +16,7 @@ returns-clause-reads c = λ v z stands.
             here.1,
             inr (
               λ m. m,
-              each_masked signature IsUnexpected here.0 c.fill_listed-filled.new.error c.masked_error.result told.0
+              each_masked signature IsUnexpected here.0 c.fill_signature_list-filled.new.error c.masked_error.result told.0
                   (read.1 (λ e. other (c.masked_error.ensures.memory e))),
             ),
           ),

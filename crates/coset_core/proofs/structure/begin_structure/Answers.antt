@@ -19,9 +19,9 @@ loop-part-preserved c =
 
 pub returns-clause-begins : goal.returns-clause-begins
 returns-clause-begins c =
-    let n : ℕ = length c.args.parts.now + 1 + c.args.elements in
+    let n : ℕ = length c.args.parts.now + 1 + c.args.further_elements in
     let contents = map (λ (part : Bor (List ℕ)). part.now) c.args.parts.now in
-    let count : n ≡ length contents + 1 + c.args.elements = omega (arith, length-map c.args.parts.now (λ (part : Bor (List ℕ)). part.now)) in
+    let count : n ≡ length contents + 1 + c.args.further_elements = omega (arith, length-map c.args.parts.now (λ (part : Bor (List ℕ)). part.now)) in
     let small : n < 2 ^ 64 = search rules in
     let all : first_parts c.args.parts.now c.loop-part.part-index ≡ byte_strings contents =
     ap (λ parts. byte_strings (map (λ part. part.now) parts)) (take_all c.loop-part.part-index c.args.parts.now c.loop-part-test.false) in

@@ -1,5 +1,5 @@
 use Rattle.std.proofs.Common.{[], refl}
-use Rattle.coset_recipient.specs.Structured.{structure_of}
+use Rattle.coset_recipient.specs.AnyStructure.{structure_of}
 use Rattle.coset_recipient.proofs.Contexts.{same_structured}
 use Rattle.coset_recipient.proofs.laws.one_of_all_structures.Goals as goal
 

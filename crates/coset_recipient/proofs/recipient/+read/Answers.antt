@@ -15,8 +15,8 @@ use Rattle.coset_recipient.specs.declared.recipient.CoseRecipient.{out-roll-Cose
 use Rattle.coset_recipient.proofs.Reading.{few_refused, last_refused, none_inside, not_entered, elements_filled}
 use Rattle.coset_recipient.proofs.recipient.+read.Goals as goal
 
-pub fill_listed-loop-all-preserved : goal.fill_listed-loop-all-preserved
-fill_listed-loop-all-preserved t c =
+pub fill_recipient_list-loop-all-preserved : goal.fill_recipient_list-loop-all-preserved
+fill_recipient_list-loop-all-preserved t c =
     let next = rw c.if-branch.true at c.in_ok-next_place.ensures in
     let read = c.in_ok-fill_recipient.ensures.shrinks in
     record {
@@ -38,8 +38,8 @@ fill_listed-loop-all-preserved t c =
           (search rules) next.place.1);
     }
 
-pub fill_listed-returns-in_err-fill_recipient-clause-fills : goal.fill_listed-returns-in_err-fill_recipient-clause-fills
-fill_listed-returns-in_err-fill_recipient-clause-fills t c = λ vs z within.
+pub fill_recipient_list-returns-in_err-fill_recipient-clause-fills : goal.fill_recipient_list-returns-in_err-fill_recipient-clause-fills
+fill_recipient_list-returns-in_err-fill_recipient-clause-fills t c = λ vs z within.
     let next = rw c.if-branch.true at c.in_ok-next_place.ensures in
     let p = c.loop-all.invariant.fills vs z within in
     one_refused_more recipient vs (state c.loop-all.input) (state c.next_place.new.input)
@@ -48,8 +48,8 @@ fill_listed-returns-in_err-fill_recipient-clause-fills t c = λ vs z within.
     c.from_residual-in_err-fill_recipient.ensures.1 p (next.next p.others z p.within)
     c.in_err-fill_recipient.ensures.fills
 
-pub fill_listed-returns-clause-fills : goal.fill_listed-returns-clause-fills
-fill_listed-returns-clause-fills t c = λ vs z within.
+pub fill_recipient_list-returns-clause-fills : goal.fill_recipient_list-returns-clause-fills
+fill_recipient_list-returns-clause-fills t c = λ vs z within.
     let next = rw c.if-branch.false at c.in_ok-next_place.ensures in
     let p = c.loop-all.invariant.fills vs z within in
     let none = next.next p.others z p.within in (
@@ -69,33 +69,33 @@ fill_elements-returns-in_err-first-clause-fills t c = λ vs z within.
     c.in_err-first.field-0.0
     c.from_residual.ensures.1 begins
 
-pub fill_elements-fill_fourth-requires : goal.fill_elements-fill_fourth-requires
-fill_elements-fill_fourth-requires t c =
+pub fill_elements-fill_fourth_element-requires : goal.fill_elements-fill_fourth_element-requires
+fill_elements-fill_fourth_element-requires t c =
     let size = c.begin_elements.ensures.size in (
       omega (arith, size, c.decreases),
       ap (λ g. map recipient_view g.recipients.items) (out-roll-CoseRecipient _)
           ∙ none_inside c.args.recipient.now c.requires.empty,
     )
 
-pub fill_elements-returns-in_err-fill_fourth-clause-fills : goal.fill_elements-returns-in_err-fill_fourth-clause-fills
-fill_elements-returns-in_err-fill_fourth-clause-fills t c = λ vs z within.
+pub fill_elements-returns-in_err-fill_fourth_element-clause-fills : goal.fill_elements-returns-in_err-fill_fourth_element-clause-fills
+fill_elements-returns-in_err-fill_fourth_element-clause-fills t c = λ vs z within.
     let p = protected_view c.begin_elements.new.protected in
     let u = header_view c.begin_elements.new.unprotected in
     let o = option_map (λ b. b.items) c.begin_elements.new.ciphertext in
     let begins = subst (BeginsThree vs p u o (state c.begin_elements.new.input) z c.begin_elements.new.elements)
     (sym c.store_error.ensures.answers ∙ ap (stored c.store_error.new.error) c.in_ok-first.was) (c.begin_elements.ensures.begins vs z within) in
     last_refused vs p u o (state c.begin_elements.new.input)
-    (state c.fill_fourth.new.input) z c.begin_elements.new.elements c.fill_fourth.new.elements c.in_ok-first.first _
-    (map recipient_view c.fill_fourth.new.all.items) c.from_residual-in_err-fill_fourth.result
-    c.fill_fourth.new.error c.in_err-fill_fourth.field-0.0 c.from_residual-in_err-fill_fourth.ensures.1 begins
-    (λ others inside. c.in_err-fill_fourth.ensures.fills others z inside)
+    (state c.fill_fourth_element.new.input) z c.begin_elements.new.elements c.fill_fourth_element.new.elements c.in_ok-first.first _
+    (map recipient_view c.fill_fourth_element.new.all.items) c.from_residual-in_err-fill_fourth_element.result
+    c.fill_fourth_element.new.error c.in_err-fill_fourth_element.field-0.0 c.from_residual-in_err-fill_fourth_element.ensures.1 begins
+    (λ others inside. c.in_err-fill_fourth_element.ensures.fills others z inside)
 
 pub fill_elements-returns-clause-fills : goal.fill_elements-returns-clause-fills
 fill_elements-returns-clause-fills t c = λ vs z within.
     let p = protected_view c.begin_elements.new.protected in
     let u = header_view c.begin_elements.new.unprotected in
     let o = option_map (λ b. b.items) c.begin_elements.new.ciphertext in
-    let rs = map recipient_view c.fill_fourth.new.all.items in
+    let rs = map recipient_view c.fill_fourth_element.new.all.items in
     let first = c.in_ok-first.first in
     let x : RecipientView = record { protected = p; unprotected = u; ciphertext = o; recipients = recipients_of rs } in
     let begins = subst (BeginsThree vs p u o (state c.begin_elements.new.input) z c.begin_elements.new.elements)
@@ -108,8 +108,8 @@ fill_elements-returns-clause-fills t c = λ vs z within.
       recipients = recipients_of rs;
     }) (out-roll-CoseRecipient _) in
     let read = elements_filled vs (state c.begin_elements.new.input)
-    (state c.fill_fourth.new.input) z c.begin_elements.new.elements c.fill_fourth.new.elements x rs first begins
-    (λ others inside. c.in_ok-fill_fourth.ensures.fills others z inside) refl in (
+    (state c.fill_fourth_element.new.input) z c.begin_elements.new.elements c.fill_fourth_element.new.elements x rs first begins
+    (λ others inside. c.in_ok-fill_fourth_element.ensures.fills others z inside) refl in (
       read.0,
       subst (λ y. Fills recipient (array vs) y (stored c.store_error-2.new.error c.store_error-2.result)) (sym view)
           (subst (Fills recipient (array vs) x) (sym c.store_error-2.ensures.answers) read.1),

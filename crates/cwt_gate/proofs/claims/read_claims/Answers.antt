@@ -1,4 +1,4 @@
-use Rattle.coset.specs.Answers.{RefusesSlice}
+use Rattle.coset.specs.Results.{RefusesSlice}
 use Rattle.cwt_gate.specs.Policy.{claims_by}
 use Rattle.cwt_gate.proofs.Judging.{passed_on}
 use Rattle.cwt_gate.proofs.LettingIn.{refused_alone, refused_known}

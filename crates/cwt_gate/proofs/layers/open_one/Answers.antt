@@ -1,6 +1,6 @@
 use Rattle.std.proofs.Common.{◌∙◌, false, sym, true}
 use Rattle.coset.specs.Views.{header_view}
-use Rattle.cwt_gate.specs.Door.{IsAdmitted, OpensOne}
+use Rattle.cwt_gate.specs.JudgeWith.{IsAdmitted, OpensOne}
 use Rattle.cwt_gate.specs.Layers.{layer_view}
 use Rattle.cwt_gate.specs.Policy.{policy_view}
 use Rattle.cwt_gate.proofs.Judging.{passed_on}

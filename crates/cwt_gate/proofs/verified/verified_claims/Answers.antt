@@ -1,8 +1,8 @@
 use Rattle.std.proofs.Common.{ap, option_map, subst}
 use Rattle.coset.specs.Claims.{claims, claims_view}
-use Rattle.coset.specs.Answers.{Describes}
+use Rattle.coset.specs.Results.{Describes}
 use Rattle.coset.specs.Sign1.{sign1_view}
-use Rattle.coset.specs.Answers.{IsRefused}
+use Rattle.coset.specs.Results.{IsRefused}
 use Rattle.cwt_gate.proofs.Judging.{not_verified, says_yes}
 use Rattle.cwt_gate.proofs.verified.verified_claims.Goals as goal
 

@@ -2,7 +2,7 @@ use mir.Syntax.{w64}
 use mir.Val.{of_z, to_z}
 use Rattle.std.proofs.lemmas.Int.{to_z-of_z}
 use Rattle.std.proofs.Common.{ap, subst}
-use Rattle.cwt_gate.specs.Door.{JudgesWith}
+use Rattle.cwt_gate.specs.JudgeWith.{JudgesWith}
 use Rattle.cwt_gate.specs.Policy.{PolicyView}
 use Rattle.example_uses.specs.Attestation.{attestation_policy}
 use Rattle.example_uses.proofs.attestation.judge_attestation.Goals as goal

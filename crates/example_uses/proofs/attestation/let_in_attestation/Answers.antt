@@ -1,7 +1,7 @@
 use mir.Syntax.{w64}
 use Rattle.std.proofs.lemmas.Int.{to_z-of_z}
 use Rattle.std.proofs.Common.{◌∙◌, Ok, Err, subst, sym, true≢false}
-use Rattle.cwt_gate.specs.Door.{JudgesWith}
+use Rattle.cwt_gate.specs.JudgeWith.{JudgesWith}
 use Rattle.example_uses.specs.Attestation.{attestation_policy}
 use Rattle.example_uses.proofs.Attested.{refused}
 use Rattle.example_uses.proofs.attestation.let_in_attestation.Goals as goal

@@ -1,6 +1,6 @@
 use Rattle.std.proofs.Common.{◌≡◌, ◌∙◌, ap}
 use Rattle.coset_iana.specs.Algorithm as algorithms
-use Rattle.coset_label.specs.Names.{assigned}
+use Rattle.coset_label.specs.LabelData.{assigned}
 use Rattle.coset_core.specs.Built.{with_algorithm, with_key_id}
 use Rattle.coset_core.specs.Headers.{empty_header}
 use Rattle.coset_core.specs.Messages.{unread}

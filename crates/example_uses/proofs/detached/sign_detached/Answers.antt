@@ -1,6 +1,6 @@
 use Rattle.std.proofs.Common.{◌≡◌, ◌∙◌, None, ap, ap₂, subst}
 use Rattle.coset_iana.specs.Algorithm as algorithms
-use Rattle.coset_label.specs.Names.{assigned}
+use Rattle.coset_label.specs.LabelData.{assigned}
 use Rattle.coset_codec.specs.ReadAgain.{IsWritten}
 use Rattle.coset_core.specs.Built.{with_algorithm}
 use Rattle.coset_core.specs.Headers.{HeaderView, empty_header}

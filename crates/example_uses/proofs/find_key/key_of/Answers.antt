@@ -1,5 +1,5 @@
 use Rattle.coset_key.specs.Keys.{key_set}
-use Rattle.coset_codec.specs.Answers.{IsRefused}
+use Rattle.coset_codec.specs.Results.{IsRefused}
 use Rattle.example_uses.proofs.Refusing.{passed}
 use Rattle.example_uses.proofs.find_key.key_of.Goals as goal
 

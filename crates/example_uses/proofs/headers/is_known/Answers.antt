@@ -1,6 +1,6 @@
 use Rattle.std.proofs.Common.{◌∙◌, sym}
 use Rattle.std.specs.Ordering.{is_eq}
-use Rattle.coset_label.specs.Names.{registered_cmp}
+use Rattle.coset_label.specs.LabelData.{registered_cmp}
 use Rattle.coset_core.specs.Views.{critical_view}
 use Rattle.example_uses.proofs.Opened.{any-map}
 use Rattle.example_uses.proofs.headers.is_known.Goals as goal

@@ -1,10 +1,10 @@
 use Rattle.std.proofs.Common.{◌≡◌, ◌∙◌, Some, None, ap, inl, inr, of_calls, refl, rules, subst}
-use Rattle.coset_codec.specs.Answers.{Describes, IsRefused}
+use Rattle.coset_codec.specs.Results.{Describes, IsRefused}
 use Rattle.coset_codec.specs.ReadAgain.{IsWritten}
 use Rattle.coset_core.specs.Messages.{unread}
 use Rattle.coset_core.specs.Views.{header_view}
 use Rattle.coset_core.specs.Calls.{IsStructure}
-use Rattle.coset_sign.specs.Sign1.{Sign1View, sign1, sign1_carried, sign1_view, with_signature}
+use Rattle.coset_sign.specs.Sign1.{Sign1View, sign1, sign1_attached, sign1_view, with_signature}
 use Rattle.example_uses.specs.Refusals.{IsNotSent, unsigned}
 use Rattle.example_uses.proofs.Asked.{made, not_signed}
 use Rattle.example_uses.proofs.Issued.{unsigned_unwritten}
@@ -80,5 +80,5 @@ returns-clause-sent g c =
             (λ b. Describes sign1 b (sign1_view c.in_ok-from_slice.field-0)) c.deref.ensures.value c.in_ok-from_slice.ensures.read,
       );
       carried = refl;
-      signed = (signature.2.0, subst (λ m. IsStructure (sign1_carried m c.args.external_aad.now) signature.2.0) is signature.2.1, signature.2.2);
+      signed = (signature.2.0, subst (λ m. IsStructure (sign1_attached m c.args.external_aad.now) signature.2.0) is signature.2.1, signature.2.2);
     }

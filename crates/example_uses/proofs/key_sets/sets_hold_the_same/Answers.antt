@@ -1,5 +1,5 @@
 use Rattle.std.proofs.Common.{◌≡◌, ◌⊎◌, map, inl, inr, subst}
-use Rattle.coset_codec.specs.Answers.{DescribesNothing}
+use Rattle.coset_codec.specs.Results.{DescribesNothing}
 use Rattle.coset_codec.specs.Errors.{UnlessMemory}
 use Rattle.coset_codec.specs.Lists.{EachWith}
 use Rattle.coset_codec.specs.declared.error.CoseError.{CoseError}
@@ -31,7 +31,7 @@ returns-clause-same c = λ ks ls read_one read_other.
     let held_of_other = subst (λ x. EachWith (IsHeldOf Lexicographic) x (map (λ b. b.items) c.in_ok-other.other.items)) of_other other.each in
     let keys_of_one = λ (k : KeyView). c.keys_of_a_set.ensures c.args.one.now ks k read_one in
     let keys_of_other = λ (k : KeyView). c.keys_of_a_set.ensures c.args.other.now ls k read_other in
-    let law = c.canonical_keys_apart.ensures Lexicographic in
+    let law = c.canonical_keys_injective.ensures Lexicographic in
     let apart = each_apart Lexicographic law ks ls _ _ keys_of_one keys_of_other held_of_one held_of_other in
     let same = are_same c.in_ok-one.one.items c.in_ok-other.other.items c.eq.result c.eq.ensures in
     (λ h. apart.0 (same.0 h), λ a. same.1 (apart.1 a))

@@ -1,6 +1,6 @@
 use Rattle.std.proofs.Common.{◌≡◌, ◌∙◌, length, map, subst, arith}
 use Rattle.std.specs.Vec.Iter.{into_iter_items}
-use Rattle.coset_codec.specs.Answers.{DescribesNothing, SliceFaults}
+use Rattle.coset_codec.specs.Results.{DescribesNothing, SliceFaults}
 use Rattle.coset_codec.specs.Errors.{UnlessMemory}
 use Rattle.coset_codec.specs.Lists.{EachWith}
 use Rattle.coset_codec.specs.declared.error.CoseError.{CoseError}

@@ -2,7 +2,7 @@ use mir.Syntax.{w64}
 use mir.Val.{of_z, to_z}
 use Rattle.std.proofs.lemmas.Int.{to_z-of_z}
 use Rattle.std.proofs.Common.{ap, subst}
-use Rattle.cwt_gate.specs.Door.{JudgesWith}
+use Rattle.cwt_gate.specs.JudgeWith.{JudgesWith}
 use Rattle.cwt_gate.specs.Policy.{PolicyView}
 use Rattle.example_uses.specs.LetIn.{policy_of}
 use Rattle.example_uses.proofs.LetIn.{known}

@@ -1,7 +1,7 @@
 use Rattle.std.proofs.Common.{◌≡◌, ◌∙◌, ℕ, List, Bool, false, not, Option, None, ap, inl, inr, is_some, map, option_map, refl, subst, sym}
 use Rattle.std.specs.Borrow.{Bor}
 use Rattle.coset_recipient.specs.Encrypt.{encrypt_view}
-use Rattle.coset_core.specs.Calls.{AsksAbout}
+use Rattle.coset_core.specs.Calls.{CallsWith}
 use Rattle.coset_recipient.specs.RecipientViews.{recipient-unrolled, recipient_view}
 use Rattle.coset_recipient.specs.declared.recipient.CoseRecipient.{CoseRecipient, out-CoseRecipient}
 use Rattle.example_uses.specs.Recipients.{recipient_by, wrap_structure}
@@ -35,13 +35,13 @@ returns-then-is_none g c =
 carried : (r : CoseRecipient) (b : Bool) → is_some (out-CoseRecipient r).ciphertext ≡ not b → b ≡ false → (recipient_view r).ciphertext ≡ None → ⊥
 carried r b e some none = there (out-CoseRecipient r).ciphertext b e some (sym (ap (λ x. x.ciphertext) (recipient-unrolled r)) ∙ none)
 
-pub decrypt-requires-clause-carried : goal.decrypt-requires-clause-carried
-decrypt-requires-clause-carried g c = carried c.in-Some.recipient.now c.is_none.result c.is_none.ensures c.if-is_none.false
+pub decrypt-requires-clause-attached : goal.decrypt-requires-clause-attached
+decrypt-requires-clause-attached g c = carried c.in-Some.recipient.now c.is_none.result c.is_none.ensures c.if-is_none.false
 
 pub returns : goal.returns
 returns g c =
     let r = recipient_view c.in-Some.recipient.now in
     let found = sought c.args.key_id.now _ _ _ c.deref.ensures.value c.find_recipient.ensures ∙ ap (option_map (λ r. recipient_view r.now)) c.in-Some.is in
-    let asked = when_some (λ w. AsksAbout g.F.FnOnce c.args.unwrap w (wrap_structure r) c.decrypt.result) r.ciphertext
+    let asked = when_some (λ w. CallsWith g.F.FnOnce c.args.unwrap w (wrap_structure r) c.decrypt.result) r.ciphertext
     (carried c.in-Some.recipient.now c.is_none.result c.is_none.ensures c.if-is_none.false) c.decrypt.ensures in
     key_given g.F.FnOnce c.args.unwrap c.args.absent c.args.key_id.now (encrypt_view c.args.message.now) r asked.0 c.decrypt.result found asked.1 asked.2

@@ -1,6 +1,6 @@
 use Rattle.std.proofs.Common.{◌≡◌, ◌∙◌, ap, subst}
 use Rattle.coset_iana.specs.Algorithm as algorithms
-use Rattle.coset_label.specs.Names.{assigned}
+use Rattle.coset_label.specs.LabelData.{assigned}
 use Rattle.coset_codec.specs.Encoding.{HasNoImage}
 use Rattle.coset_codec.specs.ReadAgain.{IsWritten}
 use Rattle.coset_core.specs.Built.{with_algorithm, with_iv}

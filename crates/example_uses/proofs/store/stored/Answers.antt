@@ -1,6 +1,6 @@
 use Rattle.coset_key.specs.Keys.{key, key_view}
 use Rattle.coset_codec.specs.ShapeLaws.{some-none}
-use Rattle.coset_codec.specs.Answers.{IsRefused}
+use Rattle.coset_codec.specs.Results.{IsRefused}
 use Rattle.example_uses.proofs.Refusing.{passed, written}
 use Rattle.example_uses.proofs.store.stored.Goals as goal
 

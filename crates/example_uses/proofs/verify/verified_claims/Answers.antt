@@ -1,7 +1,7 @@
 use Rattle.std.proofs.Common.{ap, inr, option_map, subst, sym}
 use Rattle.coset_sign.specs.Sign1.{sign1_view}
 use Rattle.coset_claims.specs.Claims.{claims}
-use Rattle.coset_codec.specs.Answers.{IsRefused}
+use Rattle.coset_codec.specs.Results.{IsRefused}
 use Rattle.example_uses.specs.Refusals.{AreNotVerified, HoldsNoClaims}
 use Rattle.example_uses.proofs.Refusing.{no_payload, none_verified, passed}
 use Rattle.example_uses.proofs.verify.verified_claims.Goals as goal

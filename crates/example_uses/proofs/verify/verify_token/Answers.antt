@@ -11,7 +11,7 @@ use Rattle.example_uses.proofs.verify.verify_token.Goals as goal
 pub returns-in_err-message-clause-genuine : goal.returns-in_err-message-clause-genuine
 returns-in_err-message-clause-genuine g c = λ payload b sent spelt.
     passed_on _ _ c.from_residual.ensures.1 (λ k. c.in_err-message.ensures.refused k sent.read.0
-    (c.spellings_agree.ensures.plain b c.args.token.now spelt.0 sent.read.0 spelt.1 spelt.2 sent.read.1))
+    (c.encodings_agree.ensures.plain b c.args.token.now spelt.0 sent.read.0 spelt.1 spelt.2 sent.read.1))
 
 pub returns-in_err-message-clause-refused : goal.returns-in_err-message-clause-refused
 returns-in_err-message-clause-refused g c =
@@ -22,7 +22,7 @@ pub returns-in_err-verify_signature-clause-genuine : goal.returns-in_err-verify_
 returns-in_err-verify_signature-clause-genuine g c = λ payload b sent spelt.
     let accepts = g.K.VerifyingKey.accepts c.args.key.now in
     let n = sign1_view c.in_ok-message.message in
-    let same = carries_same c.one_item.ensures c.shortest_is_encoding.ensures c.signed_as_written.ensures.plain c.carried_as_written.ensures.plain b
+    let same = carries_same c.one_item.ensures c.shortest_is_encoding.ensures c.signed_as_written.ensures.plain c.attached_as_written.ensures.plain b
     c.args.token.now sent.message n sent.written spelt c.in_ok-message.ensures.read in
     passed (λ e. e ≡ Coset OutOfMemory) _ _ c.from_residual-in_err-verify_signature.ensures.1
     (memory_alone _ accepts c.shortest_is_in_range.ensures c.least_heads_are_shortest.ensures sent n same _ c.in_err-verify_signature.ensures
@@ -47,5 +47,5 @@ returns-clause-verified g c =
 
 pub returns-clause-same : goal.returns-clause-same
 returns-clause-same g c = λ b m w s.
-    carries_same c.one_item.ensures c.shortest_is_encoding.ensures c.signed_as_written.ensures.plain c.carried_as_written.ensures.plain b c.args.token.now m
+    carries_same c.one_item.ensures c.shortest_is_encoding.ensures c.signed_as_written.ensures.plain c.attached_as_written.ensures.plain b c.args.token.now m
     (sign1_view c.in_ok-message.message) w s c.in_ok-message.ensures.read

@@ -2,7 +2,7 @@ use mir.Syntax.{w32, w64}
 use mir.Val.{of_z, to_z}
 use Rattle.std.proofs.Common.{◌≡◌, ◌∙◌, Some, rules, subst}
 use Rattle.std.proofs.lemmas.Int.{to_z-of_z}
-use Rattle.ffi_query.specs.Answers.{AnswersOr}
+use Rattle.ffi_query.specs.Results.{ReturnsOr}
 use Rattle.ffi_query.specs.Countersigns.{HasNoCountersigned, IsCountersigned}
 use Rattle.ffi_c.specs.Numbers.{bytes_if, countersign_query}
 use Rattle.ffi_c.specs.Replies.{Replies, reply_status}
@@ -22,12 +22,12 @@ returns-in-Some c =
     (c.in-Some.ensures ∙ (c.within.ensures ∙ (c.within-query.ensures ∙ c.countersign_query.ensures))) in
     let answers =
     subst
-    (λ y. AnswersOr k b (IsCountersigned k x q aad y) (HasNoCountersigned k x q aad y) c.args.out.now c.countersign_structure_of.new.out
+    (λ y. ReturnsOr k b (IsCountersigned k x q aad y) (HasNoCountersigned k x q aad y) c.args.out.now c.countersign_structure_of.new.out
     c.countersign_structure_of.result)
     c.bytes_if-detached.ensures c.countersign_structure_of.ensures in
     let status : to_z w32 (of_z w32 c.reply.result) ≡ reply_status c.countersign_structure_of.result = search rules in
     replied
     (λ p. Replies
-    (AnswersOr p.0 b (IsCountersigned p.0 p.1 q aad d) (HasNoCountersigned p.0 p.1 q aad d) c.args.out.now c.countersign_structure_of.new.out)
+    (ReturnsOr p.0 b (IsCountersigned p.0 p.1 q aad d) (HasNoCountersigned p.0 p.1 q aad d) c.args.out.now c.countersign_structure_of.new.out)
     (to_z w32 (of_z w32 c.reply.result)) c.reply.new.place)
     _ _ (k, x) asked (c.countersign_structure_of.result, answers, status, c.reply.ensures.number)

@@ -2,7 +2,7 @@ use mir.Syntax.{w32, w64}
 use mir.Val.{of_z, to_z}
 use Rattle.std.proofs.Common.{◌≡◌, ◌∙◌, rules, subst}
 use Rattle.std.proofs.lemmas.Int.{to_z-of_z}
-use Rattle.coset.specs.Names.{number}
+use Rattle.coset.specs.LabelData.{number}
 use Rattle.ffi_make.specs.Given.{an_encoding}
 use Rattle.ffi_make.specs.PairsMade.{PutsPair}
 use Rattle.ffi_c.specs.Replies.{Replies, reply_status}

@@ -1,7 +1,7 @@
 use mir.Syntax.{w32}
 use mir.Val.{of_z, to_z}
 use Rattle.std.proofs.Common.{◌≡◌, ◌∙◌, ℕ, ℤ, List, [], rules, subst}
-use Rattle.ffi_query.specs.Answers.{AnswersWith}
+use Rattle.ffi_query.specs.Results.{ReturnsWith}
 use Rattle.ffi_query.specs.View.{HasNoView, IsMessageView}
 use Rattle.ffi_c.specs.Numbers.{bytes_if}
 use Rattle.ffi_c.specs.Replies.{reply_status}
@@ -19,12 +19,12 @@ returns-in-Some c =
     let d = bytes_if c.args.has_detached c.args.detached.now in
     let answers =
     subst
-    (λ x. AnswersWith k b (IsMessageView k i aad x ns b) (HasNoView k i aad x ns) c.args.out.now c.message_view-answer.new.out
+    (λ x. ReturnsWith k b (IsMessageView k i aad x ns b) (HasNoView k i aad x ns) c.args.out.now c.message_view-answer.new.out
     c.message_view-answer.result)
     c.bytes_if-detached.ensures c.message_view-answer.ensures in
     let status : to_z w32 (of_z w32 c.reply_view.result) ≡ reply_status c.message_view-answer.result = search rules in
     let asked = c.in-Some.ensures ∙ (c.within-query.ensures ∙ c.sign1_query.ensures) in
     replied
-    (λ j. RepliesView (AnswersWith j b (IsMessageView j i aad d ns b) (HasNoView j i aad d ns) c.args.out.now c.message_view-answer.new.out)
+    (λ j. RepliesView (ReturnsWith j b (IsMessageView j i aad d ns b) (HasNoView j i aad d ns) c.args.out.now c.message_view-answer.new.out)
     (to_z w32 (of_z w32 c.reply_view.result)) c.reply_view.new.len c.reply_view.new.view)
     _ _ k asked (c.message_view-answer.result, answers, status, c.reply_view.ensures.number, c.reply_view.ensures.view)

@@ -1,6 +1,6 @@
 use Rattle.std.proofs.Common.{◌≡◌, None, Some, option_map, subst, sym}
 use Rattle.coset.specs.View.{value_item}
-use Rattle.ffi_query.specs.Answers.{IsEncodingOf}
+use Rattle.ffi_query.specs.Results.{IsEncodingOf}
 use Rattle.ffi_make.specs.Makes.{IsMade, IsMisfit}
 use Rattle.ffi_make.proofs.Making.{refused}
 use Rattle.ffi_make.proofs.made.encoded.Goals as goal

@@ -1,7 +1,7 @@
 use Rattle.std.proofs.Common.{◌∙◌, ap, length, refl, subst, sym}
-use Rattle.coset.specs.Answers.{IsByteFault}
+use Rattle.coset.specs.Results.{IsByteFault}
 use Rattle.coset.specs.Pulls.{pull_bytes, pull_item}
-use Rattle.coset_cbor.specs.Fronts.{HasNoItem}
+use Rattle.coset_cbor.specs.Prefixes.{HasNoItem}
 use Rattle.coset_codec.proofs.Whole.{byte_fault}
 use Rattle.ffi_query.proofs.Placing.{item_there}
 use Rattle.ffi_query.proofs.elements.item_span.Goals as goal
@@ -19,7 +19,7 @@ returns-in-Ok c =
 pub returns-in-Err : goal.returns-in-Err
 returns-in-Err c =
     let s = c.after.result.now in
-    let fault = byte_fault s c.in-Err.error c.in-Err.ensures.memory c.in-Err.ensures.stands in (
+    let fault = byte_fault s c.in-Err.error c.in-Err.ensures.memory c.in-Err.ensures.fault in (
       subst (λ x. IsByteFault x c.from.result) c.after.ensures (subst (IsByteFault s) (sym c.from.ensures) fault),
       subst HasNoItem c.after.ensures c.in-Err.ensures.refused,
     )

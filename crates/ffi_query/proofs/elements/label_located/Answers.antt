@@ -2,9 +2,9 @@ use mir.Syntax.{w64}
 use Rattle.std.proofs.Common.{◌≡◌, ◌∙◌, subst, sym}
 use Rattle.std.proofs.lemmas.Int.{to_z-of_z}
 use Rattle.std.specs.Prelude.{IfSome, MatchResult}
-use Rattle.coset.specs.Names.{number}
+use Rattle.coset.specs.LabelData.{number}
 use Rattle.ffi_query.specs.declared.refusal.Refusal.TheVariants.{WrongType}
-use Rattle.ffi_query.specs.Answers.{Finds}
+use Rattle.ffi_query.specs.Results.{Finds}
 use Rattle.ffi_query.specs.Elements.{IsProtectedInChunks}
 use Rattle.ffi_query.specs.Labels.{IsProtected}
 use Rattle.ffi_query.specs.Located.{IsLocated, located_item}

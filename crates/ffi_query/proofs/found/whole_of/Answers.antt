@@ -1,4 +1,4 @@
-use Rattle.coset.specs.Answers.{IsOnlyItem}
+use Rattle.coset.specs.Results.{IsOnlyItem}
 use Rattle.coset.specs.Pulls.{pull_item}
 use Rattle.ffi_query.specs.Kinds.{IsRefused}
 use Rattle.ffi_query.proofs.EachKind.{not_whole, refuses}

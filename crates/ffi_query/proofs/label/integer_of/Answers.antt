@@ -1,7 +1,7 @@
 use Rattle.std.proofs.Common.{subst}
 use Rattle.coset.specs.Pulls.{pull_item}
 use Rattle.coset.specs.View.{value_item}
-use Rattle.ffi_query.specs.Answers.{Finds}
+use Rattle.ffi_query.specs.Results.{Finds}
 use Rattle.ffi_query.specs.Labels.{IsUnder, label_view}
 use Rattle.ffi_query.proofs.EachKind.{memory_refuses}
 use Rattle.ffi_query.proofs.label.integer_of.Goals as goal

@@ -2,7 +2,7 @@ use mir.Syntax.{w64}
 use mir.Val.{of_z, to_z}
 use Rattle.std.proofs.Common.{◌≡◌, ◌∙◌, ap, drop, length, refl, rules, subst, sym}
 use Rattle.coset.specs.Elements.{pairs_bytes, pairs_left}
-use Rattle.coset.specs.Names.{number}
+use Rattle.coset.specs.LabelData.{number}
 use Rattle.ffi_query.specs.Labels.{first_value, is_label}
 use Rattle.ffi_query.specs.Located.{AreLocated}
 use Rattle.ffi_query.proofs.Locating.{located_pair}

@@ -1,6 +1,6 @@
 use Rattle.std.proofs.Common.{◌≡◌, ℕ, List}
 use Rattle.coset.specs.Elements.{pairs_bytes, pairs_left}
-use Rattle.coset.specs.Names.{number}
+use Rattle.coset.specs.LabelData.{number}
 use Rattle.ffi_query.specs.Labels.{first_value, is_label}
 use Rattle.ffi_query.specs.Located.{AreLocated}
 use Rattle.ffi_query.proofs.located.value_among.Given as goal

@@ -19,5 +19,5 @@ returns-in-Ok-Some c =
 pub returns-in-Ok-None : goal.returns-in-Ok-None
 returns-in-Ok-None c = c.view_of.ensures c.args.bytes.now c.in-Ok.ensures
 
-pub returns-in-Err-find_lent : goal.returns-in-Err-find_lent
-returns-in-Err-find_lent c = (memory_refuses c.args.kind c.args.bytes.now c.in-Err-find_lent.error c.in-Err-find_lent.ensures.memory, refl)
+pub returns-in-Err-find_borrowed : goal.returns-in-Err-find_borrowed
+returns-in-Err-find_borrowed c = (memory_refuses c.args.kind c.args.bytes.now c.in-Err-find_borrowed.error c.in-Err-find_borrowed.ensures.memory, refl)

@@ -2,7 +2,7 @@ use Rattle.std.proofs.Common.{◌≡◌, ℕ, List, Option}
 use Rattle.std.specs.Option.{option_or}
 use Rattle.std.specs.Prelude.{IfSome, option_map}
 use Rattle.coset.specs.Elements.{pairs_bytes, pairs_left}
-use Rattle.coset.specs.Names.{Name}
+use Rattle.coset.specs.LabelData.{LabelView}
 use Rattle.ffi_query.specs.declared.located.Located.{Located}
 use Rattle.ffi_query.specs.Critical.{crit_label}
 use Rattle.ffi_query.specs.Labels.{first_value, is_label}
@@ -12,7 +12,7 @@ use Rattle.ffi_query.proofs.named.named_among.Given as goal
 
 abbrev pub invariant-loop-key : goal.invariant-loop-key
 invariant-loop-key l =
-    let so_far = λ (o : Option Located) (n : Name). first_value (is_label n) (pairs_left l.initial.key-iterator)
+    let so_far = λ (o : Option Located) (n : LabelView). first_value (is_label n) (pairs_left l.initial.key-iterator)
     ≡ option_or (option_map located_item o) (first_value (is_label n) (pairs_left l.key-iterator)) in record {
       algorithm : so_far l.algorithm alg_label;
       critical : so_far l.critical crit_label;

@@ -1,4 +1,4 @@
-use Rattle.ffi_query.specs.Answers.{Finds, IsEncodingOf}
+use Rattle.ffi_query.specs.Results.{Finds, IsEncodingOf}
 use Rattle.ffi_query.specs.Structures.{structure_of_one}
 use Rattle.std.proofs.Common.{IfOk, subst}
 use Rattle.ffi_query.proofs.structure.encryption_structure.Goals as goal

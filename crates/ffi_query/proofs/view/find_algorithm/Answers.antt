@@ -2,7 +2,7 @@ use Rattle.coset.specs.Pulls.{pull_item}
 use Rattle.coset.specs.View.{value_item}
 use Rattle.std.proofs.Common.{subst}
 use Rattle.ffi_query.specs.declared.label.Map.TheVariants as of
-use Rattle.ffi_query.specs.Answers.{Finds}
+use Rattle.ffi_query.specs.Results.{Finds}
 use Rattle.ffi_query.specs.Labels.{IsUnder}
 use Rattle.ffi_query.specs.View.{alg_label}
 use Rattle.ffi_query.proofs.Viewed.{algorithm_found}

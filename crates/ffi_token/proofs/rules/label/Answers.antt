@@ -1,7 +1,7 @@
 use mir.Syntax.{w64}
 use mir.Val.{of_z, to_z}
 use Rattle.std.proofs.Common.{◌≡◌, Some, ap, sym, ◌∙◌, rules}
-use Rattle.coset.specs.Names.{assigned}
+use Rattle.coset.specs.LabelData.{assigned}
 use Rattle.ffi_token.specs.Rules.{named_as}
 use Rattle.ffi_token.proofs.rules.label.Goals as goal
 

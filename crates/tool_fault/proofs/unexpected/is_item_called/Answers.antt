@@ -1,5 +1,5 @@
 use Rattle.std.proofs.Common.{ℕ, List, inl, inr, subst, sym}
-use Rattle.coset.specs.Answers.{DescribesNothing}
+use Rattle.coset.specs.Results.{DescribesNothing}
 use Rattle.coset.specs.Headers.{signature}
 use Rattle.coset.specs.Keys.{key}
 use Rattle.coset.specs.Pulls.{pull_bytes, pull_item}
@@ -9,12 +9,12 @@ use Rattle.tool_fault.proofs.unexpected.is_item_called.Goals as goal
 
 pub returns-in-text : goal.returns-in-text
 returns-in-text c =
-    where_ok c.holds_no_bytes.result c.holds_no_bytes.ensures (λ e.
+    where_ok c.has_no_bytes.result c.has_no_bytes.ensures (λ e.
     subst (λ (g : List ℕ). IsCalled g (pull_bytes c.args.item) (pull_item c.args.item)) (sym c.in-text.is) (no_bytes _ _ e))
 
 pub returns-in-text-2 : goal.returns-in-text-2
 returns-in-text-2 c =
-    where_ok c.holds_no_text.result c.holds_no_text.ensures (λ e.
+    where_ok c.has_no_text.result c.has_no_text.ensures (λ e.
     subst (λ (g : List ℕ). IsCalled g (pull_bytes c.args.item) (pull_item c.args.item)) (sym c.in-text-2.is) (no_text _ _ e))
 
 pub returns-in-text-3 : goal.returns-in-text-3
@@ -27,7 +27,7 @@ returns-in-text-3 c = λ holds.
 
 pub returns-in-text-4 : goal.returns-in-text-4
 returns-in-text-4 c =
-    where_ok c.holds_no_media_type.result c.holds_no_media_type.ensures (λ e.
+    where_ok c.has_no_media_type.result c.has_no_media_type.ensures (λ e.
     elim c.in-text-4.is [
       | inl is ↦ subst (λ (g : List ℕ). IsCalled g (pull_bytes c.args.item) (pull_item c.args.item)) (sym is) (spaced _ _ e)
       | inr is ↦ subst (λ (g : List ℕ). IsCalled g (pull_bytes c.args.item) (pull_item c.args.item)) (sym is) (arbitrary _ _ e)

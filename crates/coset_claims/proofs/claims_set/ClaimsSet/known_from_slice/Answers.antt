@@ -4,9 +4,9 @@ use Rattle.coset_cbor.specs.Elements.{pairs_left}
 use Rattle.coset_cbor.specs.Pulls.{pull_item}
 use Rattle.coset_codec.specs.RestLaws.{repeats-view}
 use Rattle.coset_label.specs.Views.{label_view, entry_view}
-use Rattle.coset_label.specs.Names.{same_name}
+use Rattle.coset_label.specs.LabelData.{same_label}
 use Rattle.coset_claims.specs.Claims.{claims, claims_view}
-use Rattle.coset_codec.specs.Answers.{IsRefused}
+use Rattle.coset_codec.specs.Results.{IsRefused}
 use Rattle.coset_claims.specs.Known.{known}
 use Rattle.coset_claims.proofs.ClaimSplitting.{all_known, no_claims, no_labels, repeated, told, told_not, value_item-Map}
 use Rattle.coset_codec.proofs.Lists.{on_err}
@@ -26,7 +26,7 @@ returns-in_err-has_repeats-clause-refused c =
 pub returns-then-branch-clause-refused : goal.returns-then-branch-clause-refused
 returns-then-branch-clause-refused c =
     let parts = c.in_ok-parts.parts in
-    let repeats = repeats-view label_view value_item _ same_name (λ x y. refl) c.in_ok-has_repeats.field-0 parts.others.items
+    let repeats = repeats-view label_view value_item _ same_label (λ x y. refl) c.in_ok-has_repeats.field-0 parts.others.items
     (rw c.deref.ensures.value at c.in_ok-has_repeats.ensures.answer) in
     repeated c.args.bytes.now (pull_item c.in_ok-set.set) c.in_ok-set.ensures.whole (pairs_left c.in-Some.pairs) (sym c.in-Some.ensures.pairs)
     (value_pairs parts.named.items) (map entry_view parts.others.items) c.in_ok-parts.ensures
@@ -45,7 +45,7 @@ pub returns-clause-read : goal.returns-clause-read
 returns-clause-read c =
     let parts = c.in_ok-parts.parts in
     let x = claims_view c.in_ok-claims.claims in
-    let repeats = repeats-view label_view value_item _ same_name (λ x y. refl) c.in_ok-has_repeats.field-0 parts.others.items
+    let repeats = repeats-view label_view value_item _ same_label (λ x y. refl) c.in_ok-has_repeats.field-0 parts.others.items
     (rw c.deref.ensures.value at c.in_ok-has_repeats.ensures.answer) in
     all_known c.args.bytes.now (pull_item c.in_ok-set.set) c.in_ok-set.ensures.whole (pairs_left c.in-Some.pairs) (sym c.in-Some.ensures.pairs)
     (value_pairs parts.named.items) (map entry_view parts.others.items) x c.in_ok-parts.ensures

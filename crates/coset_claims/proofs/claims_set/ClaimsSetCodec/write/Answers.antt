@@ -6,7 +6,7 @@ use Rattle.coset_cbor.specs.Least.{Extends}
 use Rattle.coset_codec.specs.Shape.{bstr, tstr}
 use Rattle.coset_codec.proofs.Encoding.{passes}
 use Rattle.coset_codec.proofs.EncodingMaps.{optional-put, no-field, optional-has, map-written}
-use Rattle.coset_label.specs.Names.{assigned}
+use Rattle.coset_label.specs.LabelData.{assigned}
 use Rattle.coset_claims.specs.Claims.{claim_name, claims, name_view, names}
 use Rattle.coset_claims.specs.Timestamp.{timestamp, timestamp_view}
 use Rattle.coset_claims.proofs.ClaimWriting.{timestamp-has}

@@ -11,13 +11,15 @@ returns-clause-fills c = λ all ps o z walks within.
     let f = fields_view c.fill_until_signatures-filled.new.header in
     let m = c.fill_until_signatures-filled.new.pairs in
     let some = c.fill_until_signatures-filled.ensures.fills all ps o z walks within in
-    subst (FillsFields all o z f (state c.match-ask_distinct.input) m) (sym c.store_error.ensures.answers)
-    (elim c.match-ask_distinct.branch [
+    subst (FillsFields all o z f (state c.match-check_distinct.input) m) (sym c.store_error.ensures.answers)
+    (elim c.match-check_distinct.branch [
       | in-Ok w ↦ rw (w.input-is, w.distinct-is) (distinct all o f (state c.fill_until_signatures-filled.new.input) z m
           c.fill_until_signatures-filled.result some
           (rw c.deref.ensures.value at w.in-Ok.ensures.ok))
       | in-Err w ↦ rw (w.input-is, w.distinct-is)
           (repeats all o f (state c.fill_until_signatures-filled.new.input)
-          (state w.refuse-distinct.new.input) z m c.fill_until_signatures-filled.result w.refuse-distinct.result w.in-Err.repeated some
-          (rw c.deref.ensures.value at w.in-Err.ensures.refused) (w.refuse-distinct.ensures.passes all o f z m some, w.refuse-distinct.ensures.refused))
+          (state w.skip_value_with_error-distinct.new.input) z m c.fill_until_signatures-filled.result w.skip_value_with_error-distinct.result
+          w.in-Err.repeated some
+          (rw c.deref.ensures.value at w.in-Err.ensures.refused)
+          (w.skip_value_with_error-distinct.ensures.passes all o f z m some, w.skip_value_with_error-distinct.ensures.refused))
     ])

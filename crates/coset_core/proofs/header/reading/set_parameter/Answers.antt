@@ -3,8 +3,8 @@ use Rattle.std.proofs.lemmas.List.{map_push}
 use Rattle.coset_codec.specs.Maps.{Adds, RefusesValue, optional}
 use Rattle.coset_codec.specs.Shape.{any}
 use Rattle.coset_label.specs.Views.{label_view, entry_view}
-use Rattle.coset_label.specs.Labels.{algorithm, names}
-use Rattle.coset_label.specs.Names.{same_name}
+use Rattle.coset_label.specs.Labels.{algorithm, cose_labels}
+use Rattle.coset_label.specs.LabelData.{same_label}
 use Rattle.coset_core.specs.FieldLabels as labels
 use Rattle.coset_core.specs.Fields.{HasOneIv, fields, parts_of}
 use Rattle.coset_core.specs.FieldViews.{fields_level, fields_view}
@@ -91,7 +91,7 @@ returns-in-Crit-clause-refused c = λ o v z stands.
 pub returns-in-Iv-clause-refused : goal.returns-in-Iv-clause-refused
 returns-in-Iv-clause-refused c = λ o v z stands.
     let here = c.set_iv.ensures.refused v z stands in
-    let named = ap (same_name labels.iv) c.in-Iv.ensures in (
+    let named = ap (same_label labels.iv) c.in-Iv.ensures in (
       here.0,
       refuses_at labels.iv (label_view c.args.label) v c.set_iv.result (parts_of (fields_view c.args.header.now, o)) _ c.in-Iv.ensures here.1
           (λ e p. elim p [ inl g ↦ inl g | inr g ↦ inr (inl (named, g.0, g.1)) ]),
@@ -103,7 +103,7 @@ returns-in-Iv-clause-one_iv c = subst (λ h. HasOneIv (fields_level h)) (sym (ou
 pub returns-in-PartialIv-clause-refused : goal.returns-in-PartialIv-clause-refused
 returns-in-PartialIv-clause-refused c = λ o v z stands.
     let here = c.set_iv-in-PartialIv.ensures.refused v z stands in
-    let named = ap (same_name labels.partial_iv) c.in-PartialIv.ensures in (
+    let named = ap (same_label labels.partial_iv) c.in-PartialIv.ensures in (
       here.0,
       refuses_at labels.partial_iv (label_view c.args.label) v c.set_iv-in-PartialIv.result (parts_of
           (fields_view c.args.header.now, o)) _ c.in-PartialIv.ensures here.1
@@ -121,7 +121,8 @@ returns-in_ok-push-in-Rest-clause-takes c = λ o v z stands.
     let pushed : map entry_view c.push.new.self.items ≡ map entry_view (rest ++ (c.args.label, c.in_ok-value-in-Rest.value) ∷ []) =
     ap (map entry_view) c.in_ok-push-in-Rest.ensures.items in (
       here.0,
-      subst (λ f. Adds names (fields (optional any) (optional any)) (label_view c.args.label) v (parts_of (fields_view c.args.header.now, o)) (parts_of (f, o)))
+      subst (λ f. Adds cose_labels (fields (optional any) (optional any)) (label_view c.args.label) v (parts_of (fields_view c.args.header.now, o))
+          (parts_of (f, o)))
           (sym (ap fields_level (out-roll-Header _)))
           (adds_rest (label_view c.args.label) v (parts_of (fields_view c.args.header.now, o)) _ c.in-Rest.ensures refl
           (pushed ∙ map_push entry_view rest (c.args.label, c.in_ok-value-in-Rest.value) ∙ ap (λ v. map entry_view rest ++

@@ -3,7 +3,7 @@ use Rattle.std.specs.List.Sorted.{IsPermutation, IsStableByKey}
 use Rattle.std.proofs.lemmas.Fn.{always_returns_same}
 use Rattle.std.proofs.lemmas.List.{with_items_is}
 use Rattle.std.proofs.lemmas.List.Sorted.{ranks_by, IsPermutation-map}
-use Rattle.coset_label.specs.Orderings.{name_cmp_by}
+use Rattle.coset_label.specs.Orderings.{label_cmp_by}
 use Rattle.coset_label.specs.Sorted.{AreInOrder}
 use Rattle.coset_label.specs.Views.{label_view, entry_view}
 use Rattle.coset_key.proofs.CanonicalKeys.{total_by}
@@ -12,7 +12,7 @@ use Rattle.coset_key.proofs.key.CoseKey.canonicalize.Goals as goal
 
 pub returns-clause-canonical : goal.returns-clause-canonical
 returns-clause-canonical c =
-    let cmp = name_cmp_by c.args.ordering in
+    let cmp = label_cmp_by c.args.ordering in
     let old = c.args.self.now.params in
     let new = c.sort_by.new.self in
     let same = sym (with_items_is old new (c.sort_by.ensures.len ∙ c.as_mut_slice-params.ensures.len)) in
@@ -30,7 +30,7 @@ returns-clause-canonical c =
 
 pub returns-clause-stable : goal.returns-clause-stable
 returns-clause-stable c =
-    let cmp = name_cmp_by c.args.ordering in
+    let cmp = label_cmp_by c.args.ordering in
     let old = c.args.self.now.params in
     let new = c.sort_by.new.self in
     let stable = c.sort_by.ensures.stable (λ a b. is_lt (cmp (label_view a.0) (label_view b.0))) (ranks_by (total_by c.args.ordering) (λ e. label_view e.0))

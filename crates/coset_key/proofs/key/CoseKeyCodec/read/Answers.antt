@@ -21,5 +21,5 @@ returns-clause-forward c = record {
   strictly = search rules;
   reads = λ v z stands.
       let here = c.in_ok-read_map.ensures.read v z stands in
-      (here.0, finished v (so_far_view c.read_map.new.so_far) c.finish.result here.1 c.finish.ensures);
+      (here.0, finished v (so_far_view c.read_map.new.visitor) c.finish.result here.1 c.finish.ensures);
 }

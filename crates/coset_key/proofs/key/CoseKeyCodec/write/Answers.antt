@@ -5,9 +5,9 @@ use Rattle.coset_codec.specs.RestLaws.{as_view, repeated-view, distinct-view, no
 use Rattle.coset_codec.specs.Shape.{nonempty_bstr}
 use Rattle.coset_codec.proofs.Encoding.{passes}
 use Rattle.coset_codec.proofs.EncodingMaps.{no-field, field-put, optional-put, listed-put, optional-has, filled-there, map-written}
-use Rattle.coset_label.specs.Names.{number, same_name}
+use Rattle.coset_label.specs.LabelData.{number, same_label}
 use Rattle.coset_label.specs.Views.{label_view, algorithm_view}
-use Rattle.coset_label.specs.Labels.{algorithm, names}
+use Rattle.coset_label.specs.Labels.{algorithm, cose_labels}
 use Rattle.coset_key.specs.Keys.{key, key_type, key_ops, kty_view, operation_view}
 use Rattle.coset_key.proofs.Writing.{algorithm-has, set-there}
 use Rattle.coset_key.proofs.key.CoseKeyCodec.write.Goals as goal
@@ -18,7 +18,7 @@ returns-then-branch-clause-written c =
     let params = map (as_view label_view value_item) c.args.self.now.params.items in
     λ _. (
       refl,
-      no-entries names params _ (repeated-view label_view value_item _ same_name (λ x y. refl) c.in_ok-has_repeats.field-0 c.args.self.now.params.items
+      no-entries cose_labels params _ (repeated-view label_view value_item _ same_label (λ x y. refl) c.in_ok-has_repeats.field-0 c.args.self.now.params.items
           (rw c.deref.ensures.value at c.in_ok-has_repeats.ensures.answer) c.if-branch.true),
     )
 
@@ -32,11 +32,11 @@ pub returns-clause-written : goal.returns-clause-written
 unfolding key key_type algorithm
 returns-clause-written c =
     let k = c.args.self.now in
-    let distinct = distinct-view label_view value_item _ same_name (λ x y. refl) c.in_ok-has_repeats.field-0 k.params.items
+    let distinct = distinct-view label_view value_item _ same_label (λ x y. refl) c.in_ok-has_repeats.field-0 k.params.items
     (rw c.deref.ensures.value at c.in_ok-has_repeats.ensures.answer) c.if-branch.false in
-    let f = names.shape.image in
+    let f = cose_labels.shape.image in
     let named : (i j : ℤ) → i ≡ j → f (number j) ≡ Some (integer i) = λ i j e. ap (λ k. Some (integer k)) (sym e) in
-    map-written names label_view value_item k.params.items _ _ _ _ c.write_rest.result distinct
+    map-written cose_labels label_view value_item k.params.items _ _ _ _ c.write_rest.result distinct
     (rw (c.deref-2.ensures.value, c.is_some.ensures) at c.in_ok-write_pairs_head.ensures.fits)
     (rw (c.deref-2.ensures.value, c.is_some.ensures) at c.in_ok-write_pairs_head.ensures.ok)
     (field-put f true (key_type.image (kty_view k.kty)) (named _ _ ((search rules) ∙ c.to_i64.ensures)) c.in_ok-write_field.ensures.ok

@@ -2,4 +2,4 @@ use Rattle.coset_recipient.specs.Encrypt.{encrypt_view, encrypt_structure_of}
 use Rattle.coset_recipient.proofs.encrypt.CoseEncryptBuilder.try_create_detached_ciphertext.Goals as goal
 
 pub returns : goal.returns
-returns g c = c.verify_with.ensures (encrypt_structure_of (encrypt_view c.args.self.now) c.args.external_aad.now) (rw c.self.view_is at c.aad-structure.ensures)
+returns g c = c.call_with.ensures (encrypt_structure_of (encrypt_view c.args.self.now) c.args.external_aad.now) (rw c.self.view_is at c.aad-structure.ensures)

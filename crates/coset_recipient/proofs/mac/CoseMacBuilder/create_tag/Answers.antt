@@ -8,7 +8,7 @@ pub returns : goal.returns
 returns g c =
     let m = mac_view c.args.self in
     if_there (λ p. Creates g.F.FnOnce c.args.creator (mac_structure_of m c.args.external_aad.now p) (λ t b. mac_view b ≡ with_tag t.items m) (Ok c.tag.result))
-    (rw c.self.view_is at c.carried.ensures) (
+    (rw c.self.view_is at c.attached.ensures) (
       c.in_ok-tbm.tbm.items,
       c.creator.result,
       rw c.self.view_is at c.in_ok-tbm.ensures,

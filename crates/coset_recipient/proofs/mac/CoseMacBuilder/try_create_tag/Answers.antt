@@ -8,9 +8,9 @@ use Rattle.coset_recipient.proofs.mac.CoseMacBuilder.try_create_tag.Goals as goa
 pub returns-in_err-tag : goal.returns-in_err-tag
 returns-in_err-tag g c =
     let m = mac_view c.args.self in
-    let structure = mac_structure_of m c.args.external_aad.now c.carried.result.now in
+    let structure = mac_structure_of m c.args.external_aad.now c.attached.result.now in
     if_there (λ p. TriesToCreate g.F.FnOnce c.args.creator (mac_structure_of m c.args.external_aad.now p)
-    (λ t b. mac_view b ≡ with_tag t.items m) c.from_residual.result) (rw c.self.view_is at c.carried.ensures)
+    (λ t b. mac_view b ≡ with_tag t.items m) c.from_residual.result) (rw c.self.view_is at c.attached.ensures)
     (passed_on g.F.FnOnce c.args.creator structure (λ made given. made ≡ given)
     (λ t b. mac_view b ≡ with_tag t.items m) c.in_err-tag.field-0.0 c.from_residual.result c.from_residual.ensures.1
     (c.in_err-tag.ensures structure (rw c.self.view_is at c.tbm_detached-structure.ensures)))
@@ -18,7 +18,7 @@ returns-in_err-tag g c =
 pub returns : goal.returns
 returns g c =
     let m = mac_view c.args.self in
-    let made = c.in_ok-tag.ensures (mac_structure_of m c.args.external_aad.now c.carried.result.now) (rw c.self.view_is at c.tbm_detached-structure.ensures) in
+    let made = c.in_ok-tag.ensures (mac_structure_of m c.args.external_aad.now c.attached.result.now) (rw c.self.view_is at c.tbm_detached-structure.ensures) in
     if_there (λ p. TriesToCreate g.F.FnOnce c.args.creator (mac_structure_of m c.args.external_aad.now p) (λ t b. mac_view b ≡ with_tag t.items m)
-    (Ok c.tag.result)) (rw c.self.view_is at c.carried.ensures)
+    (Ok c.tag.result)) (rw c.self.view_is at c.attached.ensures)
     (made.0, made.1, made.2, made.3, c.tag.ensures ∙ ap (λ t. with_tag t.items m) (sym made.4))

@@ -2,7 +2,7 @@ use Rattle.std.proofs.Common.{subst, sym, ap}
 use Rattle.coset_codec.specs.ShapeLaws.{some-one}
 use Rattle.coset_core.specs.ViewLaws.{signature-opened}
 use Rattle.coset_core.specs.Views.{signature_view}
-use Rattle.coset_core.specs.Calls.{AsksAbout}
+use Rattle.coset_core.specs.Calls.{CallsWith}
 use Rattle.coset_sign.specs.Sign.{sign_view, signer_structure}
 use Rattle.coset_sign.proofs.sign.CoseSign.verify_detached_signature.Goals as goal
 
@@ -11,7 +11,7 @@ returns g c = λ s there.
     let m = sign_view c.args.self.now in
     let signature = c.signature-signature.result.now in
     let structure = signer_structure m (signature_view signature) c.args.external_aad.now c.args.payload.now in
-    let asked = rw c.deref.ensures.value at (c.verify_with.ensures structure c.tbs_detached_data-structure.ensures) in
-    subst (λ x. AsksAbout g.F.FnOnce c.args.verifier x.signature (signer_structure m x c.args.external_aad.now c.args.payload.now) c.verify_with.result)
+    let asked = rw c.deref.ensures.value at (c.call_with.ensures structure c.tbs_detached_data-structure.ensures) in
+    subst (λ x. CallsWith g.F.FnOnce c.args.verifier x.signature (signer_structure m x c.args.external_aad.now c.args.payload.now) c.call_with.result)
     (some-one c.signature-signature.ensures there)
-    (subst (λ b. AsksAbout g.F.FnOnce c.args.verifier b structure c.verify_with.result) (sym (ap (λ x. x.signature) (signature-opened signature))) asked)
+    (subst (λ b. CallsWith g.F.FnOnce c.args.verifier b structure c.call_with.result) (sym (ap (λ x. x.signature) (signature-opened signature))) asked)

@@ -1,7 +1,7 @@
 use Rattle.std.proofs.Common.{subst, ap, ◌∙◌, ◌++◌, ◌∷◌, []}
-use Rattle.coset_codec.specs.Answers.{Writes}
+use Rattle.coset_codec.specs.Results.{Writes}
 use Rattle.coset_core.specs.Views.{signature_view}
-use Rattle.coset_sign.specs.Sign.{sign_view, and_signature, signed_with}
+use Rattle.coset_sign.specs.Sign.{sign_view, push_signature, signed_with}
 use Rattle.coset_sign.proofs.Calling.{signature_pushed}
 use Rattle.coset_sign.proofs.sign.CoseSignBuilder.add_signed.Goals as goal
 
@@ -15,5 +15,5 @@ returns g c = λ o written.
       structure,
       (c.deref.result, c.signer.ensures, c.deref.ensures.value),
       signature_pushed c.self.inside.0 c.push_reserved.new.self c.signed_with-signed.result signed pushed c.signed_with-signed.ensures
-          ∙ ap (λ m. and_signature signed (sign_view m)) c.self.view_is,
+          ∙ ap (λ m. push_signature signed (sign_view m)) c.self.view_is,
     )

@@ -1,6 +1,6 @@
-use Rattle.coset_sign.specs.Sign1.{sign1_view, sign1_carried}
+use Rattle.coset_sign.specs.Sign1.{sign1_view, sign1_attached}
 use Rattle.coset_sign.proofs.sign1.CoseSign1.verify_signature.Goals as goal
 
 pub returns : goal.returns
-returns g c = rw c.deref.ensures.value at (c.verify_with.ensures (sign1_carried
+returns g c = rw c.deref.ensures.value at (c.call_with.ensures (sign1_attached
     (sign1_view c.args.self.now) c.args.external_aad.now) c.tbs_data-structure.ensures)

@@ -1,6 +1,6 @@
 use Rattle.std.proofs.Common.{◌∙◌, ap, sym, option_map}
 use Rattle.std.specs.Ordering.{is_eq}
-use Rattle.coset.specs.Names.{registered_cmp}
+use Rattle.coset.specs.LabelData.{registered_cmp}
 use Rattle.coset.specs.Fields.{FieldsView}
 use Rattle.coset.specs.LabelViews.{algorithm_view}
 use Rattle.cwt_gate.specs.Policy.{algorithms_for, is_one_of, is_there_and, policy_view}

@@ -1,4 +1,4 @@
 use Rattle.coset_codec.proofs.read.decoder.MapEntries.next_key.Goals as goal
 
-pub returns-in-Lent-clause-nexts : goal.returns-in-Lent-clause-nexts
-returns-in-Lent-clause-nexts g c = λ ps z w. c.lent_key.ensures.nexts ps z (rw c.in-Lent.is at w)
+pub returns-in-Borrowed-clause-nexts : goal.returns-in-Borrowed-clause-nexts
+returns-in-Borrowed-clause-nexts g c = λ ps z w. c.borrowed_key.ensures.nexts ps z (rw c.in-Borrowed.is at w)

@@ -1,4 +1,0 @@
-use Rattle.coset_cbor.proofs.de.front_length.Given as goal
-
-abbrev pub ghosts-counted_length : goal.ghosts-counted_length
-ghosts-counted_length a = record { name = a.blank.name; parts = a.blank.parts }

@@ -1,5 +1,0 @@
-use Rattle.coset_cbor.proofs.Stood.{end_in_front}
-use Rattle.coset_cbor.proofs.laws.only_the_end_in_a_front.Goals as goal
-
-pub returns : goal.returns
-returns c = end_in_front

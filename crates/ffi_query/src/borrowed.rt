@@ -1,0 +1,486 @@
+//! Everything that verifying or decrypting a message takes, borrowed from the input.
+//!
+//! This covers messages without a list of signatures and without `crit`, whose strings have
+//! definite lengths. All other messages are read by copies (`view`).
+
+ghost use Rattle.std.specs.Prelude.{◌≡◌, ◌<◌, ◌+◌, ◌^◌, ◌++◌, ◌∷◌, [], ℕ, ℤ, List, Some, IfOk, IfErr, IfSome, OnOk, false, length};
+ghost use Rattle.std.specs.Option.{option_copied};
+ghost use Rattle.coset.specs.CoseError.TheVariants.{OutOfMemory};
+ghost use Rattle.coset.specs.Item.{Item};
+ghost use Rattle.coset.specs.Pulls.{pull_item};
+ghost use Rattle.coset.specs.Shortest.{IsShortest};
+ghost use Rattle.coset.specs.Structure.{structure};
+ghost use Rattle.coset_cbor.specs.Least.{least_head};
+ghost use Rattle.ffi_query.specs.Results.{Finds, IsEncodingOf};
+ghost use Rattle.ffi_query.specs.Labels.{IsNumber, IsProtected, unprotected_value};
+ghost use Rattle.ffi_query.specs.Found.{IsFound};
+ghost use Rattle.ffi_query.specs.Borrowed.{AreHeaders, AreNamed, AreTexts, HasNoCritical, IsBehindThree, IsAttached, IsEmptyIn, IsBorrowedOf, IsMapOf, KnowsAlgorithm, KnowsKeyId, structure_by};
+ghost use Rattle.ffi_query.specs.Located.{AreElementsIn, IsLocated, IsTextIn, elements_left, located_item};
+ghost use Rattle.ffi_query.specs.Places.{bytes_in, element};
+ghost use Rattle.ffi_query.specs.Structures.{content_at, structure_of_one, structure_of_two};
+ghost use Rattle.ffi_query.specs.View.{IsAlgorithm, proof_in};
+
+use crate::found::Found;
+use crate::kind::Kind;
+use crate::located::{Elements, Located, Text, bytes_located, next_located};
+use crate::named::{Named, named_in, nothing_named};
+use crate::part::Part;
+use crate::view::{Algorithm, KeyIdPlace, MessageView};
+use coset::Result;
+use coset::cbor::de::Pull;
+use coset_cbor::laws::least_encoding_is_shortest;
+use coset_codec::traits::whole_item;
+use coset_core::structure::{begin_structure, structure_bytes};
+use std::alloc::Global;
+
+/// A message's headers: the protected bytes, the map encoded in them, and the unprotected map.
+#[derive(Clone, Copy)]
+struct Headers<'a> {
+    protected: Text<'a>,
+    map: Option<Located<'a>>,
+    unprotected: Located<'a>,
+}
+
+/// A key identifier, and where it is.
+#[derive(Clone, Copy)]
+struct KeyId<'a> {
+    place: KeyIdPlace,
+    text: Text<'a>,
+}
+
+/// An encoded structure in two parts. `end` is the content that it ends with, or empty.
+#[derive(Drop)]
+pub(crate) struct Structure<'a> {
+    pub(crate) front: Vec<u8>,
+    pub(crate) end: &'a [u8],
+}
+
+/// A message's view, its structure, and its three other texts.
+#[derive(Drop)]
+pub(crate) struct Borrowed<'a> {
+    pub(crate) view: MessageView,
+    pub(crate) structure: Structure<'a>,
+    pub(crate) proof: Text<'a>,
+    pub(crate) content: Text<'a>,
+    pub(crate) key_id: Text<'a>,
+}
+
+/// Returns the map encoded in a protected header's bytes, or `None` if they aren't one item.
+pub(crate) fn map_located(protected: Text<'_>) -> Option<Located<'_>>
+    ensures map { IsMapOf protected.entry.bytes.now result }
+    ensures place { (b : List ℕ) → IsTextIn b protected.entry → IfSome result (IsLocated b) }
+{
+    match whole_item(protected.bytes) {
+        Ok(item) => Some(Located {
+            item,
+            rest: protected.rest,
+        }),
+        Err(_) => None,
+    }
+}
+
+/// Returns the headers that these two elements are. Returns `None` if the protected header's byte
+/// string has indefinite length.
+fn headers_of<'a>(first: Located<'a>, second: Located<'a>) -> Option<Headers<'a>>
+    ensures { (b : List ℕ) (v : Item) → IsLocated b first.entry → IsLocated b second.entry
+        → element 0 v ≡ Some (located_item first.entry)
+        → element 1 v ≡ Some (located_item second.entry) → IfSome result (AreHeaders b v) }
+{
+    let protected = bytes_located(first)?;
+    Some(Headers {
+        protected,
+        map: map_located(protected),
+        unprotected: second,
+    })
+}
+
+/// Returns the protected header's values under `alg`, `crit` and `kid`.
+fn protected_named(headers: Headers<'_>) -> Named<'_>
+    ensures { (b : List ℕ) (v : Item) → AreHeaders b v headers.entry
+        → AreNamed b (λ l. IsProtected l (bytes_in 0 v)) result }
+{
+    match headers.map {
+        Some(map) => named_in(map),
+        None => nothing_named(),
+    }
+}
+
+/// Returns the unprotected header's values under `alg`, `crit` and `kid`.
+fn unprotected_named(headers: Headers<'_>) -> Named<'_>
+    ensures { (b : List ℕ) (v : Item) → AreHeaders b v headers.entry
+        → AreNamed b (λ l w. unprotected_value l v ≡ Some w) result }
+{
+    named_in(headers.unprotected)
+}
+
+/// Returns the integer that the item is, if it fits in an `i64`.
+pub(crate) fn number_of(item: Pull<'_>) -> Option<i64>
+    ensures { Finds (λ n. n) (IsNumber (pull_item item.entry)) result }
+{
+    match item.integer() {
+        Some(number) => i64::try_from(number).ok(),
+        None => None,
+    }
+}
+
+/// Returns the algorithm that this value names.
+fn algorithm_by(value: Pull<'_>) -> Algorithm
+    ensures { IsAlgorithm (pull_item value.entry) result }
+{
+    match number_of(value) {
+        Some(number) => Algorithm::Number(number),
+        None => Algorithm::Text,
+    }
+}
+
+/// Returns the algorithm that the protected header names.
+fn algorithm_in(protected: &Named<'_>) -> Algorithm
+    ensures { (b : List ℕ) (v : Item)
+        → AreNamed b (λ l. IsProtected l (bytes_in 0 v)) protected.now
+        → KnowsAlgorithm v result }
+{
+    match protected.algorithm {
+        Some(found) => algorithm_by(found.item),
+        None => Algorithm::Absent,
+    }
+}
+
+/// Returns the key identifier, from the protected header if that has one. If neither header has
+/// one, it is `nothing`. Returns `None` if it isn't a byte string of definite length.
+fn key_id_in<'a>(
+    protected: &Named<'a>,
+    unprotected: &Named<'a>,
+    nothing: Text<'a>,
+) -> Option<KeyId<'a>>
+    ensures { (b : List ℕ) (v : Item)
+        → AreNamed b (λ l. IsProtected l (bytes_in 0 v)) protected.now
+        → AreNamed b (λ l w. unprotected_value l v ≡ Some w) unprotected.now
+        → IsEmptyIn b nothing.entry
+        → IfSome result (λ i. KnowsKeyId v i.place i.text.bytes.now × IsTextIn b i.text) }
+{
+    match protected.key_id {
+        Some(found) => {
+            let text = bytes_located(found)?;
+            Some(KeyId {
+                place: KeyIdPlace::Protected,
+                text,
+            })
+        }
+        None => match unprotected.key_id {
+            Some(found) => {
+                let text = bytes_located(found)?;
+                Some(KeyId {
+                    place: KeyIdPlace::Unprotected,
+                    text,
+                })
+            }
+            None => Some(KeyId {
+                place: KeyIdPlace::Absent,
+                text: nothing,
+            }),
+        },
+    }
+}
+
+/// Returns true if either header has `crit`.
+fn is_critical(protected: &Named<'_>, unprotected: &Named<'_>) -> bool
+    ensures { (b : List ℕ) (v : Item)
+        → AreNamed b (λ l. IsProtected l (bytes_in 0 v)) protected.now
+        → AreNamed b (λ l w. unprotected_value l v ≡ Some w) unprotected.now
+        → result ≡ false → HasNoCritical v }
+{
+    match (protected.critical, unprotected.critical) {
+        (None, None) => false,
+        _ => true,
+    }
+}
+
+/// Returns an empty text at the front of `rest`.
+fn nothing_at(rest: &[u8]) -> Text<'_>
+    ensures bytes { result.bytes.now ≡ [] }
+    ensures rest { result.rest.now ≡ rest.now }
+{
+    Text { bytes: &[], rest }
+}
+
+/// Returns the content that a message carries in this place, or `nothing` if the place is `nil`.
+/// Returns `None` if the content isn't a byte string of definite length.
+fn attached<'a>(place: Located<'a>, nothing: Text<'a>) -> Option<Text<'a>>
+    ensures { (b : List ℕ) → IsLocated b place.entry → IsEmptyIn b nothing.entry
+        → IfSome result (λ t. IsAttached (located_item place.entry) t.bytes.now × IsTextIn b t) }
+{
+    match bytes_located(place) {
+        Some(text) => Some(text),
+        None => {
+            if place.item.is_null() {
+                return Some(nothing);
+            }
+            None
+        }
+    }
+}
+
+/// Returns the content that is signed or authenticated: the carried one, or `detached` if the place
+/// is `nil`. Returns `None` if there are both or neither.
+fn signed_content<'a>(
+    place: Pull<'a>,
+    attached: &'a [u8],
+    detached: Option<&'a [u8]>,
+) -> Option<&'a [u8]>
+    ensures { IsAttached (pull_item place.entry) attached.now → IfSome result (λ c.
+        content_at (pull_item place.entry) (option_copied detached.entry) ≡ Some c.now) }
+{
+    match (detached, place.is_null()) {
+        (Some(content), true) => Some(content),
+        (None, false) => Some(attached),
+        _ => None,
+    }
+}
+
+/// Returns the signature or the tag, which is the first element after the third. Returns `nothing`
+/// if items of the kind have neither, and `None` if it isn't a byte string of definite length.
+fn proof_located<'a>(kind: Kind, behind: Elements<'a>, nothing: Text<'a>) -> Option<Text<'a>>
+    ensures { (b : List ℕ) (v : Item) → IsBehindThree v (elements_left behind.entry)
+        → AreElementsIn b behind.entry → IsEmptyIn b nothing.entry
+        → IfSome result (λ t. (proof_in kind v ≡ Some t.bytes.now) × IsTextIn b t) }
+{
+    match kind.place_of(Part::Proof) {
+        Some(3) => {
+            let (proof, _) = next_located(behind)?;
+            bytes_located(proof)
+        }
+        Some(_) => None,
+        None => Some(nothing),
+    }
+}
+
+/// Appends the shortest head of a byte string of this length.
+///
+/// # Errors
+/// `OutOfMemory` if an allocation fails.
+#[tactic(auto, unfolding(coset_cbor::specs::Least::least_head))]
+fn put_bytes_head(out: &mut Vec<u8>, length: usize) -> Result<()>
+    ensures ok { OnOk result (out.new.items ≡ out.old.items ++ least_head 2 length) }
+    ensures small { length < 2 ^ 64 }
+    ensures memory { IfErr result (λ e. e ≡ OutOfMemory) }
+{
+    let n = length as u64;
+    if n < 24 {
+        out.push(0x40 + n as u8)?;
+    } else if n < 0x100 {
+        out.push(0x58)?;
+        out.push(n as u8)?;
+    } else if n < 0x1_0000 {
+        out.push(0x59)?;
+        out.extend_from_slice(&(n as u16).to_be_bytes())?;
+    } else if n < 0x1_0000_0000 {
+        out.push(0x5A)?;
+        out.extend_from_slice(&(n as u32).to_be_bytes())?;
+    } else {
+        out.push(0x5B)?;
+        out.extend_from_slice(&n.to_be_bytes())?;
+    }
+    Ok(())
+}
+
+/// The length of the longest head (RFC 8949, section 3).
+const LONGEST_HEAD: usize = 9;
+
+/// Returns the shortest encoding of a structure, without the content that ends it.
+///
+/// # Errors
+/// `OutOfMemory` if an allocation fails.
+fn front_of(
+    alloc: Global,
+    context: &str,
+    protected: &[u8],
+    external_aad: &[u8],
+    content: &[u8],
+) -> Result<Vec<u8>>
+    ensures front { IfOk result (λ f. IsShortest (f.items ++ content.now)
+        (structure context.now (protected.now ∷ external_aad.now ∷ content.now ∷ []))) }
+    ensures memory { IfErr result (λ e. e ≡ OutOfMemory) }
+{
+    least_encoding_is_shortest();
+    let parts = [protected, external_aad];
+    let mut front = begin_structure(alloc, context, &parts, 1, LONGEST_HEAD)?;
+    put_bytes_head(&mut front, content.len())?;
+    Ok(front)
+}
+
+/// Encodes the structure over a content, or returns `None` if there is no content.
+///
+/// # Errors
+/// `OutOfMemory` if an allocation fails.
+fn over_content<'a>(
+    alloc: Global,
+    context: &str,
+    protected: &[u8],
+    external_aad: &[u8],
+    content: Option<&'a [u8]>,
+) -> Result<Option<Structure<'a>>>
+    ensures found { IfOk result (λ o. IfSome o (λ s.
+        IsEncodingOf (structure_of_two context.now external_aad.now (Some protected.now)
+        (option_copied content.entry)) (s.front.items ++ s.end.now))) }
+    ensures memory { IfErr result (λ e. e ≡ OutOfMemory) }
+{
+    match content {
+        Some(end) => {
+            let front = front_of(alloc, context, protected, external_aad, end)?;
+            Ok(Some(Structure { front, end }))
+        }
+        None => Ok(None),
+    }
+}
+
+/// Encodes the structure that goes with a ciphertext.
+///
+/// # Errors
+/// `OutOfMemory` if an allocation fails.
+fn beside_ciphertext<'a>(
+    alloc: Global,
+    context: &str,
+    protected: &[u8],
+    external_aad: &[u8],
+) -> Result<Option<Structure<'a>>>
+    ensures found { IfOk result (λ o. IfSome o (λ s.
+        IsEncodingOf (structure_of_one context.now external_aad.now (Some protected.now))
+        (s.front.items ++ s.end.now))) }
+    ensures memory { IfErr result (λ e. e ≡ OutOfMemory) }
+{
+    let front = structure_bytes(alloc, context, &[protected, external_aad])?;
+    Ok(Some(Structure { front, end: &[] }))
+}
+
+/// Encodes the structure of a message of this kind, from its protected bytes and its content.
+///
+/// # Errors
+/// `OutOfMemory` if an allocation fails.
+fn borrowed_structure<'a>(
+    alloc: Global,
+    kind: Kind,
+    protected: &[u8],
+    external_aad: &[u8],
+    content: Option<&'a [u8]>,
+) -> Result<Option<Structure<'a>>>
+    ensures found { IfOk result (λ o. IfSome o (λ s.
+        IsEncodingOf (structure_by kind external_aad.now protected.now
+        (option_copied content.entry)) (s.front.items ++ s.end.now))) }
+    ensures memory { IfErr result (λ e. e ≡ OutOfMemory) }
+{
+    match kind {
+        Kind::Sign1(_) => over_content(alloc, "Signature1", protected, external_aad, content),
+        Kind::Mac0(_) => over_content(alloc, "MAC0", protected, external_aad, content),
+        Kind::Mac(_) => over_content(alloc, "MAC", protected, external_aad, content),
+        Kind::Encrypt0(_) => beside_ciphertext(alloc, "Encrypt0", protected, external_aad),
+        Kind::Encrypt(_) => beside_ciphertext(alloc, "Encrypt", protected, external_aad),
+        _ => Ok(None),
+    }
+}
+
+/// Returns the sum of the two lengths, if it fits in a `usize`.
+fn length_of(front: &[u8], end: &[u8]) -> Option<usize>
+    ensures { IfSome result (λ n. n ≡ length front.now + length end.now) }
+{
+    front.len().checked_add(end.len())
+}
+
+/// Returns the sum, if it fits in a `usize`.
+fn sum_of(a: usize, b: usize, c: usize, d: usize) -> Option<usize>
+    ensures { IfSome result (λ n. n ≡ a + (b + (c + d))) }
+{
+    a.checked_add(b)?.checked_add(c)?.checked_add(d)
+}
+
+/// A message's algorithm and its texts, without the structure.
+#[derive(Clone, Copy)]
+struct Texts<'a> {
+    protected: Text<'a>,
+    algorithm: Algorithm,
+    proof: Text<'a>,
+    content: Text<'a>,
+    key_id: KeyId<'a>,
+    signed: Option<&'a [u8]>,
+}
+
+/// Returns the texts of an item of this kind, if the input contains each of them and no header has
+/// `crit`.
+fn texts_of<'a>(kind: Kind, found: &Found<'a>, detached: Option<&'a [u8]>) -> Option<Texts<'a>>
+    ensures { (b : List ℕ) → IsFound kind b found.now → IfSome result
+        (AreTexts kind (option_copied detached.entry) b (located_item found.now.item)) }
+{
+    let nothing = nothing_at(found.item.rest);
+    let Some(three) = found.three else {
+        return None;
+    };
+    let headers = headers_of(three.protected, three.unprotected)?;
+    let protected = protected_named(headers);
+    let unprotected = unprotected_named(headers);
+    if is_critical(&protected, &unprotected) {
+        return None;
+    }
+    let place = three.content;
+    let content = attached(place, nothing)?;
+    Some(Texts {
+        protected: headers.protected,
+        algorithm: algorithm_in(&protected),
+        proof: proof_located(kind, three.behind, nothing)?,
+        content,
+        key_id: key_id_in(&protected, &unprotected, nothing)?,
+        signed: signed_content(place.item, content.bytes, detached),
+    })
+}
+
+/// Returns everything that verifying or decrypting the item takes, if it can be borrowed from the
+/// input.
+///
+/// # Errors
+/// `OutOfMemory` if an allocation fails.
+pub(crate) fn find_borrowed<'a>(
+    alloc: Global,
+    kind: Kind,
+    found: &Found<'a>,
+    external_aad: &[u8],
+    detached: Option<&'a [u8]>,
+) -> Result<Option<Borrowed<'a>>>
+    ensures lent { (b : List ℕ) (i : ℕ) (ns : List ℤ) → IsFound kind b found.now
+        → IfOk result (λ o. IfSome o (IsBorrowedOf kind i external_aad.now
+        (option_copied detached.entry) ns b)) }
+    ensures memory { IfErr result (λ e. e ≡ OutOfMemory) }
+{
+    let Some(texts) = texts_of(kind, found, detached) else {
+        return Ok(None);
+    };
+    let protected = texts.protected.bytes;
+    let structure = borrowed_structure(alloc, kind, protected, external_aad, texts.signed)?;
+    let Some(structure) = structure else {
+        return Ok(None);
+    };
+    let Some(structure_len) = length_of(&structure.front, structure.end) else {
+        return Ok(None);
+    };
+    let (proof_len, content_len) = (texts.proof.bytes.len(), texts.content.bytes.len());
+    let key_id_len = texts.key_id.text.bytes.len();
+    let Some(len) = sum_of(structure_len, proof_len, content_len, key_id_len) else {
+        return Ok(None);
+    };
+    let view = MessageView {
+        algorithm: texts.algorithm,
+        key_id_place: texts.key_id.place,
+        has_critical: false,
+        is_understood: true,
+        is_tagged: found.is_tagged,
+        structure_len,
+        proof_len,
+        content_len,
+        key_id_len,
+        len,
+    };
+    Ok(Some(Borrowed {
+        view,
+        structure,
+        proof: texts.proof,
+        content: texts.content,
+        key_id: texts.key_id.text,
+    }))
+}
