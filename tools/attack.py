@@ -1,5 +1,5 @@
 """Attacks the C interface for `tools/c --attack` and `tools/fuzz`. tools/attack.c calls each function that the headers in
-include/ declare. The table of these functions is written from the headers, so a new function is attacked as well."""
+c/include/ declare. The table of these functions is written from the headers, so a new function is attacked as well."""
 import os
 import re
 import subprocess
@@ -23,13 +23,13 @@ def run(command, **more):
 
 
 def headers():
-    return sorted(it for it in os.listdir(f"{HERE}/include") if it.endswith(".h"))
+    return sorted(it for it in os.listdir(f"{HERE}/c/include") if it.endswith(".h"))
 
 
 def declarations():
     """Returns the headers as the compiler sees them, without attributes."""
     given = "".join(f"#include <{it}>\n" for it in headers())
-    text = run(["cc", "-E", "-P", "-D__attribute__(x)=", f"-I{HERE}/include", "-x", "c", "-"], input=given)
+    text = run(["cc", "-E", "-P", "-D__attribute__(x)=", f"-I{HERE}/c/include", "-x", "c", "-"], input=given)
     return re.sub(r"\[\[.*?\]\]", "", text)
 
 
@@ -118,7 +118,7 @@ def prepared(folder):
 def attack(folder, objects, calls):
     """Attacks the library of these object files with about `calls` calls. Returns whether no fault was found, and a report."""
     left = prepared(folder)
-    flags = ["-std=c11", "-O2", "-Wall", "-Wextra", "-Werror", f"-I{HERE}/include", f"-I{folder}"]
+    flags = ["-std=c11", "-O2", "-Wall", "-Wextra", "-Werror", f"-I{HERE}/c/include", f"-I{folder}"]
     run(["cc", *flags, "-o", "attack", f"{HERE}/tools/attack.c", *objects, "-lpthread"], cwd=folder)
     ran = subprocess.run([f"{folder}/attack", f"{folder}/rows", str(SEED), str(calls)], capture_output=True, text=True, check=False)
     told = ran.stdout.strip() or f"the attack says nothing: {ran.stderr.strip()[-500:]}"

@@ -1,4 +1,4 @@
-"""Installs the files for users of the C interface, for `tools/c --install PREFIX`. They come from packaging/ and wrappers/:
+"""Installs the files for users of the C interface, for `tools/c --install PREFIX`. They come from c/packaging/ and c/wrappers/:
 
     include/*.h                 the headers
     lib/                        libcoset.a and libcoset.so, coset.pc for pkg-config, and the files of CMake
@@ -17,7 +17,7 @@ import tempfile
 import common
 
 HERE = common.HERE
-PACKAGING = f"{HERE}/packaging"
+PACKAGING = f"{HERE}/c/packaging"
 
 
 def read(path):
@@ -44,7 +44,7 @@ def soname():
 
 
 def filled(text, prefix, quick):
-    """Returns the text of a file of packaging/ with each @WORD@ replaced."""
+    """Returns the text of a file of c/packaging/ with each @WORD@ replaced."""
     words = {"PREFIX": prefix, "VERSION": version(), "NUMBERS": numbers(), "SERIES": series(), "SONAME": soname(),
              "PYTHON_VERSION": version().replace("-", "+", 1), "PROVED": "no" if quick else "yes",
              "UNPROVED": "; built with --quick, not proved" if quick else ""}
@@ -67,25 +67,25 @@ def public(text):
 
 def unlike():
     """Returns the names for which the type hints differ from the wrapper."""
-    hinted, there = (public(read(f"{folder}/coset.py{i}")) for folder, i in (("packaging/python", "i"), ("wrappers/python", "")))
+    hinted, there = (public(read(f"{folder}/coset.py{i}")) for folder, i in (("c/packaging/python", "i"), ("c/wrappers/python", "")))
     return sorted(name for name in {*hinted, *there} if name not in hinted or name not in there or hinted[name] != there[name])
 
 
 def texts(prefix, quick):
     """Returns each text that is installed, by its path."""
     fill = lambda path: filled(read(path), prefix, quick)
-    wrapper = read("wrappers/python/coset.py")
-    found = {f"include/{it}": read(f"include/{it}") for it in os.listdir(f"{HERE}/include") if it.endswith(".h")}
-    found["lib/pkgconfig/coset.pc"] = fill("packaging/coset.pc.in")
+    wrapper = read("c/wrappers/python/coset.py")
+    found = {f"include/{it}": read(f"c/include/{it}") for it in os.listdir(f"{HERE}/c/include") if it.endswith(".h")}
+    found["lib/pkgconfig/coset.pc"] = fill("c/packaging/coset.pc.in")
     for name in ("coset-config", "coset-config-version"):
-        found[f"lib/cmake/coset/{name}.cmake"] = fill(f"packaging/cmake/{name}.cmake")
+        found[f"lib/cmake/coset/{name}.cmake"] = fill(f"c/packaging/cmake/{name}.cmake")
     for name in ("pyproject.toml", "backend.py"):
-        found[f"share/coset/python/{name}"] = fill(f"packaging/python/{name}")
+        found[f"share/coset/python/{name}"] = fill(f"c/packaging/python/{name}")
     found |= {f"share/coset/python/coset/{name}": text
-              for name, text in (("__init__.py", wrapper), ("__init__.pyi", read("packaging/python/coset.pyi")), ("py.typed", ""))}
+              for name, text in (("__init__.py", wrapper), ("__init__.pyi", read("c/packaging/python/coset.pyi")), ("py.typed", ""))}
     for name in ("Cargo.toml", "build.rs"):
-        found[f"share/coset/rust/{name}"] = fill(f"packaging/rust/{name}")
-    found["share/coset/rust/src/lib.rs"] = read("wrappers/rust/coset.rs")
+        found[f"share/coset/rust/{name}"] = fill(f"c/packaging/rust/{name}")
+    found["share/coset/rust/src/lib.rs"] = read("c/wrappers/rust/coset.rs")
     return found | {"share/doc/coset/C.md": read("docs/C.md"), "share/doc/coset/LICENSE": read("LICENSE")}
 
 
@@ -165,7 +165,7 @@ def tried(library, quick, token, payload, check):
         for path in ("try.c", "try.py", "CMakeLists.txt", "Cargo.toml", "src/main.rs"):
             os.makedirs(os.path.dirname(f"{folder}/{path}"), exist_ok=True)
             with open(f"{folder}/{path}", "w", encoding="utf-8") as file:
-                file.write(filled(read(f"packaging/try/{path}"), prefix, quick))
+                file.write(filled(read(f"c/packaging/try/{path}"), prefix, quick))
         there = [tool for tool in WAYS if has(tool)]
         for tool in there:
             told = WAYS[tool](prefix, folder, token.hex())

@@ -1,5 +1,5 @@
 """Makes the tables of docs/C.md with the stack and memory that calls from C take, which `tools/c --limits` measures
-(wrappers/c/limits.c). Each number there is a bound: the greatest over all calls with that input, rounded up."""
+(c/wrappers/c/limits.c). Each number there is a bound: the greatest over all calls with that input, rounded up."""
 import itertools
 import os
 import subprocess

@@ -1,0 +1,814 @@
+"""coset from Python: the calls of coset.h. The library is libcoset.so next to this file, or the file that the
+environment's COSET_LIBRARY names.
+
+A call takes bytes and returns bytes, a number or None. It raises one of these errors:
+- Fault if the bytes aren't an item of the kind, or the new item wouldn't be.
+- Absent if the bytes don't have the requested part. Or items of the kind, or the bytes that something is added to, have
+  no place for an argument.
+- WrongType if the requested value is of another type.
+- Empty, Misuse, and MemoryError.
+
+`verify` and `decrypt` return a message's contents only after the caller's function said yes. They also raise
+NotAllowed, Critical or Refused. `token_claims` returns the claims of a web token, and also raises NotLetIn. The
+header and docs/C.md say what each call promises.
+"""
+import ctypes
+import enum
+import os
+import struct
+import threading
+from collections import namedtuple
+
+
+class Kind(enum.IntEnum):
+    """The kind of item that the bytes should be. A message, one of the first six, is plain. It is under its tag if
+    TAGGED is added, and both forms are accepted if EITHER is added: SIGN1 + EITHER is Kind.SIGN1_EITHER."""
+
+    SIGN1, SIGN, MAC0, MAC, ENCRYPT0, ENCRYPT, SIGNATURE, RECIPIENT, HEADER, KEY, KEY_SET, CLAIMS, ITEM, KDF_CONTEXT = range(1, 15)
+    SIGN1_TAGGED, SIGN_TAGGED, MAC0_TAGGED, MAC_TAGGED, ENCRYPT0_TAGGED, ENCRYPT_TAGGED = range(0x101, 0x107)
+    SIGN1_EITHER, SIGN_EITHER, MAC0_EITHER, MAC_EITHER, ENCRYPT0_EITHER, ENCRYPT_EITHER = range(0x201, 0x207)
+
+
+SIGN1, SIGN, MAC0, MAC, ENCRYPT0, ENCRYPT, SIGNATURE, RECIPIENT, HEADER, KEY, KEY_SET, CLAIMS, ITEM, KDF_CONTEXT = map(Kind, range(1, 15))
+TAGGED, EITHER = 0x100, 0x200  # added to a message's kind, one of the first six
+_KINDS = frozenset(map(int, Kind))
+PROTECTED, PAYLOAD, CIPHERTEXT, PROOF = range(1, 5)
+IN_PROTECTED, IN_UNPROTECTED, IN_ITEM = range(1, 4)
+LEXICOGRAPHIC, LENGTH_FIRST = range(1, 3)  # orders of labels
+BY_SIGNATURE, BY_ANY = range(1, 3)  # which layers authenticate who sent a token
+NONE, INT, TEXT, BYTES, ENCODED = range(0, 5)  # forms in which a message names its algorithm: the first three; and of labels and values
+UNDERSTOOD, NOT_UNDERSTOOD = range(1, 3)  # what there is of labels that must be understood; NONE where there are none
+
+_OK, _SHORT, _MEMORY, _ABSENT, _MISUSE, _TYPE, _EMPTY, _NOT_ALLOWED, _CRITICAL, _LAYER = 0, 1, 2, 12, 13, 14, 15, 16, 17, 19
+_FAULTS = {
+    3: "the bytes end before the item does",
+    4: "the bytes aren't well-formed",
+    5: "arrays, maps and tags nest too deep",
+    6: "bytes follow the item",
+    7: "an item isn't as its place asks",
+    8: "two keys of a map are one label",
+    9: "an integer lies outside the range of its place",
+    10: "an integer isn't registered",
+    11: "an integer isn't registered, nor for private use",
+}
+_NO_OFFSET = ctypes.c_size_t(-1).value
+
+_beside = os.path.join(os.path.dirname(os.path.abspath(__file__)), "libcoset.so")
+_library = ctypes.CDLL(os.environ.get("COSET_LIBRARY", _beside))
+
+
+class Fault(ValueError):
+    """The bytes aren't an item of the kind, or the new item wouldn't be. `status` is the status of the call. `offset`
+    is where the bytes stop being one item of CBOR, or None. Only `check` knows it."""
+
+    def __init__(self, status, offset=None):
+        super().__init__(status, offset)
+        self.status, self.offset = status, offset
+
+    def __str__(self):
+        return _FAULTS[self.status]
+
+
+class Absent(LookupError):
+    """The bytes don't have the requested part. Or items of the kind, or the bytes that something is added to, have no
+    place for an argument."""
+
+
+class Empty(LookupError):
+    """The counted list is empty: verifying each of its signatures would verify none."""
+
+
+class WrongType(TypeError):
+    """The value is there, but isn't a string, or isn't an integer of 64 bits with a sign. From a call that returns a
+    place also: a string is in chunks."""
+
+
+class Misuse(TypeError):
+    """A number names no kind, part, map, order or countersignature, or a kind that the call doesn't take. Or a payload
+    is given as detached although the message carries one."""
+
+
+class Refused(Exception):
+    """The caller's function said no to the signature, the tag or the ciphertext."""
+
+
+class NotAllowed(Refused):
+    """The protected header doesn't name an allowed algorithm by its number."""
+
+
+class Critical(Refused):
+    """A critical label isn't understood, or isn't protected."""
+
+
+class Question(namedtuple("Question", "algorithm key_id key_id_map input proof")):
+    """The question that the caller's function answers:
+    - `algorithm` is one of the allowed ones.
+    - `key_id` is the key identifier, or None if the message names no key. `key_id_map` is the header that has it, as
+      in Sign1.
+    - `input` is the structure that is signed, authenticated, or goes with the ciphertext.
+    - `proof` is the signature or the tag, or for `decrypt` the ciphertext."""
+
+    __slots__ = ()
+
+
+class NotLetIn(Refused):
+    """The token is refused. `status` is the reason, one of the header's statuses from COSET_TOO_DEEP on."""
+
+    def __init__(self, status):
+        super().__init__(status)
+        self.status = status
+
+    def __str__(self):
+        return status_text(self.status)
+
+
+class Layer(namedtuple("Layer", "form algorithm key_id key_id_map input proof iv partial_iv")):
+    """The question that the caller's function answers for a layer of a token:
+    - `form` is SIGN1, MAC0 or ENCRYPT0.
+    - `algorithm` is one of the allowed ones.
+    - `key_id` is the key identifier, or None if the layer names no key. `key_id_map` is the header that has it, as
+      in Sign1.
+    - `input` is the structure that is signed, authenticated, or goes with the ciphertext.
+    - `proof` is the signature, the MAC or the ciphertext.
+    - `iv` and `partial_iv` are the initialization vector and the partial one, each None if there is none."""
+
+    __slots__ = ()
+
+
+class Message(namedtuple("Message", "algorithm algorithm_form key_id_map critical is_tagged input proof content key_id")):
+    """Everything that verifying or decrypting a message takes. It is like Sign1, but for any message:
+    - `critical` is NONE, UNDERSTOOD or NOT_UNDERSTOOD.
+    - `input` is the structure that is signed, authenticated, or goes with the ciphertext.
+    - `proof` is the signature or the tag, and empty for an encrypted message.
+    - `content` is the payload or ciphertext that the message carries, and empty if it is detached.
+
+    For a message with signers, the headers and the signature are those of one signer."""
+
+    __slots__ = ()
+
+
+class Sign1(namedtuple("Sign1", "algorithm algorithm_form key_id_map has_critical is_tagged signed signature payload key_id")):
+    """Everything that verifying a message with one signature takes:
+    - `algorithm` is the algorithm in the protected header, an int or None. `algorithm_form` is its form: NONE, INT
+      or TEXT.
+    - `key_id_map` is the header that has the key identifier: IN_PROTECTED, else IN_UNPROTECTED, which isn't signed,
+      else None.
+    - `has_critical` says whether either header has crit: labels that must be understood.
+    - `is_tagged` says whether the message is under its tag.
+    - `signed` is the structure that is signed, and `signature` the signature.
+    - `payload` is the payload that the message carries, and empty if it is detached.
+    - `key_id` is the key identifier.
+
+    Before you use the payload, verify the signature over `signed`, by a key that you trust and an algorithm that you
+    allow for it. Refuse a message that has crit."""
+
+    __slots__ = ()
+
+
+class _Spans(ctypes.Structure):
+    """coset_message_spans_view of the header."""
+
+    _fields_ = [
+        ("algorithm", ctypes.c_int64),
+        ("algorithm_form", ctypes.c_uint32),
+        ("key_id_map", ctypes.c_uint32),
+        ("critical", ctypes.c_uint32),
+        ("is_tagged", ctypes.c_uint32),
+        ("is_proof_in_input", ctypes.c_uint32),
+        ("is_content_in_input", ctypes.c_uint32),
+        ("is_key_id_in_input", ctypes.c_uint32),
+        ("structure_len", ctypes.c_size_t),
+        ("proof_at", ctypes.c_size_t),
+        ("proof_len", ctypes.c_size_t),
+        ("content_at", ctypes.c_size_t),
+        ("content_len", ctypes.c_size_t),
+        ("key_id_at", ctypes.c_size_t),
+        ("key_id_len", ctypes.c_size_t),
+    ]
+
+
+class _Span(ctypes.Structure):
+    """coset_span of the header."""
+
+    _fields_ = [
+        ("at", ctypes.c_size_t),
+        ("len", ctypes.c_size_t),
+    ]
+
+
+class _Pair(ctypes.Structure):
+    """coset_pair of the header."""
+
+    _fields_ = [
+        ("label_form", ctypes.c_uint32),
+        ("value_form", ctypes.c_uint32),
+        ("label", ctypes.c_int64),
+        ("label_at", ctypes.c_size_t),
+        ("label_len", ctypes.c_size_t),
+        ("value", ctypes.c_int64),
+        ("value_at", ctypes.c_size_t),
+        ("value_len", ctypes.c_size_t),
+    ]
+
+
+class _Rules(ctypes.Structure):
+    """coset_rules of the header."""
+
+    _fields_ = [
+        ("size", ctypes.c_size_t),
+        ("leeway", ctypes.c_uint64),
+        ("max_age", ctypes.c_uint64),
+        ("has_max_age", ctypes.c_uint32),
+        ("plain", ctypes.c_uint32),
+        ("authenticated_by", ctypes.c_uint32),
+        ("leaves_out", ctypes.c_uint32),
+        ("may_not_expire", ctypes.c_uint32),
+        ("may_be_issued_later", ctypes.c_uint32),
+        ("has_issuer", ctypes.c_uint32),
+        ("has_audience", ctypes.c_uint32),
+    ]
+
+
+class _Opened(ctypes.Structure):
+    """coset_opened of the header."""
+
+    _fields_ = [
+        ("form", ctypes.c_uint32),
+        ("offset", ctypes.c_size_t),
+        ("structure_len", ctypes.c_size_t),
+        ("proof_len", ctypes.c_size_t),
+        ("plaintext", ctypes.c_size_t),
+        ("plaintext_len", ctypes.c_size_t),
+    ]
+
+
+class _Layer(ctypes.Structure):
+    """coset_layer of the header."""
+
+    _fields_ = [
+        ("form", ctypes.c_uint32),
+        ("key_id_map", ctypes.c_uint32),
+        ("algorithm", ctypes.c_int64),
+        ("structure_len", ctypes.c_size_t),
+        ("proof_len", ctypes.c_size_t),
+        ("key_id_len", ctypes.c_size_t),
+        ("iv_len", ctypes.c_size_t),
+        ("partial_iv_len", ctypes.c_size_t),
+    ]
+
+
+def _declare():
+    number, size, integer, at = ctypes.c_uint32, ctypes.c_size_t, ctypes.c_int64, ctypes.c_char_p
+    given, to = [number, at, size], [ctypes.c_void_p, size, ctypes.POINTER(size)]
+    calls = {
+        "check": [ctypes.POINTER(size)],
+        "count": [ctypes.POINTER(size)],
+        "part": [number] + to,
+        "member": [size] + to,
+        "member_span": [size, ctypes.POINTER(_Span)],
+        "pair_spans": [size, ctypes.POINTER(_Span), ctypes.POINTER(_Span)],
+        "label_span": [number, integer, ctypes.POINTER(_Span)],
+        "label": [number, integer] + to,
+        "label_bytes": [number, integer] + to,
+        "label_int": [number, integer, ctypes.POINTER(integer)],
+        "text_label": [number, at, size] + to,
+        "label_at": [size] + to,
+        "value_at": [size] + to,
+        "structure": [size, at, size, number, at, size] + to,
+        "recipient_structure": [at, size] + to,
+        "countersign_structure": [integer, at, size, at, size, number, at, size] + to,
+        "message_spans": [size, at, size, number, at, size, ctypes.c_void_p, size, ctypes.c_void_p, size, ctypes.c_void_p, ctypes.c_void_p],
+        "put_all": [ctypes.POINTER(_Pair), size, at, size] + to,
+        "put": [integer, at, size] + to,
+        "put_bytes": [integer, at, size] + to,
+        "put_text": [integer, at, size] + to,
+        "put_int": [integer, integer] + to,
+        "put_text_label": [at, size, at, size] + to,
+        "structure_of": [at, size, at, size, at, size] + to,
+        "recipient_structure_of": [at, size] + to,
+        "make": [at, size, number, at, size, at, size] + to,
+        "add": [at, size] + to,
+        "write": to,
+        "canonical_key": to,
+    }
+    for name, arguments in calls.items():
+        call = getattr(_library, "coset_" + name)
+        call.argtypes, call.restype = given + arguments, ctypes.c_int32
+    for name, arguments in {"key_of": [at, size] + to, "item_span": [size, ctypes.POINTER(_Span)], "string_span": [ctypes.POINTER(_Span)],
+                            "integer": [ctypes.POINTER(integer)]}.items():
+        call = getattr(_library, "coset_" + name)
+        call.argtypes, call.restype = [at, size] + arguments, ctypes.c_int32
+    lists, names = [ctypes.POINTER(integer), size] * 4, [at, size] * 3
+    opened = [ctypes.POINTER(_Opened), size, at, size]
+    _library.coset_token_claims.argtypes = [ctypes.POINTER(_Rules), *lists, *names, integer, *opened, *to, ctypes.POINTER(_Layer)]
+    _library.coset_token_claims.restype = ctypes.c_int32
+    _library.coset_version.argtypes, _library.coset_version.restype = [], at
+    _library.coset_status_text.argtypes, _library.coset_status_text.restype = [ctypes.c_int32], at
+
+
+_declare()
+
+
+def _raise(status, offset=None):
+    """Raises the error of a status other than success."""
+    if status == _MEMORY:
+        raise MemoryError
+    if status == _ABSENT:
+        raise Absent("what is asked for isn't there, or what is given has no place")
+    if status == _TYPE:
+        raise WrongType("what is asked for is there, and is no string, or no integer of 64 bits")
+    if status == _EMPTY:
+        raise Empty("the list is empty")
+    if status == _MISUSE:
+        raise Misuse("a number without a meaning for this call, or a payload that the message carries and that is given too")
+    if status == _NOT_ALLOWED:
+        raise NotAllowed("the algorithm isn't one that is allowed")
+    if status == _CRITICAL:
+        raise Critical("a label that must be understood isn't")
+    if status > _LAYER:
+        raise NotLetIn(status)
+    if status != _OK:
+        raise Fault(status, offset)
+
+
+def _bytes(data):
+    """Returns the bytes of any bytes-like object, and their number."""
+    if type(data) is not bytes:
+        data = bytes(memoryview(data))
+    return data, len(data)
+
+
+def _kind(number):
+    """Returns the number of a kind, or raises Misuse."""
+    if number not in _KINDS:
+        raise Misuse("a number of no kind")
+    return number
+
+
+def _number(number):
+    """Returns the number of a part, a map or an order, or raises Misuse."""
+    if not 0 <= number < 1 << 32:
+        raise Misuse("a number of no part, no map or no order")
+    return number
+
+
+def _int64(number):
+    if not -(1 << 63) <= number < 1 << 63:
+        raise OverflowError("a number of more than 64 bits")
+    return number
+
+
+def _size(number):
+    if not 0 <= number <= _NO_OFFSET:
+        raise IndexError("an index that is negative or too large")
+    return number
+
+
+def _written(call, *arguments, behind=()):
+    """Returns the bytes that a call writes. The arguments in `behind` follow those for the result. The buffer has room
+    for any usual result: twice the size of all arguments, and heads. If it is too small all the same, the call is
+    made again."""
+    room, length = 256, ctypes.c_size_t()
+    for it in arguments:
+        if type(it) is bytes:
+            room += 2 * len(it)
+    while True:
+        out = ctypes.create_string_buffer(room)
+        status = call(*arguments, out, room, ctypes.byref(length), *behind)
+        if status != _SHORT:
+            _raise(status)
+            return ctypes.string_at(out, length.value)
+        room = length.value
+
+
+def check(kind, data):
+    """Raises Fault, with the offset, unless the bytes are an item of the kind."""
+    offset = ctypes.c_size_t()
+    status = _library.coset_check(_kind(kind), *_bytes(data), ctypes.byref(offset))
+    _raise(status, None if offset.value == _NO_OFFSET else offset.value)
+
+
+def count(kind, data):
+    """Returns the number of signatures, recipients, keys or elements, which is at least 1."""
+    number = ctypes.c_size_t()
+    _raise(_library.coset_count(_kind(kind), *_bytes(data), ctypes.byref(number)))
+    return number.value
+
+
+def part(kind, data, which):
+    """Returns a part: PROTECTED, PAYLOAD, CIPHERTEXT or PROOF."""
+    return _written(_library.coset_part, _kind(kind), *_bytes(data), _number(which))
+
+
+def member(kind, data, index):
+    """Returns the signature, recipient, key or element at `index`, in its shortest encoding."""
+    return _written(_library.coset_member, _kind(kind), *_bytes(data), _size(index))
+
+
+def _slice(span):
+    return slice(span.at, span.at + span.len)
+
+
+def member_span(kind, data, index):
+    """Returns the place of the signature, recipient, key or array element at `index`, as received. It is a slice for
+    `memoryview(data)[..]`."""
+    span = _Span()
+    _raise(_library.coset_member_span(_kind(kind), *_bytes(data), _size(index), ctypes.byref(span)))
+    return _slice(span)
+
+
+def pair_spans(kind, data, index):
+    """Returns the places of the label and value of a map's pair, as received: two slices. `index` counts the pairs from
+    0."""
+    name, value = _Span(), _Span()
+    _raise(_library.coset_pair_spans(_kind(kind), *_bytes(data), _size(index), ctypes.byref(name), ctypes.byref(value)))
+    return _slice(name), _slice(value)
+
+
+def label_span(kind, data, which, name):
+    """Returns the place of an integer label's value, as received: a slice."""
+    span = _Span()
+    _raise(_library.coset_label_span(_kind(kind), *_bytes(data), _number(which), _int64(name), ctypes.byref(span)))
+    return _slice(span)
+
+
+def item_span(data, at):
+    """Returns the place of the item that begins at the offset `at`, as received: a slice. The next element of an array,
+    or the next label or value of a map, begins where the item ends."""
+    span = _Span()
+    _raise(_library.coset_item_span(*_bytes(data), _size(at), ctypes.byref(span)))
+    return _slice(span)
+
+
+def string_span(data):
+    """Returns the place of a string's content: a slice. The string has definite length."""
+    span = _Span()
+    _raise(_library.coset_string_span(*_bytes(data), ctypes.byref(span)))
+    return _slice(span)
+
+
+def integer(data):
+    """Returns the integer that the bytes encode."""
+    value = ctypes.c_int64()
+    _raise(_library.coset_integer(*_bytes(data), ctypes.byref(value)))
+    return value.value
+
+
+def label(kind, data, which, name):
+    """Returns the value of a label, in its shortest encoding. `name` is an int or a str. `which` is the map:
+    IN_PROTECTED, IN_UNPROTECTED or IN_ITEM."""
+    if isinstance(name, str):
+        return _written(_library.coset_text_label, _kind(kind), *_bytes(data), _number(which), *_bytes(name.encode()))
+    return _written(_library.coset_label, _kind(kind), *_bytes(data), _number(which), _int64(name))
+
+
+def has(kind, data, which, name):
+    """Returns True if the map has the label."""
+    try:
+        label(kind, data, which, name)
+    except Absent:
+        return False
+    return True
+
+
+def label_bytes(kind, data, which, name):
+    """Returns the content of the byte string or text string that is the value of an integer label."""
+    return _written(_library.coset_label_bytes, _kind(kind), *_bytes(data), _number(which), _int64(name))
+
+
+def label_int(kind, data, which, name):
+    """Returns the integer that is the value of an integer label."""
+    value = ctypes.c_int64()
+    _raise(_library.coset_label_int(_kind(kind), *_bytes(data), _number(which), _int64(name), ctypes.byref(value)))
+    return value.value
+
+
+def label_at(kind, data, index):
+    """Returns the label of a map's pair, in its shortest encoding. `index` counts the pairs from 0."""
+    return _written(_library.coset_label_at, _kind(kind), *_bytes(data), _size(index))
+
+
+def value_at(kind, data, index):
+    """Returns the value of a map's pair, in its shortest encoding. `index` counts the pairs from 0."""
+    return _written(_library.coset_value_at, _kind(kind), *_bytes(data), _size(index))
+
+
+def key_of(data, key_id):
+    """Returns the first key of a set with this identifier, in its shortest encoding."""
+    return _written(_library.coset_key_of, *_bytes(data), *_bytes(key_id))
+
+
+def structure(kind, data, index=0, external_aad=b"", detached=None):
+    """Returns the structure that is signed (by the signer at `index`), authenticated, or goes with the ciphertext. Its
+    payload is the one that the message carries. If the message carries none, it is `detached`; else `detached` is
+    None."""
+    content = _bytes(b"" if detached is None else detached)
+    return _written(
+        _library.coset_structure, _kind(kind), *_bytes(data), _size(index), *_bytes(external_aad), detached is not None, *content
+    )
+
+
+def recipient_structure(holder, data, external_aad=b""):
+    """Returns the structure that goes with the ciphertext of a recipient, by the kind that contains it: ENCRYPT, MAC or
+    RECIPIENT."""
+    return _written(_library.coset_recipient_structure, _kind(holder), *_bytes(data), *_bytes(external_aad))
+
+
+def countersign_structure(kind, data, label, signer=b"", external_aad=b"", detached=None):
+    """Returns the structure that a countersignature of a message, a signature or a recipient signs.
+
+    `label` is 7, or 9 for an abbreviated countersignature (RFC 8152, section 4.5 and appendix A.2); or 11, or 12 for
+    an abbreviated one (RFC 9338, section 2). `signer` is the content of the countersignature's own protected header.
+    An abbreviated countersignature has none. The structure's payload is the payload, ciphertext or signature that
+    the item carries. If the item carries none, it is `detached`."""
+    given = *_bytes(data), _int64(label), *_bytes(signer), *_bytes(external_aad)
+    content = _bytes(b"" if detached is None else detached)
+    return _written(_library.coset_countersign_structure, _kind(kind), *given, detached is not None, *content)
+
+
+class _Room(threading.local):
+    """Memory for the structure, its length and the view of a message, and the addresses of these. A thread uses it for
+    all its calls."""
+
+    def __init__(self):
+        out, length, view = ctypes.create_string_buffer(4096), ctypes.c_size_t(), ctypes.create_string_buffer(ctypes.sizeof(_Spans))
+        self.parts = memoryview(out).cast("B"), length, view, *map(ctypes.addressof, (out, length, view))
+
+
+_room = _Room()
+_numbers = struct.Struct("@qIIIIIIINNNNNNN").unpack_from  # those of _Spans
+_message_spans, _made = _library.coset_message_spans, tuple.__new__
+
+
+def _seen(shape, kind, data, index, critical, external_aad, detached):
+    """Returns a Message or a Sign1, as `shape` says. A Sign1 has `has_critical` in place of `critical`."""
+    if kind not in _KINDS:
+        _kind(kind)
+    data, data_len = (data, len(data)) if type(data) is bytes else _bytes(data)
+    aad, aad_len = (external_aad, len(external_aad)) if type(external_aad) is bytes else _bytes(external_aad)
+    content, content_len = (b"", 0) if detached is None else _bytes(detached)
+    known = (ctypes.c_int64 * len(critical))(*map(_int64, critical)) if critical else None
+    out, length, view, out_at, length_at, view_at = _room.parts
+    # The structure has all arguments once, with heads. Texts that have no place in the message may follow it.
+    room, needed = 4096, 2 * data_len + aad_len + content_len + 128
+    while True:
+        if needed > room:
+            held = ctypes.create_string_buffer(needed)
+            out, out_at, room = memoryview(held).cast("B"), ctypes.addressof(held), needed
+        status = _message_spans(
+            kind, data, data_len, index, aad, aad_len, detached is not None, content, content_len, known, len(critical),
+            out_at, room, length_at, view_at,
+        )
+        if status != _SHORT:
+            break
+        needed = length.value
+    if status != _OK:
+        _raise(status)
+    algorithm, form, key_id_map, labels, is_tagged, is_proof, is_held, is_key, signed, at, n, held_at, held_n, key_at, key_n = _numbers(view)
+    proof = held = key = data
+    if not (is_proof and is_held and is_key):
+        text = out[: length.value].tobytes()
+        proof, held, key = (data if is_input else text for is_input in (is_proof, is_held, is_key))
+    return _made(shape, (
+        algorithm if form == INT else None, form, key_id_map or None, labels if shape is Message else labels != NONE, is_tagged != 0,
+        out[:signed].tobytes(), proof[at : at + n], held[held_at : held_at + held_n], key[key_at : key_at + key_n],
+    ))
+
+
+def sign1(kind, data, external_aad=b"", detached=None):
+    """Returns everything that verifying a message with one signature takes: a Sign1. `kind` is SIGN1, with TAGGED,
+    EITHER or neither added. The payload is the one that the message carries. If the message carries none, it is
+    `detached`; else `detached` is None."""
+    if kind & 0xFF != SIGN1:
+        raise Misuse("a kind of another call")
+    return _seen(Sign1, kind, data, 0, (), external_aad, detached)
+
+
+def message(kind, data, index=0, critical=(), external_aad=b"", detached=None):
+    """Returns everything that verifying or decrypting a message takes: a Message. For a message with signers, it is for
+    the signer at `index`. The payload is the one that the message carries. If the message carries none, it is
+    `detached`; else `detached` is None. `critical` are the critical labels that the caller understands."""
+    return _seen(Message, kind, data, _size(index), critical, external_aad, detached)
+
+
+def _asked(found, algorithms, proof):
+    """Returns the question about a message with this proof, or raises an error if the message isn't allowed."""
+    if found.critical == NOT_UNDERSTOOD:
+        raise Critical("a label that must be understood isn't")
+    if found.algorithm is None or found.algorithm not in algorithms:
+        raise NotAllowed("the algorithm isn't one that is allowed")
+    return Question(found.algorithm, found.key_id if found.key_id_map else None, found.key_id_map, found.input, proof)
+
+
+def verify(kind, data, algorithms, verify, index=0, critical=(), external_aad=b"", detached=None):
+    """Returns the payload of a message with signatures or a MAC, after `verify` said yes. `kind` is SIGN1, SIGN, MAC0
+    or MAC, with TAGGED, EITHER or neither added.
+
+    `verify` returns True if the question's proof is a signature or MAC of its input, by a key that the caller trusts
+    for that algorithm. `algorithms` are those that are allowed. `critical` are the critical labels that the caller
+    understands, and acts on. For a message with signers, the question is about the signer at `index`. The caller
+    decides which signers are enough."""
+    if _kind(kind) & 0xFF not in (SIGN1, SIGN, MAC0, MAC):
+        raise Misuse("a kind without a signature or a tag")
+    found = message(kind, data, index, critical, external_aad, detached)
+    if verify(_asked(found, algorithms, found.proof)) is not True:
+        raise Refused("the signature or the tag is refused")
+    return found.content if detached is None else bytes(detached)
+
+
+def _found(call, *arguments):
+    """Returns the result of the call, or None if it raises Absent."""
+    try:
+        return call(*arguments)
+    except Absent:
+        return None
+
+
+def decrypt(kind, data, algorithms, decrypt, critical=(), external_aad=b"", detached=None):
+    """Returns the plaintext of an ENCRYPT0, with TAGGED, EITHER or neither added.
+
+    `decrypt` receives the question, whose proof is the ciphertext, and the IV, label 5 of the headers, or None. It
+    returns the plaintext, or None if the ciphertext isn't authentic by a key that the caller trusts. The other
+    arguments are those of `verify`."""
+    if _kind(kind) & 0xFF != ENCRYPT0:
+        raise Misuse("a kind of another call")
+    found = message(kind, data, 0, critical, external_aad)
+    ivs = [_found(label_bytes, kind, data, which, 5) for which in (IN_PROTECTED, IN_UNPROTECTED)]
+    carried = _found(part, kind, data, CIPHERTEXT)
+    if carried is not None and detached is not None:
+        raise Misuse("a ciphertext that the message carries and that is given too")
+    if carried is None and detached is None:
+        raise Absent("the ciphertext is detached")
+    question = _asked(found, algorithms, bytes(detached) if carried is None else carried)
+    plain = decrypt(question, ivs[1] if ivs[0] is None else ivs[0])
+    if plain is None:
+        raise Refused("the ciphertext is refused")
+    return plain
+
+
+def _integers(numbers):
+    """Returns the integers as an array, and their number."""
+    return (ctypes.c_int64 * len(numbers))(*map(_int64, numbers)), len(numbers)
+
+
+def _layer(view, text):
+    """Returns the layer that waits."""
+    texts, start = [], 0
+    for length in (view.structure_len, view.proof_len, view.key_id_len, view.iv_len, view.partial_iv_len):
+        texts.append(text[start : start + length])
+        start += length
+    structure, proof, key_id, iv, partial_iv = texts
+    return Layer(view.form, view.algorithm, key_id or None, view.key_id_map, structure, proof, iv or None, partial_iv or None)
+
+
+def token_claims(data, now, opener, signatures=(), macs=(), ciphers=(), critical=(), issuer=None, audience=None, leeway=0, max_age=None,
+                 plain=SIGN1, authenticated_by=0, leaves_out=False, may_not_expire=False, may_be_issued_later=False):
+    """Returns the claims of a web token at `now`, in seconds since 1970 began in UTC: a CLAIMS.
+
+    `opener` is called with each Layer, and must accept it. For a signature or a MAC by a key that the caller trusts
+    for that algorithm it returns True. For an ENCRYPT0 it returns the plaintext, or None if the ciphertext isn't
+    authentic by such a key. `signatures`, `macs` and `ciphers` are the algorithms that are allowed in signatures, in
+    MACs and in encryption. The other arguments are those of coset_rules in the header. If the token is refused, this
+    raises NotAllowed, Critical, Refused, or NotLetIn with the reason."""
+    names = [None if name is None else name.encode() for name in (issuer, audience)]
+    flags = [max_age is not None, plain, authenticated_by, leaves_out, may_not_expire, may_be_issued_later, *(name is not None for name in names)]
+    seconds = [leeway, max_age or 0]
+    if any(not 0 <= number < 1 << 64 for number in seconds):
+        raise OverflowError("a number of seconds that is negative or too large")
+    rules = _Rules(ctypes.sizeof(_Rules), *seconds, *map(_number, map(int, flags)))
+    given = [it for numbers in (signatures, macs, ciphers, critical) for it in _integers(numbers)]
+    given += [it for text in (*(name or b"" for name in names), data) for it in _bytes(text)]
+    layers, known, view = [], b"", _Layer()
+    length, room = ctypes.c_size_t(), 2 * len(data) + 256
+    while True:
+        out = ctypes.create_string_buffer(room)
+        status = _library.coset_token_claims(ctypes.byref(rules), *given, _int64(now), (_Opened * len(layers))(*layers), len(layers),
+                                             known, len(known), out, room, ctypes.byref(length), ctypes.byref(view))
+        if status == _SHORT:
+            room = length.value
+            continue
+        text = ctypes.string_at(out, length.value)
+        if status != _LAYER:
+            _raise(status)
+            return text
+        layer = _layer(view, text)
+        said = opener(layer)
+        if said is not True if layer.form != ENCRYPT0 else said is None:
+            raise Refused("the signature, the MAC or the ciphertext is refused")
+        plaintext = bytes(said) if layer.form == ENCRYPT0 else b""
+        handed, start = layer.input + layer.proof, len(known)
+        layers.append(_Opened(view.form, start, view.structure_len, view.proof_len, start + len(handed), len(plaintext)))
+        known += handed + plaintext
+
+
+def version():
+    """Returns the version of the library, followed by ` (unproved)` if it was built without a proof."""
+    return _library.coset_version().decode()
+
+
+def status_text(status):
+    """Returns a few words for a status of the header."""
+    return _library.coset_status_text(status).decode()
+
+
+def put(kind, data, name, value):
+    """Returns the header, key or claims set, which may be empty, with one more pair at its end. The pair is an integer
+    label, and an int, a str, or bytes. True and False are no integers of CBOR: `put_encoded` takes them, as b"\xf5"
+    and b"\xf4"."""
+    if isinstance(value, bool):
+        raise TypeError("True and False are no integers of CBOR: put_encoded takes their encodings")
+    given = _kind(kind), *_bytes(data), _int64(name)
+    if isinstance(value, int):
+        return _written(_library.coset_put_int, *given, _int64(value))
+    if isinstance(value, str):
+        return _written(_library.coset_put_text, *given, *_bytes(value.encode()))
+    return _written(_library.coset_put_bytes, *given, *_bytes(value))
+
+
+def put_encoded(kind, data, name, value):
+    """Returns such a map with one more pair: a label, an int or a str, and a value as its encoding, one item of
+    CBOR."""
+    if isinstance(name, str):
+        return _written(_library.coset_put_text_label, _kind(kind), *_bytes(data), *_bytes(name.encode()), *_bytes(value))
+    return _written(_library.coset_put, _kind(kind), *_bytes(data), _int64(name), *_bytes(value))
+
+
+class Encoded(bytes):
+    """A value for `put_all` as its encoding, one item of CBOR."""
+
+    __slots__ = ()
+
+
+def _part(data, parts):
+    """Appends the bytes to the parts. Returns their offset and their number."""
+    at = len(parts)
+    parts += data
+    return at, len(parts) - at
+
+
+def _pair(name, value, parts):
+    """Returns the struct of a pair, and appends its texts and bytes to the parts."""
+    pair = _Pair()
+    if isinstance(name, str):
+        pair.label_form, (pair.label_at, pair.label_len) = TEXT, _part(name.encode(), parts)
+    else:
+        pair.label_form, pair.label = INT, _int64(name)
+    if isinstance(value, bool):
+        raise TypeError("True and False are no integers of CBOR: Encoded takes their encodings")
+    if isinstance(value, int):
+        pair.value_form, pair.value = INT, _int64(value)
+    elif isinstance(value, str):
+        pair.value_form, (pair.value_at, pair.value_len) = TEXT, _part(value.encode(), parts)
+    else:
+        form = ENCODED if isinstance(value, Encoded) else BYTES
+        pair.value_form, (pair.value_at, pair.value_len) = form, _part(memoryview(value), parts)
+    return pair
+
+
+def put_all(kind, data, pairs):
+    """Returns the header, key or claims set, which may be empty, with these pairs at its end, in order, in one call.
+    `pairs` is a dict, or labels with values. A label is an int or a str. A value is an int, a str, bytes, or
+    Encoded, one item of CBOR."""
+    parts = bytearray()
+    told = [_pair(name, value, parts) for name, value in (pairs.items() if isinstance(pairs, dict) else pairs)]
+    return _written(_library.coset_put_all, _kind(kind), *_bytes(data), (_Pair * len(told))(*told), len(told), *_bytes(parts))
+
+
+def structure_of(kind, protected, content=b"", signer=b"", external_aad=b""):
+    """Does the same as `structure` for a message that isn't made yet. `protected` is its protected header. `content` is
+    the payload; a structure that goes with a ciphertext has none. `signer` is the signer's protected header, for
+    SIGN alone."""
+    return _written(
+        _library.coset_structure_of, _kind(kind), *_bytes(protected), *_bytes(signer), *_bytes(external_aad), *_bytes(content)
+    )
+
+
+def recipient_structure_of(holder, protected, external_aad=b""):
+    """Does the same as `recipient_structure` for a recipient that isn't made yet, from its protected header."""
+    return _written(_library.coset_recipient_structure_of, _kind(holder), *_bytes(protected), *_bytes(external_aad))
+
+
+def make(kind, protected, unprotected, content=None, proof=b""):
+    """Makes a message, a signature or a recipient from its headers, its content, and its signature or tag. The content
+    is the payload or the ciphertext, or None if that is detached. A message with signers or recipients is made
+    without them."""
+    held = _bytes(b"" if content is None else content)
+    return _written(
+        _library.coset_make, _kind(kind), *_bytes(protected), *_bytes(unprotected), content is not None, *held, *_bytes(proof)
+    )
+
+
+def add(kind, data, item):
+    """Returns the item with one more signature, recipient, key or element at the end. A set of keys or an array may
+    begin with no bytes."""
+    return _written(_library.coset_add, _kind(kind), *_bytes(data), *_bytes(item))
+
+
+def write(kind, data):
+    """Returns the item in its shortest encoding."""
+    return _written(_library.coset_write, _kind(kind), *_bytes(data))
+
+
+def canonical_key(order, data):
+    """Returns the key in its shortest encoding, with its labels in this order: LEXICOGRAPHIC or LENGTH_FIRST."""
+    return _written(_library.coset_canonical_key, _number(order), *_bytes(data))

@@ -1,0 +1,329 @@
+//! Makes the calls that it reads through the safe wrapper, as `c/wrappers/c/calls.c` does, and prints
+//! their results (`tools/c`). A result is `ok` and a value, or the error.
+
+mod coset;
+mod issue;
+mod verify;
+
+use coset::{
+    Algorithm, Authentication, Countersignature, Critical, Entry, Error, Form, Kind, Label, Layer, Map, Order, Part, Policy, Question, TokenForm, TokenPolicy,
+};
+use std::io::BufRead;
+
+fn form(word: &str) -> Form {
+    match word.parse::<u32>().unwrap() & !0xff {
+        0 => Form::Plain,
+        0x100 => Form::Tagged,
+        _ => Form::Either,
+    }
+}
+
+fn kind(word: &str) -> Kind {
+    let form = form(word);
+    match word.parse::<u32>().unwrap() & 0xff {
+        1 => Kind::Sign1(form),
+        2 => Kind::Sign(form),
+        3 => Kind::Mac0(form),
+        4 => Kind::Mac(form),
+        5 => Kind::Encrypt0(form),
+        6 => Kind::Encrypt(form),
+        7 => Kind::Signature,
+        8 => Kind::Recipient,
+        9 => Kind::Header,
+        10 => Kind::Key,
+        11 => Kind::KeySet,
+        13 => Kind::Item,
+        14 => Kind::KdfContext,
+        _ => Kind::Claims,
+    }
+}
+
+fn part(word: &str) -> Part {
+    [Part::Protected, Part::Payload, Part::Ciphertext, Part::Proof][word.parse::<usize>().unwrap() - 1]
+}
+
+fn map(word: &str) -> Map {
+    [Map::InProtected, Map::InUnprotected, Map::InItem][word.parse::<usize>().unwrap() - 1]
+}
+
+fn countersignature(word: &str) -> Countersignature {
+    match word {
+        "7" => Countersignature::Full,
+        "9" => Countersignature::Abbreviated,
+        "11" => Countersignature::FullV2,
+        _ => Countersignature::AbbreviatedV2,
+    }
+}
+
+fn order(word: &str) -> Order {
+    if word == "1" { Order::Lexicographic } else { Order::LengthFirst }
+}
+
+fn text(word: &str) -> String {
+    String::from_utf8(bytes(word)).unwrap()
+}
+
+fn bytes(word: &str) -> Vec<u8> {
+    let word = if word == "-" { "" } else { word };
+    (0..word.len() / 2).map(|i| u8::from_str_radix(&word[2 * i..2 * i + 2], 16).unwrap()).collect()
+}
+
+fn hex(bytes: &[u8]) -> String {
+    bytes.iter().map(|b| format!("{b:02x}")).collect()
+}
+
+/// Returns the result of a call that makes an item.
+fn made(w: &[&str]) -> Result<Vec<u8>, Error> {
+    let (k, input, label) = (kind(w[1]), bytes(w[2]), w.get(4).and_then(|word| word.parse().ok()).unwrap_or(0));
+    match w[0] {
+        "put" => coset::put(k, &input, label, Entry::Encoded(&bytes(w[5]))),
+        "put_bytes" => coset::put(k, &input, label, Entry::Bytes(&bytes(w[5]))),
+        "put_text" => coset::put(k, &input, label, Entry::Text(&text(w[5]))),
+        "put_int" => coset::put(k, &input, label, Entry::Int(w[5].parse().unwrap())),
+        "put_text_label" => coset::put_text_label(k, &input, &text(w[4]), &bytes(w[5])),
+        "structure_of" => coset::structure_of(k, &input, &bytes(w[4]), &bytes(w[5]), &bytes(w[6])),
+        "recipient_structure_of" => coset::recipient_structure_of(k, &input, &bytes(w[4])),
+        "make" => coset::make(k, &input, &bytes(w[4]), (w[5] != "0").then_some(&bytes(w[6])), &bytes(w[7])),
+        "put_all" => put_all(k, &input, w[4]),
+        "add" => coset::add(k, &input, &bytes(w[4])),
+        "write" => coset::write(k, &input),
+        "canonical_key" => coset::canonical_key(order(w[1]), &input),
+        call => panic!("{call}"),
+    }
+}
+
+/// Returns the token for the words of `issued`.
+fn issued(w: &[&str]) -> Result<String, Error> {
+    let (issuer, subject, audience, id) = (text(w[4]), text(w[5]), text(w[6]), bytes(w[7]));
+    let time = |place: usize| Entry::Int(w[place].parse().unwrap());
+    let claims = [
+        (1, Entry::Text(&issuer)),
+        (2, Entry::Text(&subject)),
+        (3, Entry::Text(&audience)),
+        (4, time(8)),
+        (5, time(9)),
+        (6, time(10)),
+        (7, Entry::Bytes(&id)),
+    ];
+    let token = issue::issued(&claims, &bytes(w[2]), |signed| (hex(signed) == w[11]).then(|| bytes(w[12])))?;
+    Ok(token.map_or("no".to_string(), |token| hex(&token)))
+}
+
+/// Returns the result of `sign1`: its texts one after another, and the numbers of the view that
+/// `coset_sign1` gives.
+fn told(w: &[&str]) -> Result<String, Error> {
+    let content = bytes(w[6]);
+    let m = coset::sign1(form(w[1]), &bytes(w[2]), &bytes(w[4]), (w[5] != "0").then_some(content.as_slice()))?;
+    let (number, named) = match m.algorithm {
+        Algorithm::Absent => (0, 0),
+        Algorithm::Int(number) => (number, 1),
+        Algorithm::Text => (0, 2),
+    };
+    let map = m.key_id_map.map_or(0, |map| map as u32);
+    let lengths = [m.signed.len(), m.signature.len(), m.payload.len(), m.key_id.len()].map(|n| n.to_string()).join(" ");
+    let texts = hex(&[m.signed, m.signature, m.payload, m.key_id].concat());
+    Ok(format!("{texts} {number} {named} {map} {} {} {lengths}", u32::from(m.has_critical), u32::from(m.is_tagged)))
+}
+
+/// Returns the integers of a word, which has commas between them.
+fn integers(word: &str) -> Vec<i64> {
+    word.split(',').filter_map(|number| number.parse().ok()).collect()
+}
+
+/// Returns the map with the pairs of `put_all`'s word added.
+fn put_all(k: Kind, input: &[u8], word: &str) -> Result<Vec<u8>, Error> {
+    let held: Vec<(String, Vec<u8>, &str, Vec<u8>)> = word
+        .split(',')
+        .filter_map(|pair| pair.split_once('='))
+        .map(|(label, value)| {
+            let label_text = if label.starts_with('t') { text(&label[1..]) } else { String::new() };
+            let value_bytes = if value.starts_with('i') { Vec::new() } else { bytes(&value[1..]) };
+            (label_text, label.as_bytes().to_vec(), value, value_bytes)
+        })
+        .collect();
+    let pairs: Vec<(Label<'_>, Entry<'_>)> = held
+        .iter()
+        .map(|(label_text, label, value, held)| {
+            let label = match label[0] {
+                b'i' => std::str::from_utf8(&label[1..]).unwrap().parse::<i64>().unwrap().into(),
+                _ => label_text.as_str().into(),
+            };
+            let value = match value.as_bytes()[0] {
+                b'i' => Entry::Int(value[1..].parse().unwrap()),
+                b't' => Entry::Text(std::str::from_utf8(held).unwrap()),
+                b'b' => Entry::Bytes(held),
+                _ => Entry::Encoded(held),
+            };
+            (label, value)
+        })
+        .collect();
+    coset::put_all(k, input, &pairs)
+}
+
+/// Returns the result of `message_lent`, in the same form as `message`.
+fn spans(w: &[&str]) -> Result<String, Error> {
+    let (aad, content, known) = (bytes(w[5]), bytes(w[7]), integers(w[8]));
+    let detached = (w[6] != "0").then_some(content.as_slice());
+    let policy = Policy { algorithms: &[], critical: &known, external_aad: &aad, detached };
+    let input = bytes(w[2]);
+    let m = coset::message_lent(kind(w[1]), &input, w[4].parse().unwrap(), &policy)?;
+    let (number, named) = match m.algorithm {
+        Algorithm::Absent => (0, 0),
+        Algorithm::Int(number) => (number, 1),
+        Algorithm::Text => (0, 2),
+    };
+    let map = m.key_id_map.map_or(0, |map| map as u32);
+    let lengths = [m.input.len(), m.proof.len(), m.content.len(), m.key_id.len()].map(|n| n.to_string()).join(" ");
+    let texts = hex(&[&m.input, &*m.proof, &*m.content, &*m.key_id].concat());
+    Ok(format!("{texts} {number} {named} {map} {} {} {lengths}", m.critical as u32, u32::from(m.is_tagged)))
+}
+
+/// Returns the result of `message`, in the same form as `told`.
+fn message(w: &[&str]) -> Result<String, Error> {
+    let (aad, content, known) = (bytes(w[5]), bytes(w[7]), integers(w[8]));
+    let detached = (w[6] != "0").then_some(content.as_slice());
+    let policy = Policy { algorithms: &[], critical: &known, external_aad: &aad, detached };
+    let m = coset::message(kind(w[1]), &bytes(w[2]), w[4].parse().unwrap(), &policy)?;
+    let (number, named) = match m.algorithm {
+        Algorithm::Absent => (0, 0),
+        Algorithm::Int(number) => (number, 1),
+        Algorithm::Text => (0, 2),
+    };
+    let map = m.key_id_map.map_or(0, |map| map as u32);
+    let critical = match m.critical {
+        Critical::Absent => 0,
+        Critical::Understood => 1,
+        Critical::NotUnderstood => 2,
+    };
+    let lengths = [m.input.len(), m.proof.len(), m.content.len(), m.key_id.len()].map(|n| n.to_string()).join(" ");
+    let texts = hex(&[m.input, m.proof, m.content, m.key_id].concat());
+    Ok(format!("{texts} {number} {named} {map} {critical} {} {lengths}", u32::from(m.is_tagged)))
+}
+
+/// Returns the result of `verify` or `decrypt`, as calls.c describes it.
+fn safe(w: &[&str]) -> Result<String, Error> {
+    let (aad, content, algorithms, known) = (bytes(w[5]), bytes(w[7]), integers(w[8]), integers(w[9]));
+    let detached = (w[6] != "0").then_some(content.as_slice());
+    let policy = Policy { algorithms: &algorithms, critical: &known, external_aad: &aad, detached };
+    let (k, input) = (kind(w[1]), bytes(w[2]));
+    let is_asked = |q: &Question<'_>| {
+        let asked = [hex(q.input), hex(q.proof), hex(q.key_id.unwrap_or_default())];
+        q.key_id.is_some() == q.key_id_map.is_some() && asked == [10, 11, 12].map(|i| hex(&bytes(w[i])))
+    };
+    let answer = match k {
+        Kind::Encrypt0(form) => coset::decrypt(form, &input, &policy, |q, iv| {
+            let plain = q.proof.iter().map(|byte| byte ^ 0x5a);
+            is_asked(q).then(|| iv.unwrap_or_default().iter().copied().chain(plain).collect())
+        }),
+        _ => coset::verify(k, &input, w[4].parse().unwrap(), &policy, is_asked),
+    };
+    Ok(hex(&answer?))
+}
+
+/// Returns the result of `token_claims` and the questions that it asked, as calls.c describes them.
+fn token(w: &[&str]) -> Result<String, Error> {
+    let numbers: Vec<u64> = w[5].split(',').map(|number| number.parse().unwrap()).collect();
+    let lists = [6, 7, 8, 9].map(|place| integers(w[place]));
+    let names = [10, 11].map(|place| text(w[place]));
+    let named = |flag: usize, place: usize| (numbers[flag] != 0).then_some(names[place].as_str());
+    let policy = TokenPolicy {
+        signatures: &lists[0],
+        macs: &lists[1],
+        ciphers: &lists[2],
+        critical: &lists[3],
+        plain: [TokenForm::Sign1, TokenForm::Sign1, TokenForm::Sign1, TokenForm::Mac0, TokenForm::Mac0, TokenForm::Encrypt0][numbers[3] as usize],
+        authenticated_by: [Authentication::SignatureOrMac, Authentication::BySignature, Authentication::ByAny][numbers[4] as usize],
+        leaves_out: numbers[5] != 0,
+        may_not_expire: numbers[6] != 0,
+        may_be_issued_later: numbers[7] != 0,
+        max_age: (numbers[2] != 0).then_some(numbers[1]),
+        leeway: numbers[0],
+        issuer: named(8, 0),
+        audience: named(9, 1),
+    };
+    let mut answers = w[12].split(',');
+    let (mut asked, mut heard) = (String::new(), Vec::new());
+    let opener = |layer: &Layer<'_>| {
+        asked += &hex(layer.proof);
+        asked += &hex(layer.input);
+        let map = layer.key_id_map.map_or(0, |map| map as u32);
+        let texts = [layer.key_id, layer.iv, layer.partial_iv].map(|text| hex(text.unwrap_or_default())).join("/");
+        heard.push(format!("{}/{}/{map}/{texts}", layer.form as u32, layer.algorithm));
+        match answers.next() {
+            None | Some("no") => None,
+            Some("yes") => Some(Vec::new()),
+            Some(plaintext) => Some(bytes(plaintext)),
+        }
+    };
+    let claims = coset::token_claims(&bytes(w[2]), w[4].parse().unwrap(), &policy, opener)?;
+    Ok(format!("{} {} {asked} {}", hex(&claims), heard.len(), heard.join(",")))
+}
+
+/// Returns the place of a part of the input.
+fn span(range: std::ops::Range<usize>) -> String {
+    format!("{} {}", range.start, range.len())
+}
+
+fn answer(w: &[&str]) -> Result<String, Error> {
+    match w[0] {
+        "token" => return token(w),
+        "message" => return message(w),
+        "spans" => return spans(w),
+        "safe" => return safe(w),
+        "text" => return Ok(format!("{}: {}", coset::version(), coset::status_text(w[1].parse().unwrap()))),
+        _ => {}
+    }
+    if w[0] == "issued" {
+        return issued(w);
+    }
+    if w[0] == "sign1" {
+        return told(w);
+    }
+    let (k, input) = (kind(w[1]), bytes(w[2]));
+    Ok(match w[0] {
+        "check" => coset::check(k, &input).map(|()| String::new()).map_err(|f| f.error)?,
+        "count" => coset::count(k, &input)?.to_string(),
+        "part" => hex(&coset::part(k, &input, part(w[4]))?),
+        "member" => hex(&coset::member(k, &input, w[4].parse().unwrap())?),
+        "label" => hex(&coset::label(k, &input, map(w[4]), w[5].parse().unwrap())?),
+        "label_at" => hex(&coset::label_at(k, &input, w[4].parse().unwrap())?),
+        "value_at" => hex(&coset::value_at(k, &input, w[4].parse().unwrap())?),
+        "member_span" => span(coset::member_span(k, &input, w[3].parse().unwrap())?),
+        "label_span" => span(coset::label_span(k, &input, map(w[3]), w[4].parse().unwrap())?),
+        "item_span" => span(coset::item_span(&input, w[3].parse().unwrap())?),
+        "string_span" => span(coset::string_span(&input)?),
+        "integer" => coset::integer(&input)?.to_string(),
+        "pair_spans" => {
+            let (label, value) = coset::pair_spans(k, &input, w[3].parse().unwrap())?;
+            format!("{} {}", span(label), span(value))
+        }
+        "key_of" => hex(&coset::key_of(&input, &bytes(w[4]))?),
+        "label_bytes" => hex(&coset::label_bytes(k, &input, map(w[4]), w[5].parse().unwrap())?),
+        "label_int" => coset::label_int(k, &input, map(w[3]), w[4].parse().unwrap())?.to_string(),
+        "text_label" => hex(&coset::text_label(k, &input, map(w[4]), &String::from_utf8(bytes(w[5])).unwrap())?),
+        "structure" => {
+            let (aad, content) = (bytes(w[5]), bytes(w[7]));
+            hex(&coset::structure(k, &input, w[4].parse().unwrap(), &aad, (w[6] != "0").then_some(content.as_slice()))?)
+        }
+        "recipient_structure" => hex(&coset::recipient_structure(k, &input, &bytes(w[4]))?),
+        "countersign_structure" => {
+            let (signer, aad, content) = (bytes(w[5]), bytes(w[6]), bytes(w[8]));
+            let detached = (w[7] != "0").then_some(content.as_slice());
+            hex(&coset::countersign_structure(k, &input, countersignature(w[4]), &signer, &aad, detached)?)
+        }
+        "verified" => hex(&verify::verified(&input, |q| {
+            [q.algorithm.to_string(), hex(q.key_id.unwrap_or_default()), hex(q.input), hex(q.proof)] == [w[4], w[5], w[6], w[7]]
+        })?),
+        _ => hex(&made(w)?),
+    })
+}
+
+fn main() {
+    for line in std::io::stdin().lock().lines() {
+        let line = line.unwrap();
+        match answer(&line.split(' ').collect::<Vec<_>>()) {
+            Ok(answer) => println!("ok {answer}"),
+            Err(error) => println!("{error:?}"),
+        }
+    }
+}

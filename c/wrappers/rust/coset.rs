@@ -1,0 +1,1203 @@
+//! Safe Rust over `coset.h`: a file to copy into a program that links `libcoset.a`.
+//!
+//! The header and docs/C.md say what each call promises. The calls find out the lengths of their
+//! results.
+
+use std::borrow::Cow;
+use std::fmt;
+
+/// Whether a message is under its tag (RFC 8152, section 2).
+#[derive(Clone, Copy, Debug, PartialEq, Eq)]
+pub enum Form {
+    Plain,
+    Tagged,
+    Either,
+}
+
+/// The kind of item that the bytes should be.
+#[derive(Clone, Copy, Debug, PartialEq, Eq)]
+pub enum Kind {
+    Sign1(Form),
+    Sign(Form),
+    Mac0(Form),
+    Mac(Form),
+    Encrypt0(Form),
+    Encrypt(Form),
+    Signature,
+    Recipient,
+    Header,
+    Key,
+    KeySet,
+    Claims,
+    /// Any data item of CBOR.
+    Item,
+    /// The context of a key derivation: an array. Read its elements and make it as an `Item`.
+    KdfContext,
+}
+
+/// A part of an item.
+#[derive(Clone, Copy, Debug, PartialEq, Eq)]
+pub enum Part {
+    Protected = 1,
+    Payload = 2,
+    Ciphertext = 3,
+    Proof = 4,
+}
+
+/// A map of an item.
+#[derive(Clone, Copy, Debug, PartialEq, Eq)]
+pub enum Map {
+    InProtected = 1,
+    InUnprotected = 2,
+    InItem = 3,
+}
+
+/// An order of labels, by their encodings.
+#[derive(Clone, Copy, Debug, PartialEq, Eq)]
+pub enum Order {
+    /// By their bytes (RFC 8949, section 4.2.1).
+    Lexicographic = 1,
+    /// By their lengths, then by their bytes (RFC 8949, section 4.2.3; RFC 7049, section 3.9).
+    LengthFirst = 2,
+}
+
+/// The type of a countersignature, by its label.
+#[derive(Clone, Copy, Debug, PartialEq, Eq)]
+pub enum Countersignature {
+    /// `counter signature` (RFC 8152, section 4.5).
+    Full = 7,
+    /// `CounterSignature0`, the same without headers of its own (RFC 8152, appendix A.2).
+    Abbreviated = 9,
+    /// A full countersignature of version 2 (RFC 9338, sections 2 and 3.1).
+    FullV2 = 11,
+    /// An abbreviated countersignature of version 2 (RFC 9338, sections 2 and 3.2).
+    AbbreviatedV2 = 12,
+}
+
+/// A value of a map.
+#[derive(Clone, Copy, Debug, PartialEq)]
+pub enum Entry<'a> {
+    Int(i64),
+    Bytes(&'a [u8]),
+    Text(&'a str),
+    /// Any item, as its encoding.
+    Encoded(&'a [u8]),
+}
+
+/// A label of a map (RFC 8152, section 1.4).
+#[derive(Clone, Copy, Debug, PartialEq, Eq)]
+pub enum Label<'a> {
+    Int(i64),
+    Text(&'a str),
+}
+
+impl From<i64> for Label<'_> {
+    fn from(label: i64) -> Self {
+        Label::Int(label)
+    }
+}
+
+impl<'a> From<&'a str> for Label<'a> {
+    fn from(label: &'a str) -> Self {
+        Label::Text(label)
+    }
+}
+
+/// The algorithm that a protected header names (RFC 8152, section 3.1).
+#[derive(Clone, Copy, Debug, PartialEq, Eq)]
+pub enum Algorithm {
+    Absent,
+    Int(i64),
+    Text,
+}
+
+/// Everything that verifying a message with one signature takes.
+///
+/// Before you use the payload, verify the signature over `signed`, by a key that you trust and an
+/// algorithm that you allow for it. Refuse a message that has `crit`.
+#[derive(Clone, Debug, PartialEq, Eq)]
+pub struct Sign1 {
+    /// The algorithm that the protected header names.
+    pub algorithm: Algorithm,
+    /// The header that has the key identifier: the protected one, else the unprotected one, which
+    /// isn't signed.
+    pub key_id_map: Option<Map>,
+    /// Whether either header has `crit`: labels that must be understood.
+    pub has_critical: bool,
+    /// Whether the message is under its tag.
+    pub is_tagged: bool,
+    /// The structure that is signed.
+    pub signed: Vec<u8>,
+    pub signature: Vec<u8>,
+    /// The payload that the message carries, which is the signed one. Empty if it is detached.
+    pub payload: Vec<u8>,
+    /// The key identifier. Empty if there is none.
+    pub key_id: Vec<u8>,
+}
+
+/// The state of `crit`: labels that must be understood.
+#[derive(Clone, Copy, Debug, PartialEq, Eq)]
+pub enum Critical {
+    Absent,
+    /// Only the protected header has `crit`, and the caller understands each label in it. Whether
+    /// the header has these labels isn't checked.
+    Understood,
+    /// The unprotected header has `crit`, or the caller doesn't understand a label.
+    NotUnderstood,
+}
+
+/// Everything that verifying or decrypting a message takes. It is like [`Sign1`], but for any
+/// message.
+///
+/// For a message with signers, the headers and the signature are those of one signer.
+#[derive(Clone, Debug, PartialEq, Eq)]
+pub struct Message {
+    pub algorithm: Algorithm,
+    pub key_id_map: Option<Map>,
+    pub critical: Critical,
+    pub is_tagged: bool,
+    /// The structure that is signed, authenticated, or goes with the ciphertext.
+    pub input: Vec<u8>,
+    /// The signature or the tag. Empty for an encrypted message.
+    pub proof: Vec<u8>,
+    /// The payload or ciphertext that the message carries. Empty if it is detached.
+    pub content: Vec<u8>,
+    pub key_id: Vec<u8>,
+}
+
+/// The same as [`Message`], with the message's own texts borrowed from it.
+///
+/// All texts are copied if the message has a list of signatures, critical labels, or a string in
+/// chunks.
+#[derive(Clone, Debug, PartialEq, Eq)]
+pub struct LentMessage<'a> {
+    pub algorithm: Algorithm,
+    pub key_id_map: Option<Map>,
+    pub critical: Critical,
+    pub is_tagged: bool,
+    /// The structure that is signed, authenticated, or goes with the ciphertext.
+    pub input: Vec<u8>,
+    /// The signature or the tag. Empty for an encrypted message.
+    pub proof: Cow<'a, [u8]>,
+    /// The payload or ciphertext that the message carries. Empty if it is detached.
+    pub content: Cow<'a, [u8]>,
+    pub key_id: Cow<'a, [u8]>,
+}
+
+/// The caller's requirements for a message. The default accepts nothing.
+#[derive(Clone, Copy, Debug, Default)]
+pub struct Policy<'a> {
+    /// The algorithms that are allowed.
+    pub algorithms: &'a [i64],
+    /// The critical labels that the caller understands, and acts on.
+    pub critical: &'a [i64],
+    pub external_aad: &'a [u8],
+    /// The payload or the ciphertext, if the message carries none.
+    pub detached: Option<&'a [u8]>,
+}
+
+/// The question that the caller's function answers.
+#[derive(Clone, Copy, Debug)]
+pub struct Question<'a> {
+    /// One of the allowed algorithms.
+    pub algorithm: i64,
+    /// `None` if the message names no key.
+    pub key_id: Option<&'a [u8]>,
+    /// The header that has the key identifier: the protected one, else the unprotected one, which
+    /// isn't signed.
+    pub key_id_map: Option<Map>,
+    /// The structure that is signed, authenticated, or goes with the ciphertext.
+    pub input: &'a [u8],
+    /// The signature or the tag. For [`decrypt`] the ciphertext.
+    pub proof: &'a [u8],
+}
+
+/// The form of a layer of a web token.
+#[derive(Clone, Copy, Debug, PartialEq, Eq)]
+pub enum TokenForm {
+    /// `COSE_Sign1`: is the proof a signature of the input?
+    Sign1 = 1,
+    /// `COSE_Mac0`: is the proof a MAC of the input?
+    Mac0 = 3,
+    /// `COSE_Encrypt0`: decrypt the proof, with the input as additional authenticated data.
+    Encrypt0 = 5,
+}
+
+/// The layers that authenticate the sender of a web token.
+#[derive(Clone, Copy, Debug, PartialEq, Eq)]
+pub enum Authentication {
+    SignatureOrMac = 0,
+    BySignature = 1,
+    /// Any layer. An encrypted one authenticates those who share its key.
+    ByAny = 2,
+}
+
+/// A verifier's requirements for a web token.
+///
+/// The default accepts nothing, because it allows no algorithm. It has no leeway, and checks
+/// neither the age nor the issuer nor the audience.
+#[derive(Clone, Copy, Debug)]
+pub struct TokenPolicy<'a> {
+    /// The algorithms that are allowed in signatures.
+    pub signatures: &'a [i64],
+    /// The algorithms that are allowed in MACs.
+    pub macs: &'a [i64],
+    /// The algorithms that are allowed in encryption.
+    pub ciphers: &'a [i64],
+    /// The critical labels that the caller understands, and acts on.
+    pub critical: &'a [i64],
+    /// The form of a layer without a tag.
+    pub plain: TokenForm,
+    pub authenticated_by: Authentication,
+    /// True if claims with unassigned numbers are left out. Otherwise a token with such a claim is
+    /// refused.
+    pub leaves_out: bool,
+    pub may_not_expire: bool,
+    pub may_be_issued_later: bool,
+    /// The age in seconds at which a token is refused.
+    pub max_age: Option<u64>,
+    /// The number of seconds by which the clocks of issuer and verifier may differ.
+    pub leeway: u64,
+    /// The issuer and the audience that the claims must name, if there are any.
+    pub issuer: Option<&'a str>,
+    pub audience: Option<&'a str>,
+}
+
+impl Default for TokenPolicy<'_> {
+    fn default() -> Self {
+        TokenPolicy {
+            signatures: &[],
+            macs: &[],
+            ciphers: &[],
+            critical: &[],
+            plain: TokenForm::Sign1,
+            authenticated_by: Authentication::SignatureOrMac,
+            leaves_out: false,
+            may_not_expire: false,
+            may_be_issued_later: false,
+            max_age: None,
+            leeway: 0,
+            issuer: None,
+            audience: None,
+        }
+    }
+}
+
+/// The question that the caller's function answers for a layer of a web token.
+#[derive(Clone, Copy, Debug)]
+pub struct Layer<'a> {
+    pub form: TokenForm,
+    /// One of the allowed algorithms.
+    pub algorithm: i64,
+    /// `None` if the layer names no key.
+    pub key_id: Option<&'a [u8]>,
+    /// The header that has the key identifier: the protected one, else the unprotected one, which
+    /// isn't covered.
+    pub key_id_map: Option<Map>,
+    /// The structure that is signed, authenticated, or goes with the ciphertext.
+    pub input: &'a [u8],
+    /// The signature, the MAC or the ciphertext.
+    pub proof: &'a [u8],
+    /// The initialization vector and the partial one, each if there is one.
+    pub iv: Option<&'a [u8]>,
+    pub partial_iv: Option<&'a [u8]>,
+}
+
+/// The reason why a call failed.
+#[derive(Clone, Copy, Debug, PartialEq, Eq)]
+pub enum Error {
+    /// An allocation failed.
+    Memory,
+    /// The bytes end before the item does.
+    Ends,
+    /// The bytes aren't well-formed.
+    Malformed,
+    /// Arrays, maps and tags nest more than 256 levels deep.
+    Deep,
+    /// Bytes follow the item.
+    Extraneous,
+    /// An item isn't what its place requires.
+    Unexpected,
+    /// Two keys of a map are the same label.
+    Duplicate,
+    /// An integer is outside the range of its place.
+    OutOfRange,
+    /// An integer isn't registered, and its registry has no private range.
+    Unregistered,
+    /// An integer isn't registered, and is outside its registry's private range.
+    NotPrivate,
+    /// The bytes don't have the requested part. Or items of the kind, or the bytes that something
+    /// is added to, have no place for an argument.
+    Absent,
+    /// A payload is given as detached although the message carries one, or the call doesn't take
+    /// the kind.
+    Misuse,
+    /// The value is there, but isn't a string, or isn't an integer in the range of `i64`. From a
+    /// call that returns a place also: a string is in chunks.
+    Type,
+    /// The counted list is empty: verifying each of its signatures would verify none.
+    Empty,
+    /// The protected header doesn't name an allowed algorithm by its number.
+    NotAllowed,
+    /// A critical label isn't understood, or isn't protected.
+    Critical,
+    /// The caller's function said no.
+    Refused,
+    /// The token has more than four nested layers.
+    TooDeep,
+    /// No layer authenticates the sender of the token.
+    Unauthenticated,
+    /// The content of the innermost layer isn't a claims set.
+    NotClaims,
+    /// The token has no expiration time.
+    NoExpiration,
+    /// The token has expired.
+    Expired,
+    /// The token isn't valid yet.
+    NotYetValid,
+    /// The token is issued later than now.
+    IssuedLater,
+    /// The token has reached the greatest age, or has no time of issue.
+    TooOld,
+    /// The token has another issuer, or none.
+    Issuer,
+    /// The token has another audience, or none.
+    Audience,
+}
+
+impl fmt::Display for Error {
+    fn fmt(&self, f: &mut fmt::Formatter<'_>) -> fmt::Result {
+        f.write_str(match self {
+            Error::Memory => "out of memory",
+            Error::Ends => "the bytes end before the item does",
+            Error::Malformed => "the bytes aren't well-formed",
+            Error::Deep => "arrays, maps and tags nest too deep",
+            Error::Extraneous => "bytes follow the item",
+            Error::Unexpected => "an item isn't as its place asks",
+            Error::Duplicate => "two keys of a map are one label",
+            Error::OutOfRange => "an integer lies outside the range of its place",
+            Error::Unregistered => "an integer isn't registered",
+            Error::NotPrivate => "an integer isn't registered, nor for private use",
+            Error::Absent => "what is asked for isn't there, or what is given has no place",
+            Error::Misuse => "a kind of another call, or a payload that is given twice",
+            Error::Type => "what is asked for is there, and of another kind",
+            Error::Empty => "the list is empty",
+            Error::NotAllowed => "the algorithm isn't one that is allowed",
+            Error::Critical => "a label that must be understood isn't",
+            Error::Refused => "the signature, the tag or the ciphertext is refused",
+            Error::TooDeep => "too many layers are within one another",
+            Error::Unauthenticated => "no layer authenticates who sent the token",
+            Error::NotClaims => "what is in the token isn't a claims set",
+            Error::NoExpiration => "the token doesn't say when it expires",
+            Error::Expired => "the token has expired",
+            Error::NotYetValid => "the token isn't valid yet",
+            Error::IssuedLater => "the token is issued later than now",
+            Error::TooOld => "the token is too old",
+            Error::Issuer => "the token is of another issuer",
+            Error::Audience => "the token is for another audience",
+        })
+    }
+}
+
+impl std::error::Error for Error {}
+
+/// The reason why bytes aren't an item of a kind. `offset` is where they stop being one item of
+/// CBOR, if that is known.
+#[derive(Clone, Copy, Debug, PartialEq, Eq)]
+pub struct Fault {
+    pub error: Error,
+    pub offset: Option<usize>,
+}
+
+mod c {
+    /// `coset_sign1_view` of the header.
+    #[repr(C)]
+    #[derive(Default)]
+    pub struct View {
+        pub algorithm: i64,
+        pub algorithm_form: u32,
+        pub key_id_map: u32,
+        pub has_critical: u32,
+        pub is_tagged: u32,
+        pub structure_len: usize,
+        pub signature_len: usize,
+        pub payload_len: usize,
+        pub key_id_len: usize,
+    }
+
+    /// `coset_message_view` of the header.
+    #[repr(C)]
+    #[derive(Default)]
+    pub struct Message {
+        pub algorithm: i64,
+        pub algorithm_form: u32,
+        pub key_id_map: u32,
+        pub critical: u32,
+        pub is_tagged: u32,
+        pub structure_len: usize,
+        pub proof_len: usize,
+        pub content_len: usize,
+        pub key_id_len: usize,
+    }
+
+    /// `coset_message_spans_view` of the header.
+    #[repr(C)]
+    #[derive(Default)]
+    pub struct Spans {
+        pub algorithm: i64,
+        pub algorithm_form: u32,
+        pub key_id_map: u32,
+        pub critical: u32,
+        pub is_tagged: u32,
+        pub is_proof_in_input: u32,
+        pub is_content_in_input: u32,
+        pub is_key_id_in_input: u32,
+        pub structure_len: usize,
+        pub proof_at: usize,
+        pub proof_len: usize,
+        pub content_at: usize,
+        pub content_len: usize,
+        pub key_id_at: usize,
+        pub key_id_len: usize,
+    }
+
+    /// `coset_span` of the header.
+    #[repr(C)]
+    #[derive(Default)]
+    pub struct Span {
+        pub at: usize,
+        pub len: usize,
+    }
+
+    /// `coset_pair` of the header.
+    #[repr(C)]
+    #[derive(Default)]
+    pub struct Pair {
+        pub label_form: u32,
+        pub value_form: u32,
+        pub label: i64,
+        pub label_at: usize,
+        pub label_len: usize,
+        pub value: i64,
+        pub value_at: usize,
+        pub value_len: usize,
+    }
+
+    /// `coset_rules` of the header.
+    #[repr(C)]
+    pub struct Rules {
+        pub size: usize,
+        pub leeway: u64,
+        pub max_age: u64,
+        pub has_max_age: u32,
+        pub plain: u32,
+        pub authenticated_by: u32,
+        pub leaves_out: u32,
+        pub may_not_expire: u32,
+        pub may_be_issued_later: u32,
+        pub has_issuer: u32,
+        pub has_audience: u32,
+    }
+
+    /// `coset_opened` of the header.
+    #[repr(C)]
+    pub struct Opened {
+        pub form: u32,
+        pub offset: usize,
+        pub structure_len: usize,
+        pub proof_len: usize,
+        pub plaintext: usize,
+        pub plaintext_len: usize,
+    }
+
+    /// `coset_layer` of the header.
+    #[repr(C)]
+    #[derive(Default)]
+    pub struct Layer {
+        pub form: u32,
+        pub key_id_map: u32,
+        pub algorithm: i64,
+        pub structure_len: usize,
+        pub proof_len: usize,
+        pub key_id_len: usize,
+        pub iv_len: usize,
+        pub partial_iv_len: usize,
+    }
+
+    unsafe extern "C" {
+        pub fn coset_token_claims(rules: *const Rules, signatures: *const i64, signatures_len: usize, macs: *const i64, macs_len: usize, ciphers: *const i64, ciphers_len: usize, critical: *const i64, critical_len: usize, issuer: *const u8, issuer_len: usize, audience: *const u8, audience_len: usize, input: *const u8, input_len: usize, now: i64, opened: *const Opened, opened_len: usize, bytes: *const u8, bytes_len: usize, out: *mut u8, cap: usize, len: *mut usize, layer: *mut Layer) -> i32;
+        pub fn coset_version() -> *const std::ffi::c_char;
+        pub fn coset_status_text(status: i32) -> *const std::ffi::c_char;
+        pub fn coset_message(kind: u32, input: *const u8, input_len: usize, index: usize, external_aad: *const u8, external_aad_len: usize, has_detached: u32, detached: *const u8, detached_len: usize, known: *const i64, known_len: usize, out: *mut u8, cap: usize, len: *mut usize, view: *mut Message) -> i32;
+        pub fn coset_check(kind: u32, input: *const u8, input_len: usize, offset: *mut usize) -> i32;
+        pub fn coset_count(kind: u32, input: *const u8, input_len: usize, count: *mut usize) -> i32;
+        pub fn coset_part(kind: u32, input: *const u8, input_len: usize, part: u32, out: *mut u8, cap: usize, len: *mut usize) -> i32;
+        pub fn coset_member(kind: u32, input: *const u8, input_len: usize, index: usize, out: *mut u8, cap: usize, len: *mut usize) -> i32;
+        pub fn coset_member_span(kind: u32, input: *const u8, input_len: usize, index: usize, span: *mut Span) -> i32;
+        pub fn coset_pair_spans(kind: u32, input: *const u8, input_len: usize, index: usize, label: *mut Span, value: *mut Span) -> i32;
+        pub fn coset_label_span(kind: u32, input: *const u8, input_len: usize, map: u32, label: i64, span: *mut Span) -> i32;
+        pub fn coset_item_span(input: *const u8, input_len: usize, at: usize, span: *mut Span) -> i32;
+        pub fn coset_string_span(input: *const u8, input_len: usize, span: *mut Span) -> i32;
+        pub fn coset_integer(input: *const u8, input_len: usize, value: *mut i64) -> i32;
+        pub fn coset_label(kind: u32, input: *const u8, input_len: usize, map: u32, label: i64, out: *mut u8, cap: usize, len: *mut usize) -> i32;
+        pub fn coset_label_bytes(kind: u32, input: *const u8, input_len: usize, map: u32, label: i64, out: *mut u8, cap: usize, len: *mut usize) -> i32;
+        pub fn coset_label_int(kind: u32, input: *const u8, input_len: usize, map: u32, label: i64, value: *mut i64) -> i32;
+        pub fn coset_text_label(kind: u32, input: *const u8, input_len: usize, map: u32, label: *const u8, label_len: usize, out: *mut u8, cap: usize, len: *mut usize) -> i32;
+        pub fn coset_label_at(kind: u32, input: *const u8, input_len: usize, index: usize, out: *mut u8, cap: usize, len: *mut usize) -> i32;
+        pub fn coset_value_at(kind: u32, input: *const u8, input_len: usize, index: usize, out: *mut u8, cap: usize, len: *mut usize) -> i32;
+        pub fn coset_key_of(input: *const u8, input_len: usize, key_id: *const u8, key_id_len: usize, out: *mut u8, cap: usize, len: *mut usize) -> i32;
+        pub fn coset_structure(kind: u32, input: *const u8, input_len: usize, index: usize, external_aad: *const u8, external_aad_len: usize, has_detached: u32, detached: *const u8, detached_len: usize, out: *mut u8, cap: usize, len: *mut usize) -> i32;
+        pub fn coset_recipient_structure(holder: u32, input: *const u8, input_len: usize, external_aad: *const u8, external_aad_len: usize, out: *mut u8, cap: usize, len: *mut usize) -> i32;
+        pub fn coset_countersign_structure(kind: u32, input: *const u8, input_len: usize, label: i64, signer: *const u8, signer_len: usize, external_aad: *const u8, external_aad_len: usize, has_detached: u32, detached: *const u8, detached_len: usize, out: *mut u8, cap: usize, len: *mut usize) -> i32;
+        pub fn coset_sign1(kind: u32, input: *const u8, input_len: usize, external_aad: *const u8, external_aad_len: usize, has_detached: u32, detached: *const u8, detached_len: usize, out: *mut u8, cap: usize, len: *mut usize, view: *mut View) -> i32;
+        pub fn coset_message_spans(kind: u32, input: *const u8, input_len: usize, index: usize, external_aad: *const u8, external_aad_len: usize, has_detached: u32, detached: *const u8, detached_len: usize, known: *const i64, known_len: usize, out: *mut u8, cap: usize, len: *mut usize, view: *mut Spans) -> i32;
+        pub fn coset_put_all(kind: u32, input: *const u8, input_len: usize, pairs: *const Pair, pairs_len: usize, bytes: *const u8, bytes_len: usize, out: *mut u8, cap: usize, len: *mut usize) -> i32;
+        pub fn coset_put(kind: u32, input: *const u8, input_len: usize, label: i64, value: *const u8, value_len: usize, out: *mut u8, cap: usize, len: *mut usize) -> i32;
+        pub fn coset_put_bytes(kind: u32, input: *const u8, input_len: usize, label: i64, value: *const u8, value_len: usize, out: *mut u8, cap: usize, len: *mut usize) -> i32;
+        pub fn coset_put_text(kind: u32, input: *const u8, input_len: usize, label: i64, value: *const u8, value_len: usize, out: *mut u8, cap: usize, len: *mut usize) -> i32;
+        pub fn coset_put_int(kind: u32, input: *const u8, input_len: usize, label: i64, value: i64, out: *mut u8, cap: usize, len: *mut usize) -> i32;
+        pub fn coset_put_text_label(kind: u32, input: *const u8, input_len: usize, label: *const u8, label_len: usize, value: *const u8, value_len: usize, out: *mut u8, cap: usize, len: *mut usize) -> i32;
+        pub fn coset_structure_of(kind: u32, prot: *const u8, prot_len: usize, signer: *const u8, signer_len: usize, external_aad: *const u8, external_aad_len: usize, content: *const u8, content_len: usize, out: *mut u8, cap: usize, len: *mut usize) -> i32;
+        pub fn coset_recipient_structure_of(holder: u32, prot: *const u8, prot_len: usize, external_aad: *const u8, external_aad_len: usize, out: *mut u8, cap: usize, len: *mut usize) -> i32;
+        pub fn coset_make(kind: u32, prot: *const u8, prot_len: usize, unprot: *const u8, unprot_len: usize, has_content: u32, content: *const u8, content_len: usize, proof: *const u8, proof_len: usize, out: *mut u8, cap: usize, len: *mut usize) -> i32;
+        pub fn coset_add(kind: u32, input: *const u8, input_len: usize, member: *const u8, member_len: usize, out: *mut u8, cap: usize, len: *mut usize) -> i32;
+        pub fn coset_write(kind: u32, input: *const u8, input_len: usize, out: *mut u8, cap: usize, len: *mut usize) -> i32;
+        pub fn coset_canonical_key(order: u32, input: *const u8, input_len: usize, out: *mut u8, cap: usize, len: *mut usize) -> i32;
+    }
+}
+
+impl Kind {
+    fn number(self) -> u32 {
+        let message = |number, form| match form {
+            Form::Plain => number,
+            Form::Tagged => number + 0x100,
+            Form::Either => number + 0x200,
+        };
+        match self {
+            Kind::Sign1(form) => message(1, form),
+            Kind::Sign(form) => message(2, form),
+            Kind::Mac0(form) => message(3, form),
+            Kind::Mac(form) => message(4, form),
+            Kind::Encrypt0(form) => message(5, form),
+            Kind::Encrypt(form) => message(6, form),
+            Kind::Signature => 7,
+            Kind::Recipient => 8,
+            Kind::Header => 9,
+            Kind::Key => 10,
+            Kind::KeySet => 11,
+            Kind::Claims => 12,
+            Kind::Item => 13,
+            Kind::KdfContext => 14,
+        }
+    }
+}
+
+const SHORT: i32 = 1;
+
+/// Converts a status other than `SHORT` to a result.
+fn answer<T>(status: i32, value: T) -> Result<T, Error> {
+    Err(match status {
+        0 => return Ok(value),
+        2 => Error::Memory,
+        3 => Error::Ends,
+        4 => Error::Malformed,
+        5 => Error::Deep,
+        6 => Error::Extraneous,
+        7 => Error::Unexpected,
+        8 => Error::Duplicate,
+        9 => Error::OutOfRange,
+        10 => Error::Unregistered,
+        11 => Error::NotPrivate,
+        12 => Error::Absent,
+        13 => Error::Misuse,
+        14 => Error::Type,
+        15 => Error::Empty,
+        16 => Error::NotAllowed,
+        17 => Error::Critical,
+        20 => Error::TooDeep,
+        21 => Error::Unauthenticated,
+        22 => Error::NotClaims,
+        23 => Error::NoExpiration,
+        24 => Error::Expired,
+        25 => Error::NotYetValid,
+        26 => Error::IssuedLater,
+        27 => Error::TooOld,
+        28 => Error::Issuer,
+        29 => Error::Audience,
+        status => unreachable!("status {status}"),
+    })
+}
+
+/// Returns the bytes that a call writes. The call receives a buffer, the buffer's size, and a place
+/// for the length. If the buffer is too small, the call is made again.
+fn written(call: impl Fn(*mut u8, usize, *mut usize) -> i32) -> Result<Vec<u8>, Error> {
+    let mut out = vec![0; 256];
+    loop {
+        let mut len = 0;
+        match call(out.as_mut_ptr(), out.len(), &mut len) {
+            SHORT => out.resize(len, 0),
+            status => {
+                out.truncate(len);
+                return answer(status, out);
+            }
+        }
+    }
+}
+
+// SAFETY, for each call below: the declarations are those of the header. Each slice is whole,
+// separate from the others, and borrowed for the call.
+
+/// Checks that the bytes are an item of the kind.
+pub fn check(kind: Kind, bytes: &[u8]) -> Result<(), Fault> {
+    let mut offset = 0;
+    let status = unsafe { c::coset_check(kind.number(), bytes.as_ptr(), bytes.len(), &mut offset) };
+    answer(status, ()).map_err(|error| Fault { error, offset: (offset != usize::MAX).then_some(offset) })
+}
+
+/// Returns the number of signatures, recipients, keys or elements, which is at least 1.
+pub fn count(kind: Kind, bytes: &[u8]) -> Result<usize, Error> {
+    let mut count = 0;
+    let status = unsafe { c::coset_count(kind.number(), bytes.as_ptr(), bytes.len(), &mut count) };
+    answer(status, count)
+}
+
+/// Returns a part of an item.
+pub fn part(kind: Kind, bytes: &[u8], part: Part) -> Result<Vec<u8>, Error> {
+    written(|out, cap, len| unsafe { c::coset_part(kind.number(), bytes.as_ptr(), bytes.len(), part as u32, out, cap, len) })
+}
+
+/// Returns the signature, recipient, key or element at `index`, in its shortest encoding.
+pub fn member(kind: Kind, bytes: &[u8], index: usize) -> Result<Vec<u8>, Error> {
+    written(|out, cap, len| unsafe { c::coset_member(kind.number(), bytes.as_ptr(), bytes.len(), index, out, cap, len) })
+}
+
+/// Returns the range that a span names.
+fn range(span: &c::Span) -> std::ops::Range<usize> {
+    span.at..span.at + span.len
+}
+
+/// Returns the place of the signature, recipient, key or array element at `index`, as received.
+pub fn member_span(kind: Kind, bytes: &[u8], index: usize) -> Result<std::ops::Range<usize>, Error> {
+    let mut span = c::Span::default();
+    let status = unsafe { c::coset_member_span(kind.number(), bytes.as_ptr(), bytes.len(), index, &mut span) };
+    answer(status, range(&span))
+}
+
+/// Returns the places of the label and value of a map's pair, as received. `index` counts the pairs
+/// from 0.
+pub fn pair_spans(kind: Kind, bytes: &[u8], index: usize) -> Result<(std::ops::Range<usize>, std::ops::Range<usize>), Error> {
+    let (mut label, mut value) = (c::Span::default(), c::Span::default());
+    let status = unsafe { c::coset_pair_spans(kind.number(), bytes.as_ptr(), bytes.len(), index, &mut label, &mut value) };
+    answer(status, (range(&label), range(&value)))
+}
+
+/// Returns the place of an integer label's value, as received.
+pub fn label_span(kind: Kind, bytes: &[u8], map: Map, label: i64) -> Result<std::ops::Range<usize>, Error> {
+    let mut span = c::Span::default();
+    let status = unsafe { c::coset_label_span(kind.number(), bytes.as_ptr(), bytes.len(), map as u32, label, &mut span) };
+    answer(status, range(&span))
+}
+
+/// Returns the place of the item that begins at the offset `at`, as received.
+///
+/// The next element of an array, or the next label or value of a map, begins where the item ends.
+pub fn item_span(bytes: &[u8], at: usize) -> Result<std::ops::Range<usize>, Error> {
+    let mut span = c::Span::default();
+    let status = unsafe { c::coset_item_span(bytes.as_ptr(), bytes.len(), at, &mut span) };
+    answer(status, range(&span))
+}
+
+/// Returns the place of a string's content. The string has definite length.
+pub fn string_span(bytes: &[u8]) -> Result<std::ops::Range<usize>, Error> {
+    let mut span = c::Span::default();
+    let status = unsafe { c::coset_string_span(bytes.as_ptr(), bytes.len(), &mut span) };
+    answer(status, range(&span))
+}
+
+/// Returns the integer that the bytes encode.
+pub fn integer(bytes: &[u8]) -> Result<i64, Error> {
+    let mut value = 0;
+    let status = unsafe { c::coset_integer(bytes.as_ptr(), bytes.len(), &mut value) };
+    answer(status, value)
+}
+
+/// Returns the value of an integer label, in its shortest encoding.
+pub fn label(kind: Kind, bytes: &[u8], map: Map, label: i64) -> Result<Vec<u8>, Error> {
+    written(|out, cap, len| unsafe { c::coset_label(kind.number(), bytes.as_ptr(), bytes.len(), map as u32, label, out, cap, len) })
+}
+
+/// Returns the content of the byte string or text string that is the value of an integer label.
+pub fn label_bytes(kind: Kind, bytes: &[u8], map: Map, label: i64) -> Result<Vec<u8>, Error> {
+    written(|out, cap, len| unsafe { c::coset_label_bytes(kind.number(), bytes.as_ptr(), bytes.len(), map as u32, label, out, cap, len) })
+}
+
+/// Returns the integer that is the value of an integer label.
+pub fn label_int(kind: Kind, bytes: &[u8], map: Map, label: i64) -> Result<i64, Error> {
+    let mut value = 0;
+    let status = unsafe { c::coset_label_int(kind.number(), bytes.as_ptr(), bytes.len(), map as u32, label, &mut value) };
+    answer(status, value)
+}
+
+/// Returns the value of a text label, in its shortest encoding.
+pub fn text_label(kind: Kind, bytes: &[u8], map: Map, label: &str) -> Result<Vec<u8>, Error> {
+    written(|out, cap, len| unsafe {
+        c::coset_text_label(kind.number(), bytes.as_ptr(), bytes.len(), map as u32, label.as_ptr(), label.len(), out, cap, len)
+    })
+}
+
+/// Returns the label of a map's pair, in its shortest encoding. `index` counts the pairs from 0.
+pub fn label_at(kind: Kind, bytes: &[u8], index: usize) -> Result<Vec<u8>, Error> {
+    written(|out, cap, len| unsafe { c::coset_label_at(kind.number(), bytes.as_ptr(), bytes.len(), index, out, cap, len) })
+}
+
+/// Returns the value of a map's pair, in its shortest encoding. `index` counts the pairs from 0.
+pub fn value_at(kind: Kind, bytes: &[u8], index: usize) -> Result<Vec<u8>, Error> {
+    written(|out, cap, len| unsafe { c::coset_value_at(kind.number(), bytes.as_ptr(), bytes.len(), index, out, cap, len) })
+}
+
+/// Returns the first key of a set with this identifier, in its shortest encoding.
+pub fn key_of(set: &[u8], key_id: &[u8]) -> Result<Vec<u8>, Error> {
+    written(|out, cap, len| unsafe { c::coset_key_of(set.as_ptr(), set.len(), key_id.as_ptr(), key_id.len(), out, cap, len) })
+}
+
+/// Returns the structure that is signed (by the signer at `index`), authenticated, or goes with the
+/// ciphertext.
+///
+/// Its payload is the one that the message carries. If the message carries none, it is `detached`.
+pub fn structure(kind: Kind, bytes: &[u8], index: usize, external_aad: &[u8], detached: Option<&[u8]>) -> Result<Vec<u8>, Error> {
+    let content = detached.unwrap_or_default();
+    written(|out, cap, len| unsafe {
+        c::coset_structure(
+            kind.number(), bytes.as_ptr(), bytes.len(), index, external_aad.as_ptr(), external_aad.len(),
+            detached.is_some().into(), content.as_ptr(), content.len(), out, cap, len,
+        )
+    })
+}
+
+/// Returns the structure that goes with the ciphertext of a recipient.
+///
+/// `holder` is the kind that contains the recipient: an encrypted message with recipients, a
+/// message with a MAC and recipients, or a recipient.
+pub fn recipient_structure(holder: Kind, bytes: &[u8], external_aad: &[u8]) -> Result<Vec<u8>, Error> {
+    written(|out, cap, len| unsafe {
+        c::coset_recipient_structure(
+            holder.number(), bytes.as_ptr(), bytes.len(), external_aad.as_ptr(), external_aad.len(), out, cap, len,
+        )
+    })
+}
+
+/// Returns the structure that a countersignature of a message, a signature or a recipient signs.
+///
+/// `signer` is the content of the countersignature's own protected header. An abbreviated
+/// countersignature has none. The structure's payload is the payload, ciphertext or signature that
+/// the item carries. If the item carries none, it is `detached`.
+pub fn countersign_structure(
+    kind: Kind,
+    bytes: &[u8],
+    countersignature: Countersignature,
+    signer: &[u8],
+    external_aad: &[u8],
+    detached: Option<&[u8]>,
+) -> Result<Vec<u8>, Error> {
+    let content = detached.unwrap_or_default();
+    written(|out, cap, len| unsafe {
+        c::coset_countersign_structure(
+            kind.number(), bytes.as_ptr(), bytes.len(), countersignature as i64, signer.as_ptr(), signer.len(),
+            external_aad.as_ptr(), external_aad.len(), detached.is_some().into(), content.as_ptr(), content.len(), out, cap, len,
+        )
+    })
+}
+
+fn algorithm(form: u32, number: i64) -> Algorithm {
+    match form {
+        0 => Algorithm::Absent,
+        1 => Algorithm::Int(number),
+        _ => Algorithm::Text,
+    }
+}
+
+fn key_id_map(number: u32) -> Option<Map> {
+    [None, Some(Map::InProtected), Some(Map::InUnprotected)][number as usize]
+}
+
+/// Returns everything that verifying a message with one signature takes.
+///
+/// The payload is the one that the message carries. If the message carries none, it is `detached`.
+pub fn sign1(form: Form, bytes: &[u8], external_aad: &[u8], detached: Option<&[u8]>) -> Result<Sign1, Error> {
+    let (kind, content) = (Kind::Sign1(form).number(), detached.unwrap_or_default());
+    let mut view = c::View::default();
+    let told: *mut c::View = &mut view;
+    let mut signed = written(|out, cap, len| unsafe {
+        c::coset_sign1(
+            kind, bytes.as_ptr(), bytes.len(), external_aad.as_ptr(), external_aad.len(), detached.is_some().into(),
+            content.as_ptr(), content.len(), out, cap, len, told,
+        )
+    })?;
+    let mut signature = signed.split_off(view.structure_len);
+    let mut payload = signature.split_off(view.signature_len);
+    let key_id = payload.split_off(view.payload_len);
+    Ok(Sign1 {
+        algorithm: algorithm(view.algorithm_form, view.algorithm),
+        key_id_map: key_id_map(view.key_id_map),
+        has_critical: view.has_critical != 0,
+        is_tagged: view.is_tagged != 0,
+        signed,
+        signature,
+        payload,
+        key_id,
+    })
+}
+
+/// Returns everything that verifying or decrypting a message takes.
+///
+/// For a message with signers, it is for the signer at `index`. The policy's algorithms are
+/// ignored.
+pub fn message(kind: Kind, bytes: &[u8], index: usize, policy: &Policy<'_>) -> Result<Message, Error> {
+    let (kind, content) = (kind.number(), policy.detached.unwrap_or_default());
+    let (aad, known) = (policy.external_aad, policy.critical);
+    let mut view = c::Message::default();
+    let told: *mut c::Message = &mut view;
+    let mut input = written(|out, cap, len| unsafe {
+        c::coset_message(
+            kind, bytes.as_ptr(), bytes.len(), index, aad.as_ptr(), aad.len(), policy.detached.is_some().into(),
+            content.as_ptr(), content.len(), known.as_ptr(), known.len(), out, cap, len, told,
+        )
+    })?;
+    let mut proof = input.split_off(view.structure_len);
+    let mut content = proof.split_off(view.proof_len);
+    let key_id = content.split_off(view.content_len);
+    Ok(Message {
+        algorithm: algorithm(view.algorithm_form, view.algorithm),
+        key_id_map: key_id_map(view.key_id_map),
+        critical: [Critical::Absent, Critical::Understood, Critical::NotUnderstood][view.critical as usize],
+        is_tagged: view.is_tagged != 0,
+        input,
+        proof,
+        content,
+        key_id,
+    })
+}
+
+/// Returns everything that verifying or decrypting a message takes, as [`Message`] does, borrowed
+/// from the message.
+pub fn message_lent<'a>(kind: Kind, bytes: &'a [u8], index: usize, policy: &Policy<'_>) -> Result<LentMessage<'a>, Error> {
+    let (kind, content) = (kind.number(), policy.detached.unwrap_or_default());
+    let (aad, known) = (policy.external_aad, policy.critical);
+    let mut view = c::Spans::default();
+    let told: *mut c::Spans = &mut view;
+    let mut input = written(|out, cap, len| unsafe {
+        c::coset_message_spans(
+            kind, bytes.as_ptr(), bytes.len(), index, aad.as_ptr(), aad.len(), policy.detached.is_some().into(),
+            content.as_ptr(), content.len(), known.as_ptr(), known.len(), out, cap, len, told,
+        )
+    })?;
+    let text = |is_in_input, at, len| {
+        if is_in_input != 0 { Cow::Borrowed(&bytes[at..at + len]) } else { Cow::Owned(input[at..at + len].to_vec()) }
+    };
+    let proof = text(view.is_proof_in_input, view.proof_at, view.proof_len);
+    let content = text(view.is_content_in_input, view.content_at, view.content_len);
+    let key_id = text(view.is_key_id_in_input, view.key_id_at, view.key_id_len);
+    input.truncate(view.structure_len);
+    Ok(LentMessage {
+        algorithm: algorithm(view.algorithm_form, view.algorithm),
+        key_id_map: key_id_map(view.key_id_map),
+        critical: [Critical::Absent, Critical::Understood, Critical::NotUnderstood][view.critical as usize],
+        is_tagged: view.is_tagged != 0,
+        input,
+        proof,
+        content,
+        key_id,
+    })
+}
+
+impl LentMessage<'_> {
+    /// Returns the question about the message with this proof, if the policy allows the message.
+    fn asked<'a>(&'a self, policy: &Policy<'_>, proof: &'a [u8]) -> Result<Question<'a>, Error> {
+        if self.critical == Critical::NotUnderstood {
+            return Err(Error::Critical);
+        }
+        let Algorithm::Int(algorithm) = self.algorithm else {
+            return Err(Error::NotAllowed);
+        };
+        if !policy.algorithms.contains(&algorithm) {
+            return Err(Error::NotAllowed);
+        }
+        let key_id = self.key_id_map.map(|_| self.key_id.as_ref());
+        Ok(Question { algorithm, key_id, key_id_map: self.key_id_map, input: &self.input, proof })
+    }
+}
+
+/// Returns the payload of a message with signatures or a MAC, after `verify` said yes.
+///
+/// `verify` returns true if the proof is a signature or a MAC of the input, by a key that the
+/// caller trusts for that algorithm. For a message with signers, the question is about the signer
+/// at `index`. The caller decides which signers are enough.
+pub fn verify(
+    kind: Kind,
+    bytes: &[u8],
+    index: usize,
+    policy: &Policy<'_>,
+    verify: impl FnOnce(&Question<'_>) -> bool,
+) -> Result<Vec<u8>, Error> {
+    if !matches!(kind, Kind::Sign1(_) | Kind::Sign(_) | Kind::Mac0(_) | Kind::Mac(_)) {
+        return Err(Error::Misuse);
+    }
+    let found = message_lent(kind, bytes, index, policy)?;
+    if !verify(&found.asked(policy, &found.proof)?) {
+        return Err(Error::Refused);
+    }
+    Ok(policy.detached.map_or_else(|| found.content.into_owned(), <[u8]>::to_vec))
+}
+
+/// Returns the plaintext of a `Kind::Encrypt0` in this form.
+///
+/// `decrypt` receives the question, whose proof is the ciphertext, and the IV, label 5 of the
+/// headers. It returns the plaintext, or `None` if the ciphertext isn't authentic by a key that the
+/// caller trusts.
+pub fn decrypt(
+    form: Form,
+    bytes: &[u8],
+    policy: &Policy<'_>,
+    decrypt: impl FnOnce(&Question<'_>, Option<&[u8]>) -> Option<Vec<u8>>,
+) -> Result<Vec<u8>, Error> {
+    let kind = Kind::Encrypt0(form);
+    let found = message_lent(kind, bytes, 0, policy)?;
+    let iv = match label_bytes(kind, bytes, Map::InProtected, 5) {
+        Err(Error::Absent) => label_bytes(kind, bytes, Map::InUnprotected, 5),
+        iv => iv,
+    };
+    let iv = match iv {
+        Err(Error::Absent) => None,
+        iv => Some(iv?),
+    };
+    let carried = match part(kind, bytes, Part::Ciphertext) {
+        Err(Error::Absent) => None,
+        carried => Some(carried?),
+    };
+    let ciphertext = match (&carried, policy.detached) {
+        (Some(_), Some(_)) => return Err(Error::Misuse),
+        (Some(carried), None) => carried,
+        (None, Some(detached)) => detached,
+        (None, None) => return Err(Error::Absent),
+    };
+    decrypt(&found.asked(policy, ciphertext)?, iv.as_deref()).ok_or(Error::Refused)
+}
+
+impl<'a> Layer<'a> {
+    /// Returns the layer that waits, from its numbers and its texts.
+    fn of(view: &c::Layer, text: &'a [u8]) -> Layer<'a> {
+        let (input, rest) = text.split_at(view.structure_len);
+        let (proof, rest) = rest.split_at(view.proof_len);
+        let (key_id, rest) = rest.split_at(view.key_id_len);
+        let (iv, partial_iv) = rest.split_at(view.iv_len);
+        let there = |bytes: &'a [u8]| (!bytes.is_empty()).then_some(bytes);
+        Layer {
+            form: match view.form {
+                1 => TokenForm::Sign1,
+                3 => TokenForm::Mac0,
+                _ => TokenForm::Encrypt0,
+            },
+            algorithm: view.algorithm,
+            key_id: there(key_id),
+            key_id_map: key_id_map(view.key_id_map),
+            input,
+            proof,
+            iv: there(iv),
+            partial_iv: there(partial_iv),
+        }
+    }
+}
+
+impl TokenPolicy<'_> {
+    fn rules(&self) -> c::Rules {
+        c::Rules {
+            size: size_of::<c::Rules>(),
+            leeway: self.leeway,
+            max_age: self.max_age.unwrap_or(0),
+            has_max_age: self.max_age.is_some().into(),
+            plain: self.plain as u32,
+            authenticated_by: self.authenticated_by as u32,
+            leaves_out: self.leaves_out.into(),
+            may_not_expire: self.may_not_expire.into(),
+            may_be_issued_later: self.may_be_issued_later.into(),
+            has_issuer: self.issuer.is_some().into(),
+            has_audience: self.audience.is_some().into(),
+        }
+    }
+}
+
+/// Returns the claims of a web token at `now`, in seconds since 1970 began in UTC: a
+/// `Kind::Claims`.
+///
+/// `opener` is called for each layer, and must accept it. For a signature or a MAC by a key that
+/// the caller trusts for that algorithm it returns an empty `Some`. For an encrypted layer it
+/// returns the plaintext. `None` refuses the token.
+pub fn token_claims(
+    token: &[u8],
+    now: i64,
+    policy: &TokenPolicy<'_>,
+    mut opener: impl FnMut(&Layer<'_>) -> Option<Vec<u8>>,
+) -> Result<Vec<u8>, Error> {
+    const LAYER: i32 = 19;
+    let rules = policy.rules();
+    let lists = [policy.signatures, policy.macs, policy.ciphers, policy.critical];
+    let (issuer, audience) = (policy.issuer.unwrap_or_default(), policy.audience.unwrap_or_default());
+    let (mut opened, mut known, mut out) = (Vec::<c::Opened>::new(), Vec::<u8>::new(), vec![0; 256]);
+    loop {
+        let (mut len, mut view) = (0, c::Layer::default());
+        let status = unsafe {
+            c::coset_token_claims(
+                &rules, lists[0].as_ptr(), lists[0].len(), lists[1].as_ptr(), lists[1].len(), lists[2].as_ptr(), lists[2].len(),
+                lists[3].as_ptr(), lists[3].len(), issuer.as_ptr(), issuer.len(), audience.as_ptr(), audience.len(), token.as_ptr(),
+                token.len(), now, opened.as_ptr(), opened.len(), known.as_ptr(), known.len(), out.as_mut_ptr(), out.len(), &mut len,
+                &mut view,
+            )
+        };
+        if status == SHORT {
+            out.resize(len, 0);
+            continue;
+        }
+        if status != LAYER {
+            out.truncate(len);
+            return answer(status, out);
+        }
+        let layer = Layer::of(&view, &out[..len]);
+        let plaintext = opener(&layer).ok_or(Error::Refused)?;
+        let (offset, handed) = (known.len(), view.structure_len + view.proof_len);
+        known.extend_from_slice(&out[..handed]);
+        opened.push(c::Opened {
+            form: view.form,
+            offset,
+            structure_len: view.structure_len,
+            proof_len: view.proof_len,
+            plaintext: known.len(),
+            plaintext_len: plaintext.len(),
+        });
+        known.extend_from_slice(&plaintext);
+    }
+}
+
+/// Returns the version of the library that is linked, followed by ` (unproved)` if it was built
+/// without a proof.
+pub fn version() -> &'static str {
+    text(unsafe { c::coset_version() })
+}
+
+/// Returns a few words for a status of the header.
+pub fn status_text(status: i32) -> &'static str {
+    text(unsafe { c::coset_status_text(status) })
+}
+
+/// Returns the text that the library points to. It lives as long as the program.
+fn text(at: *const std::ffi::c_char) -> &'static str {
+    unsafe { std::ffi::CStr::from_ptr(at) }.to_str().unwrap_or_default()
+}
+
+/// Returns the header, key or claims set, which may be empty, with one more pair at its end.
+pub fn put(kind: Kind, map: &[u8], label: i64, value: Entry<'_>) -> Result<Vec<u8>, Error> {
+    let (kind, at, n) = (kind.number(), map.as_ptr(), map.len());
+    written(|out, cap, len| unsafe {
+        match value {
+            Entry::Int(value) => c::coset_put_int(kind, at, n, label, value, out, cap, len),
+            Entry::Bytes(value) => c::coset_put_bytes(kind, at, n, label, value.as_ptr(), value.len(), out, cap, len),
+            Entry::Text(value) => c::coset_put_text(kind, at, n, label, value.as_ptr(), value.len(), out, cap, len),
+            Entry::Encoded(value) => c::coset_put(kind, at, n, label, value.as_ptr(), value.len(), out, cap, len),
+        }
+    })
+}
+
+/// Returns such a map with many more pairs, in this order. The map is read once, and the new map is
+/// checked and written once.
+pub fn put_all<'a, L: Copy + Into<Label<'a>>>(kind: Kind, map: &[u8], pairs: &[(L, Entry<'_>)]) -> Result<Vec<u8>, Error> {
+    let mut bytes = Vec::new();
+    let mut part = |part: &[u8]| {
+        bytes.extend_from_slice(part);
+        (bytes.len() - part.len(), part.len())
+    };
+    let told: Vec<c::Pair> = pairs
+        .iter()
+        .map(|(label, value)| {
+            let (label_form, label, (label_at, label_len)) = match (*label).into() {
+                Label::Int(label) => (1, label, (0, 0)),
+                Label::Text(text) => (2, 0, part(text.as_bytes())),
+            };
+            let (value_form, value, (value_at, value_len)) = match *value {
+                Entry::Int(value) => (1, value, (0, 0)),
+                Entry::Text(text) => (2, 0, part(text.as_bytes())),
+                Entry::Bytes(bytes) => (3, 0, part(bytes)),
+                Entry::Encoded(bytes) => (4, 0, part(bytes)),
+            };
+            c::Pair { label_form, value_form, label, label_at, label_len, value, value_at, value_len }
+        })
+        .collect();
+    written(|out, cap, len| unsafe {
+        c::coset_put_all(
+            kind.number(), map.as_ptr(), map.len(), told.as_ptr(), told.len(), bytes.as_ptr(), bytes.len(), out, cap, len,
+        )
+    })
+}
+
+/// Does the same as `put` with a text label, and a value as its encoding.
+pub fn put_text_label(kind: Kind, map: &[u8], label: &str, value: &[u8]) -> Result<Vec<u8>, Error> {
+    written(|out, cap, len| unsafe {
+        c::coset_put_text_label(
+            kind.number(), map.as_ptr(), map.len(), label.as_ptr(), label.len(), value.as_ptr(), value.len(), out, cap, len,
+        )
+    })
+}
+
+/// Does the same as `structure` for a message that isn't made yet.
+///
+/// `protected` is the message's protected header. `signer` is the signer's, for `Kind::Sign` alone.
+/// `content` is the payload. A structure that goes with a ciphertext has none.
+pub fn structure_of(kind: Kind, protected: &[u8], signer: &[u8], external_aad: &[u8], content: &[u8]) -> Result<Vec<u8>, Error> {
+    written(|out, cap, len| unsafe {
+        c::coset_structure_of(
+            kind.number(), protected.as_ptr(), protected.len(), signer.as_ptr(), signer.len(), external_aad.as_ptr(),
+            external_aad.len(), content.as_ptr(), content.len(), out, cap, len,
+        )
+    })
+}
+
+/// Does the same as `recipient_structure` for a recipient that isn't made yet, from its protected
+/// header.
+pub fn recipient_structure_of(holder: Kind, protected: &[u8], external_aad: &[u8]) -> Result<Vec<u8>, Error> {
+    written(|out, cap, len| unsafe {
+        c::coset_recipient_structure_of(
+            holder.number(), protected.as_ptr(), protected.len(), external_aad.as_ptr(), external_aad.len(), out, cap, len,
+        )
+    })
+}
+
+/// Makes a message, a signature or a recipient from its headers, its content, and its signature or
+/// tag.
+///
+/// The content is the payload or the ciphertext, or `None` if that is detached. A message with
+/// signers or recipients is made without them.
+pub fn make(kind: Kind, protected: &[u8], unprotected: &[u8], content: Option<&[u8]>, proof: &[u8]) -> Result<Vec<u8>, Error> {
+    let held = content.unwrap_or_default();
+    written(|out, cap, len| unsafe {
+        c::coset_make(
+            kind.number(), protected.as_ptr(), protected.len(), unprotected.as_ptr(), unprotected.len(),
+            content.is_some().into(), held.as_ptr(), held.len(), proof.as_ptr(), proof.len(), out, cap, len,
+        )
+    })
+}
+
+/// Returns the item with one more signature, recipient, key or element at the end. A set of keys or
+/// an array may begin with no bytes.
+pub fn add(kind: Kind, bytes: &[u8], member: &[u8]) -> Result<Vec<u8>, Error> {
+    written(|out, cap, len| unsafe {
+        c::coset_add(kind.number(), bytes.as_ptr(), bytes.len(), member.as_ptr(), member.len(), out, cap, len)
+    })
+}
+
+/// Returns the item in its shortest encoding.
+pub fn write(kind: Kind, bytes: &[u8]) -> Result<Vec<u8>, Error> {
+    written(|out, cap, len| unsafe { c::coset_write(kind.number(), bytes.as_ptr(), bytes.len(), out, cap, len) })
+}
+
+/// Returns the key in its shortest encoding, with its labels in this order.
+pub fn canonical_key(order: Order, bytes: &[u8]) -> Result<Vec<u8>, Error> {
+    written(|out, cap, len| unsafe { c::coset_canonical_key(order as u32, bytes.as_ptr(), bytes.len(), out, cap, len) })
+}
