@@ -149,7 +149,7 @@ fits_around x s lt fits = fits_append (x ∷ []) (s ++ 255 ∷ []) (fits_one x l
 fits_inside : (x : ℕ) (s : List ℕ) → IsBytes (x ∷ (s ++ 255 ∷ [])) → IsBytes s
 fits_inside x s fits = fits_front s (255 ∷ []) (IsBytes-rest x (s ++ 255 ∷ []) fits)
 
--- The content after the head is the content c.
+-- The content s after the head is the enclosed content c.
 content_held : (m n : ℕ) (k : MajorType) (c b s : List ℕ) → IsBytes b → EnclosesContent m n c b → IsContent k b s → (s ≡ c) × IsBytes c
 content_held m n k c b s fits is content =
     let h = content.head in

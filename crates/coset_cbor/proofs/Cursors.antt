@@ -254,7 +254,7 @@ pairs_until (suc turns) s x fits e = elim (chosen (begins_break s) _ _ _ e) [
       (pair_stands s a.0 (keys_and_values (pairs_of b.0.0)) (255 ∷ b.0.1) fits p (pairs_until turns a.0.1 b.0 (pair_fits s a.0 fits p) b.1))
 ]
 
--- If m pairs are at most half the n bytes left, their items are at most n.
+-- If m is at most half of n, m pairs have at most n items.
 few_pairs : (n m : ℕ) → ltb (n / 2) m ≡ false → m + m ≤ n
 few_pairs n m e = let h = ltb-false (n / 2) m e in omega (arith, h)
 

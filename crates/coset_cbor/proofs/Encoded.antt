@@ -9,7 +9,7 @@ use Rattle.coset_cbor.specs.Reading.{item_at}
 use Rattle.coset_cbor.proofs.Again.{IsHead-begins, item_again}
 use Rattle.coset_cbor.proofs.Takes.{IsBytes, ok_is, item_takes}
 
--- The bytes after a head are fewer.
+-- Content with its head has more bytes than the content alone.
 headed_longer : (m n : ℕ) (s b : List ℕ) → m < 7 → IsHeaded m n s b → length s < length b
 headed_longer m n s b low h =
     let first = IsHead-begins m n h.head low h.is_head in
@@ -54,7 +54,7 @@ mutual
       let all : length b ≡ length h.0 + length (h.1 ++ h.2) = ap length h.6 ∙ length-append h.0 (h.1 ++ h.2) in
       omega arith
 
--- So a reader with that depth reads the encoding.
+-- So a reader whose depth is the number of bytes reads the encoding.
 read_whole : (v : Item) (b : List ℕ) → IsEncoding v b → item_at (length b) b ≡ Ok (v, [])
 read_whole v b h = ap (item_at (length b)) (sym (append-nil b)) ∙ item_again (length b) v b [] h (depth_within v b h)
 

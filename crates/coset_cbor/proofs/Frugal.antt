@@ -229,7 +229,7 @@ from_frugal inside st h s =
     (head_shorter s)
     (λ x. body_frugal inside st h (length s) x.0.argument x.0.major_type x.1)
 
--- This holds for a check of any bytes.
+-- A check of any bytes takes at most as many steps as it reads bytes.
 pub item_frugal : (d : ℕ) → IsFrugal (item_at d) (item_steps d)
 unfolding item_at item_steps
 item_frugal zero s = from_frugal nothing no_steps nothing_frugal s

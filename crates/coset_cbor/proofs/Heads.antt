@@ -171,7 +171,7 @@ string_no_fault is_text b h o f one e k number is =
 
 -- ---- tags
 
--- A head of no tag gives an item that is no tag.
+-- If a head is not a tag's, its item is not a tag.
 pub no_tag : (inside : Inside) (left : ℕ) (a : Argument) (k : MajorType) (s : List ℕ) (x : Item × List ℕ) → tag_by a k ≡ None → item_by inside left a k s ≡ Ok x
     → None ≡ as_tag x.0
 no_tag inside left a major_types.Unsigned s x t e = let n = some_ok left (number_of a) (λ n. Ok (integer (pos n), s)) x e in

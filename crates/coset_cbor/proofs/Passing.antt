@@ -112,8 +112,7 @@ until_steps_break : {A : Type 0} (one : Parse A) (st : List ℕ → ℕ) (n : �
 unfolding until_steps
 until_steps_break one st n s stops = rw stops refl
 
--- A loop must leave `total` after `whole` steps. `rest` is what the readings still to come leave, and `more` is their
--- steps.
+-- A loop must leave `total` after `whole` steps. The readings still to come leave `rest` and take `more` steps.
 pub record IsPassed (total : Result (List ℕ) Fault) (whole now : ℕ) (rest : Result (List ℕ) Fault) (more : ℕ) : Type 0 where
   pub left : rest ≡ total
   pub steps : now + more ≡ whole

@@ -35,7 +35,7 @@ abbrev first_of : List ℕ → ℕ
 first_of [] = 0
 first_of (x ∷ s) = x
 
--- No item begins with this byte, whatever follows.
+-- If no item can begin with x before t, nothing is read from x ∷ t.
 first_blocked : (e : Bool) (x : ℕ) (t : List ℕ) → IsBytes (x ∷ t) → x ≢ 255 → ((d : ℕ) (v : Item) → IsFirst v x t → depth v ≤ d → ⊥) → (d : ℕ)
     → IsBlocked e d (x ∷ t)
 first_blocked e x t fits other bad d = (

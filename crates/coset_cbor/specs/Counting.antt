@@ -1,5 +1,5 @@
 -- The steps of a check on any bytes, even on refused ones, as a function that parallels specs/Reading. Only contracts
--- of private functions cite this file. It agrees with the cost of an encoding, as proofs/Costs proves.
+-- of private functions cite this file. The function agrees with the cost of an encoding, as proofs/Costs proves.
 use Rattle.std.specs.Prelude.{◌≡◌, ℕ, zero, suc, ◌+◌, ◌/◌, Bool, true, false, List, length, Option, Some, None, Result, Ok, Err, nat_lt, if◌then◌else◌}
 use Rattle.std.specs.Borrow.{Bor}
 use Rattle.coset_value.specs.Item.{Item}

@@ -1,5 +1,6 @@
--- Where a fault is in bytes (RFC 8949, section 5.3 and appendix C). A fault splits the bytes in two. After the bytes
--- before it, c, an item or a chunk is due. The bytes from there on, t, begin with something that cannot be there.
+-- The position of a fault in bytes (RFC 8949, section 5.3.1 and appendices C and F). A fault splits the bytes in two.
+-- After the bytes before it, c, an item or a chunk is due. The bytes from the fault on, t, begin with something that
+-- cannot be there.
 use Rattle.std.specs.Prelude.{◌≡◌, ◌≢◌, ℕ, zero, suc, ◌+◌, ◌*◌, ◌/◌, ◌%◌, ◌^◌, ◌<◌, ◌≤◌, ◌⊎◌, Bool, true, false, not, List, [], ◌∷◌, ◌++◌, length, take}
 use Rattle.std.specs.Str.{IsUtf8}
 use Rattle.coset_value.specs.Item.{Items, items_count}
@@ -13,8 +14,8 @@ is_even (suc n) = not (is_even n)
 
 -- ---- the bytes before a fault
 
--- o opens an array, a map or a tag, and then has some of its elements, but not all. The flag is true if the break may
--- follow o.
+-- o is an incomplete array, map or tag: its head, and then some of its elements, maybe none. The flag is true if the
+-- break may follow o.
 pub data Opens : List ℕ → Bool → Type 0 where
   in_array : (n : ℕ) (vs : Items) (c o : List ℕ) → items_count vs < n → AreEncodings vs c → IsHeaded 4 n c o → Opens o false
   in_map : (n : ℕ) (vs : Items) (c o : List ℕ) → items_count vs < 2 * n → AreEncodings vs c → IsHeaded 5 n c o → Opens o false
@@ -84,11 +85,11 @@ abbrev pub BeginsBreak : List ℕ → Type 0
 BeginsBreak [] = ⊥
 BeginsBreak (x ∷ t) = x ≡ 255
 
--- No item begins so. This includes the break, unless the break may be here (e).
+-- No item begins as t does. A break counts as well, unless the break may be here (e is true).
 abbrev pub NoItem : Bool → List ℕ → Type 0
 NoItem e t = HasReservedInfo t ⊎ (HasNoLength t ⊎ (IsLowSimple t ⊎ (BeginsBreak t × (e ≡ false))))
 
--- Neither a chunk of the string's type nor the break begins so.
+-- Neither a chunk of the string's type nor the break begins as the bytes do.
 abbrev pub NoChunk : Bool → List ℕ → Type 0
 NoChunk is_text [] = ⊥
 NoChunk is_text (x ∷ t) = (x ≢ 255) × ((x / 32 ≡ string_type is_text) × (x % 32 ≤ 27) → ⊥)

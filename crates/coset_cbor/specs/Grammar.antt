@@ -1,5 +1,5 @@
--- Which bytes encode an item: every encoding that the standard allows (RFC 8949, section 3). An encoding is a list of
--- bytes. `IsEncoding v b` says that b is an encoding of v.
+-- Every encoding that the standard allows for an item (RFC 8949, section 3). An encoding is a list of bytes.
+-- `IsEncoding v b` says that b is an encoding of v.
 use Rattle.std.specs.Prelude.{◌≡◌, ℕ, ◌+◌, ◌*◌, ◌^◌, ◌<◌, ◌≤◌, ◌⊎◌, ⊤, ℤ, pos, negsuc, Bool, true, false, List, [], ◌∷◌, ◌++◌, length}
 use Rattle.std.specs.Int.{w8, w16, w32, w64, to_be_bytes}
 use Rattle.std.specs.Str.{IsUtf8}
@@ -40,7 +40,7 @@ pub record IsHeaded (m n : ℕ) (s b : List ℕ) : Type 0 where
   pub is_head : IsHead m n head
   pub parts : b ≡ head ++ s
 
--- b is s between an initial byte of major type m without a length and the break (RFC 8949, section 3.2).
+-- b is an initial byte of major type m that announces no length, then s, then the break (RFC 8949, section 3.2).
 abbrev pub IsIndefinite : ℕ → List ℕ → List ℕ → Type 0
 IsIndefinite m s b = b ≡ (32 * m + 31) ∷ (s ++ 255 ∷ [])
 

@@ -1,5 +1,6 @@
--- The definite encoding of an item, with heads of the least width for their arguments, as a function. This is the
--- shortest encoding (the law `laws::least_heads_are_shortest`).
+-- The definite encoding of an item, with heads of the least width for their arguments, as a function. For an item
+-- within CBOR's ranges, it is the only shortest encoding (the laws `laws::least_encoding_is_shortest` and
+-- `laws::least_heads_are_shortest`).
 use Rattle.std.specs.Prelude.{◌≡◌, ℕ, ◌^◌, ℤ, pos, negsuc, Bool, true, false, List, [], ◌∷◌, ◌++◌, length, nat_lt, if◌then◌else◌}
 use Rattle.std.specs.Int.{w16, w32, w64, to_be_bytes}
 use Rattle.coset_value.specs.Item.{Bits, half, single, double, Item, integer, bytes, float, text, boolean, null, tag, array, dict, Items, no_items, item, Pairs}

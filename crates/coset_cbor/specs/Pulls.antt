@@ -1,4 +1,4 @@
--- What contracts see of a borrowed item.
+-- The view of a borrowed item.
 use Rattle.std.specs.Prelude.{◌≡◌, ℕ, List, ◌++◌}
 use Rattle.coset_value.specs.Item.{Item}
 use Rattle.coset_cbor.specs.declared.pull.Pull.{Pull}

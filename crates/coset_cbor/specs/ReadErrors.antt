@@ -1,4 +1,4 @@
--- What an error says about the bytes that were to be read.
+-- The meaning of an error for the bytes that were to be read.
 use Rattle.std.specs.Prelude.{◌≡◌, ⊤, ℕ, List, ◌++◌, length, Some, None, codes}
 use Rattle.coset_cbor.specs.Faults.{EndAt, SyntaxAt, SimpleAt, DeepAt}
 use Rattle.coset_cbor.specs.declared.de.EndOfFile.{EndOfFile}

@@ -1,5 +1,5 @@
 -- Reading from left to right, as a function on lists. It gives the value and the bytes left, or the first fault. Only
--- contracts of private functions cite this file. It agrees with the grammar, as proofs/ proves.
+-- contracts of private functions cite this file. The function agrees with the grammar, as proofs/ proves.
 use Rattle.std.specs.Prelude.{◌≡◌, ℕ, zero, suc, ◌/◌, ◌%◌, List, [], ◌∷◌, length, take, drop, Bool, true, false, not, Option, Some, None, Result, Ok, Err}
 use Rattle.std.specs.Prelude.{nat_lt, ◌==◌, if◌then◌else◌, pos, negsuc}
 use Rattle.std.specs.Int.{Width, w8, w16, w32, w64, from_be_bytes}
@@ -27,12 +27,12 @@ abbrev pub FailsAs : {Y : Type 0} → ReadError → Result Y Fault → Type 0
 FailsAs errors.Memory read = Unit {0}
 FailsAs (errors.Fault f) read = read ≡ Err f
 
--- A function returns, seen through `view`, the result of `read`, unless an allocation failed.
+-- The result of a function, seen through `view`, is the result of `read`, unless an allocation failed.
 abbrev pub ReturnsUnlessMemory : {X Y : Type 0} → (X → Y) → Result X ReadError → Result Y Fault → Type 0
 ReturnsUnlessMemory view (Ok x) read = read ≡ Ok (view x)
 ReturnsUnlessMemory view (Err e) read = FailsAs e read
 
--- A function that allocates nothing returns, seen through `view`, the result of `read`.
+-- The result of a function that allocates nothing, seen through `view`, is the result of `read`.
 abbrev pub Returns : {X Y : Type 0} → (X → Y) → Result X Fault → Result Y Fault → Type 0
 Returns view (Ok x) read = read ≡ Ok (view x)
 Returns view (Err f) read = read ≡ Err f

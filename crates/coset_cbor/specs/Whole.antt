@@ -1,4 +1,4 @@
--- Whether bytes are one item, as a test, and the item that they are.
+-- A test whether bytes are one item, and the item at their start.
 use Rattle.std.specs.Prelude.{ℕ, List, [], ◌∷◌, Bool, true, false, ◌&&◌, nat_lt, Result, Ok, Err}
 use Rattle.coset_value.specs.Item.{Item, null}
 use Rattle.coset_cbor.specs.declared.fault.Fault.{Fault}

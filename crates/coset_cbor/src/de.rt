@@ -45,10 +45,10 @@ impl error::Error for EndOfFile {}
 pub enum Error<T> {
     /// The input ends too early, or a head announces more than the remaining input can contain.
     Io(T),
-    /// The bytes are not well-formed (RFC 8949, section 5.3), or a text string is not UTF-8.
+    /// The bytes are not well-formed (RFC 8949, appendix F), or a text string is not UTF-8 (section
+    /// 5.3.1).
     Syntax(usize),
-    /// The item is well-formed, but `Value` has no variant for it: a simple value other than false,
-    /// true and null.
+    /// A well-formed simple value other than false, true and null. `Value` has no variant for it.
     Semantic(Option<usize>, &'static str),
     /// Arrays, maps and tags nest more than 256 levels deep.
     RecursionLimitExceeded,
@@ -159,8 +159,8 @@ fn counted_length<L: Ledger>(bytes: &[u8], blank: Blank) -> Result<usize, Error<
 /// 256 levels deep. No memory is reserved for announced content that is missing.
 ///
 /// # Errors
-/// - `OutOfMemory` if an allocation fails. The bytes are checked first, without memory, so an item
-///   is then at their start.
+/// - `OutOfMemory` if an allocation fails. The bytes are checked first, without allocating, so an
+///   item is then at their start.
 /// - A fault in the bytes. No prefix of them is then an item within 256 levels.
 ///
 /// If there are several faults, the first in reading order is returned. At one head, the order is:

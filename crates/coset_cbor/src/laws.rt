@@ -35,8 +35,8 @@ pub fn borrowed_item()
         × ((v : Item) → IsEncoding v (pull_bytes p) → v ≡ pull_item p) }
 {}
 
-/// The bytes left of an array encode the elements that are left, in order, and no other items. The
-/// bytes left of a map encode the keys and values that are left, and no others.
+/// The remaining bytes of `Items` encode its remaining elements, in order, and no other items. The
+/// remaining bytes of `Pairs` encode its remaining keys and values, and no others.
 pub fn borrowed_elements()
     ensures items { (it : Items) → AreEncodings (items_left it) (items_bytes it)
         × ((vs : model.Items) → AreEncodings vs (items_bytes it) → vs ≡ items_left it) }
@@ -44,8 +44,9 @@ pub fn borrowed_elements()
         × ((ps : model.Pairs) → ArePairEncodings ps (pairs_bytes it) → ps ≡ pairs_left it) }
 {}
 
-/// The bytes left of a string are definite-length strings, one after the other. Their contents are
-/// those that are left, and no others (RFC 8949, section 3.2.3).
+/// The remaining bytes of `ByteChunks` and `TextChunks` are definite-length strings, one after the
+/// other. Their contents are those of the remaining chunks, and no others (RFC 8949, section
+/// 3.2.3).
 pub fn borrowed_chunks()
     ensures bytes { (c : ByteChunks)
         → EachInOrder (IsDefinite false) (chunks_left c) (chunks_bytes c)
@@ -92,8 +93,8 @@ pub fn one_cost()
         → (k : ℕ) × IsCost v b k × ((j : ℕ) → IsCost v b j → j ≡ k) }
 {}
 
-/// An empty array inside n arrays of one element each costs n + 1 steps. These bytes are an item if
-/// n is below 256.
+/// The shortest encoding of an empty array inside n arrays of one element each costs n + 1 steps.
+/// It is an item if n is below 256.
 pub fn nested_arrays_cost()
     ensures cost { (n k : ℕ) (v : Item) → IsCost v (replicate n 0x81 ++ 0x80 ∷ []) k → k ≡ n + 1 }
     ensures item { (n : ℕ) → n < 256 → (v : Item) × IsItem (replicate n 0x81 ++ 0x80 ∷ []) v }

@@ -88,7 +88,7 @@ impl<'a> Pull<'a> {
     /// Allocates nothing.
     ///
     /// # Errors
-    /// The same as [`check`].
+    /// The same as [`check`](crate::de::check).
     pub fn new(bytes: &'a [u8]) -> Result<(Pull<'a>, &'a [u8]), Error<EndOfFile>>
         ensures found { IfOk result (λ x. BeginsWith bytes.now x.0 x.1.now) }
         ensures refused { IfErr result (λ e. HasNoItem bytes.now) }
@@ -175,8 +175,8 @@ impl<'a> Pull<'a> {
         }
     }
 
-    /// Copies the content of a byte string and joins its chunks (RFC 8949, section 3.1). Returns
-    /// `None` for any other item.
+    /// Copies the content of a byte string and joins its chunks (RFC 8949, sections 3.1 and 3.2.3).
+    /// Returns `None` for any other item.
     ///
     /// # Errors
     /// `OutOfMemory` if an allocation fails.
@@ -196,8 +196,8 @@ impl<'a> Pull<'a> {
         }
     }
 
-    /// Copies the content of a text string and joins its chunks (RFC 8949, section 3.1). Returns
-    /// `None` for any other item.
+    /// Copies the content of a text string and joins its chunks (RFC 8949, sections 3.1 and 3.2.3).
+    /// Returns `None` for any other item.
     ///
     /// # Errors
     /// `OutOfMemory` if an allocation fails.

@@ -99,7 +99,7 @@ so_far_none k all h t z m e within = record {
   second = ap (λ x. x.1) (no_signatures_yet h e);
 }
 
--- One of the next pairs has a fault.
+-- Reading the next pairs failed.
 pub pairs_refused :
     (k : ℕ) (all : Pairs) (o : PerVersion (Option Item)) (z : State) (f : FieldsView) (t : State) (m : MapEntries) (h : HeaderView)
     (r : Result (Unit {0}) ErrorStored) (e : CoseError) (y : ErrorStored) → IsErrAnd r (λ i. i ≡ y)

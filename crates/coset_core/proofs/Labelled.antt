@@ -18,7 +18,7 @@ use Rattle.coset_core.specs.Kept.{EachReadAs, EachSignature, KeepsAbbreviated, S
 
 -- ---- images made of parts
 
--- The parts of a result that was made of two results, and of one.
+-- The parts of a value that was made of two optional values. `mapped_part` is the same for one.
 pub both_parts : {A B C : Type 0} (f : A → B → C) (o : Option A) (p : Option B) (x : C) → both f o p ≡ Some x
     → (a : A) × (b : B) × (o ≡ Some a) × (p ≡ Some b) × (x ≡ f a b)
 both_parts f (Some a) (Some b) x e = (a, b, refl, refl, sym (some-one refl e))

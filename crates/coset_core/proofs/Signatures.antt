@@ -74,7 +74,7 @@ opened h = ap header_count (header-opened h)
 abbrev pub within : SignatureView → ℕ
 within s = header_count s.protected.header + header_count s.unprotected
 
--- One more signature counts as one, and as those in its headers.
+-- The last signature adds one to the count, and the number of signatures in its headers.
 last_counts : {T : Type 0} (view : T → SignatureView) (ss : List T) (s : T)
     → signatures_count (signatures_of (map view (ss ++ s ∷ []))) ≡ suc (within (view s) + signatures_count (signatures_of (map view ss)))
 last_counts view [] s = omega arith

@@ -1,4 +1,4 @@
--- The labels of a header's fields (RFC 8152, section 3.1), by their IANA names.
+-- The labels of a header's fields (RFC 8152, section 3.1; RFC 9338, section 2), by their IANA names.
 use Rattle.coset_iana.specs.HeaderParameter as parameters
 use Rattle.coset_iana.specs.declared.headers.HeaderParameter.TheVariants.{Alg, Crit, ContentType, Kid, Iv, PartialIv, CounterSignature, CounterSignatureV2}
 use Rattle.coset_iana.specs.declared.headers.HeaderParameter.TheVariants.{CounterSignature0V2}

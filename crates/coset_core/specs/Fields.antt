@@ -53,7 +53,7 @@ content_type = such_that IsUnexpected IsContentType (registered (λ i. is_some (
 
 -- ---- maps of the fields
 
--- One value for each of the two labels of counter signatures, 7 and 11.
+-- A value for each of the two labels of counter signatures, 7 and 11.
 abbrev pub PerVersion : Type 0 → Type 0
 PerVersion C = C × C
 

@@ -122,15 +122,15 @@ abbrev pub FirstPlace : Item → Option (List ℕ) → CoseError → Bool → Ty
 FirstPlace w o f true = (b : List ℕ) × (as_bytes w ≡ Some b) × (o ≡ Some b)
 FirstPlace w o f false = (k : ℕ) → UnlessMemory f ((layered_protected k).faults w)
 
--- The input t is at the second element. The first element is a byte string with the bytes o, or the error f says why it
--- is not. Otherwise there are too few elements.
+-- The input t is at the second element. The first element is a byte string with the bytes o, or reading it failed with
+-- the error f. Otherwise the error e is a fault of the signature's array, or `OutOfMemory`.
 abbrev pub BeginsElements : Items → State → State → ArrayElements → Option (List ℕ) → CoseError → Result Bool CoseError → Type 0
 BeginsElements vs t z m o f (Ok is) =
     (w : Item) × (u : Item) × (others : Items) × (mid : State) × (vs ≡ item w (item u others)) × ItemAt u t mid × AreWithin m others mid z × FirstPlace w o f is
 BeginsElements vs t z m o f (Err e) = (left : Items) × AreWithin m left t z × ((k : ℕ) → UnlessMemory e ((layered_signature k).faults (array vs)))
 
--- The third element is the last, and is a byte string with the bytes b. Otherwise it is no byte string, or the number
--- of elements is wrong.
+-- The third element is the last, and is a byte string with the bytes b. Otherwise the element is no byte string, the
+-- number of elements is wrong, or an allocation failed.
 abbrev pub EndsElements : Items → State → State → ArrayElements → List ℕ → Result (Unit {0}) CoseError → Type 0
 EndsElements vs t z m b (Ok x) = (w : Item) × (vs ≡ item w no_items) × (as_bytes w ≡ Some b) × AreWithin m no_items t z
 EndsElements vs t z m b (Err e) = (left : Items) × AreWithin m left t z

@@ -1,5 +1,5 @@
 -- A header as the map of its fields, with signatures under labels 7 and 11: `header_map` of RFC 8152, section 3. Label
--- 7 has counter signatures (section 4.5). Those of label 11 are modelled on RFC 9338, section 3.1.
+-- 7 has counter signatures (section 4.5). The countersignatures of label 11 are those of RFC 9338, section 3.1.
 use Rattle.std.specs.Prelude.{List, [], ◌∷◌}
 use Rattle.coset_codec.specs.Shape.{Shape, mapped}
 use Rattle.coset_codec.specs.Maps.{unless_empty}

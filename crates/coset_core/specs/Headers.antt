@@ -153,7 +153,7 @@ abbrev mutual
 abbrev pub HeaderFaults : (Item → CoseError → Type 0) → Item → CoseError → Type 0
 HeaderFaults C v e = partial_header.faults v e ⊎ SomeCounterSignatures (λ w. C w e) v
 
--- A fault of a protected header's item. It is no byte string, or no layer is left, or its content has a fault.
+-- A fault of a protected header's item: the item is no byte string, no layer is left, or the content has a fault.
 abbrev pub ProtectedFaults : (ℕ → Item → CoseError → Type 0) → ℕ → Item → CoseError → Type 0
 ProtectedFaults H zero v e = ((as_bytes v ≡ None) × IsUnexpected e) ⊎ ((b : List ℕ) × (as_bytes v ≡ Some b) × (e ≡ DecodeFailed RecursionLimitExceeded))
 ProtectedFaults H (suc k) v e = ((as_bytes v ≡ None) × IsUnexpected e) ⊎ ((b : List ℕ) × (as_bytes v ≡ Some b) × ContentFaults (fixed (λ w. ⊤) None (H k)) b e)

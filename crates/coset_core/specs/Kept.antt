@@ -1,5 +1,5 @@
--- How signatures in headers keep their bytes, for both versions. One part is about decoded headers, the other about
--- headers that are written and read again.
+-- How signatures in headers keep their bytes, for both versions. The first part is about decoded headers, the
+-- second about headers that are written and read again.
 use Rattle.std.specs.Prelude.{◌≡◌, ℕ, List, [], ◌∷◌, Option, Some, None}
 use Rattle.std.specs.Map.{lookup}
 use Rattle.coset_value.specs.Item.{Item, Items, no_items, item}

@@ -8,7 +8,7 @@ ghost use Rattle.coset_core.specs.Calls.{CallsWith, TriesToCreate};
 use coset_codec::{CallError, Result};
 
 /// Calls `f` with `bytes` and a structure, in this order, such as a signature and the bytes that it
-/// is over. Calls it once if the structure could be made, and not at all otherwise.
+/// is over. Calls `f` once if the structure could be made, and not at all otherwise.
 ///
 /// # Errors
 /// - The error in `structure`.

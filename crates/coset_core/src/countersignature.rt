@@ -1,6 +1,5 @@
-//! Countersignatures of version 2. They have the shape of a signature, and they cover more than
-//! counter signatures of label 7. The shape, the structures and their contexts are this library's
-//! own, modelled on RFC 9338.
+//! Countersignatures of version 2 (RFC 9338, section 3.1). They have the shape of a signature, and
+//! they cover more than counter signatures of label 7.
 
 ghost use Rattle.std.specs.Prelude.{◌≡◌, [], map, OnOk, IfOk, IfErr, IfSome, IsTrue, None, ◌↔◌, ◌+◌, ◌<◌};
 ghost use Rattle.coset_codec.specs.declared.error.CoseError.TheVariants.{OutOfMemory};
@@ -30,7 +29,7 @@ use coset_codec::{Codec, Result, TaggedCodec};
 use std::alloc::{AllocError, Global};
 use std::marker::Model;
 
-/// A countersignature of version 2, modelled on RFC 9338, section 3.1.
+/// A countersignature of version 2 (RFC 9338, section 3.1).
 ///
 /// Its array is that of a signature, and it may be under tag 19. It is in headers under label 11
 /// ([`Header::countersignatures_v2`]).

@@ -42,7 +42,7 @@ pub(crate) mod writing;
 
 pub use builder::HeaderBuilder;
 
-/// The estimated size of a header without its byte strings, in bytes.
+/// The estimated size of a header without its byte strings and `rest`, in bytes.
 const HEADS: usize = 24;
 
 /// The estimated size of a pair of `rest`, in bytes: a label and a short value.
@@ -158,8 +158,8 @@ impl Header {
 
     /// Returns the value of the first pair of `rest` with this label, or `None` if there is none.
     ///
-    /// In a decoded header, `rest` has no label of a field (1 to 7, 11 and 12; RFC 8152, section
-    /// 3).
+    /// In a decoded header, `rest` has no label of a field: 1 to 7, 11 and 12 (RFC 8152, section
+    /// 3.1; RFC 9338, section 2).
     pub fn get(&self, label: &Label) -> Option<&Value>
         ensures { option_map (λ v. value_item v.now) result ≡ lookup (same_label
             (label_view label.now))

@@ -1,4 +1,5 @@
-//! Protected headers, which signatures cover. A decoded one keeps its bytes (RFC 8152, section 3).
+//! Protected headers, which signatures cover. If decoded from its byte string, a protected header
+//! keeps the bytes (RFC 8152, section 3).
 
 ghost use Rattle.std.specs.Prelude.{◌≡◌, ◌≤◌, option_map, OnOk, IfOk, IfErr, IsTrue, Some, None, ℕ, List, ◌↔◌};
 ghost use Rattle.coset_codec.specs.declared.error.CoseError.TheVariants.{OutOfMemory};
@@ -82,7 +83,7 @@ impl ProtectedHeader {
     /// - `ExtraneousData` if bytes follow the item.
     /// - A fault in the header.
     ///
-    /// Of several faults, the first one found is returned.
+    /// If there are several faults, the first one found is returned.
     pub fn from_cbor_bstr(alloc: Global, value: Value) -> Result<ProtectedHeader>
         ensures read { Reads protected_shape protected_view (value_item value) result }
         ensures refused { RefusesItem protected_shape (value_item value) result }
@@ -311,7 +312,7 @@ pub(crate) fn fill_protected(
 /// - `ExtraneousData` if bytes follow the item.
 /// - A fault in the header.
 ///
-/// Of several faults, the first one found is returned.
+/// If there are several faults, the first one found is returned.
 #[cycle(read)]
 fn fill_content(
     header: &mut Header,

@@ -41,7 +41,7 @@ use coset_codec::{Codec, CoseError, Result};
 use std::alloc::{AllocError, Global};
 use std::marker::Model;
 
-/// One signature, with its own headers (RFC 8152, section 4.1).
+/// A signature with its own headers (RFC 8152, section 4.1).
 ///
 /// It is a signature of a `COSE_Sign` message or a counter signature (section 4.5).
 ///

@@ -115,9 +115,9 @@ pub enum Algorithm {
     SHA_256_64 = -15,
     /// SHA-1 (RFC 9054, section 3.1).
     SHA_1 = -14,
-    /// A shared secret, from which HKDF with AES-MAC of 256 bits derives the key.
+    /// A shared secret, from which HKDF with AES-MAC (256-bit key) derives the key.
     Direct_HKDF_AES_256 = -13,
-    /// A shared secret, from which HKDF with AES-MAC of 128 bits derives the key.
+    /// A shared secret, from which HKDF with AES-MAC (128-bit key) derives the key.
     Direct_HKDF_AES_128 = -12,
     /// A shared secret, from which HKDF with SHA-512 derives the key.
     Direct_HKDF_SHA_512 = -11,

@@ -78,7 +78,7 @@ pub enum CwtClaimName {
     SubmodulesSection = 266,
     /// The number of times that the device has booted.
     BootCount = 267,
-    /// A number that is new at each boot of the device.
+    /// A value that is new at each boot of the device.
     BootSeed = 268,
     /// Digital letters of approval.
     DLoAs = 269,
@@ -150,7 +150,7 @@ pub enum CwtClaimName {
     PsaSecurityLifecycle = 2395,
     /// The identifier of the root of trust, in a PSA token (RFC 9783).
     PsaImplementationId = 2396,
-    /// The certificate of the device, in a PSA token (RFC 9783).
+    /// The reference to the device's PSA certification, in a PSA token (RFC 9783).
     PsaCertificationReference = 2398,
     /// The software that was booted, in a PSA token (RFC 9783).
     PsaSoftwareComponents = 2399,

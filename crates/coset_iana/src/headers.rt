@@ -160,7 +160,7 @@ impl WithPrivateRange for HeaderParameter {
 }
 
 /// The label of a header parameter that belongs to a recipient's algorithm, as IANA's registry
-/// "COSE Header Algorithm Parameters" assigns it (RFC 8152, sections 11 to 12 and 16.3).
+/// "COSE Header Algorithm Parameters" assigns it (RFC 8152, sections 11, 12 and 16.3).
 #[derive(Clone, Copy, Debug, Eq, Ord, PartialEq, PartialOrd)]
 pub enum HeaderAlgorithmParameter {
     /// The certificate chain of the sender's static key (RFC 9360, section 3).

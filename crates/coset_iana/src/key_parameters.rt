@@ -163,11 +163,11 @@ pub enum RsaKeyParameter {
     QInv = -8,
     /// The further prime factors: an array of maps.
     Other = -9,
-    /// A further prime factor, in such a map.
+    /// A further prime factor, in a map of `Other`.
     RI = -10,
-    /// d modulo (that prime factor minus 1), in such a map.
+    /// d modulo (the further prime factor minus 1), in a map of `Other`.
     DI = -11,
-    /// The inverse of the product of all earlier prime factors, in such a map.
+    /// The inverse of the product of all earlier prime factors, in a map of `Other`.
     TI = -12,
 }
 

@@ -1,11 +1,11 @@
 //! IANA's registries for COSE and CBOR web tokens, as enums.
 //!
-//! The variants of each enum have the numbers that IANA assigns; those of [`KeyOperation`] are of
-//! RFC 8152. `to_i64` returns a value's number, and `from_i64` returns the value of a number, if
-//! there is one. The two functions are inverse to each other. [`EnumI64`] states this as a law, so
-//! generic code can rely on it for these seventeen registries and for a caller's own. Values are
-//! ordered by their numbers. `name` returns a value's name in its registry ([`Named`]), and
-//! `Display` writes it.
+//! The variants of each enum have the numbers that IANA assigns. Only the numbers of
+//! [`KeyOperation`] come from RFC 8152 instead. `to_i64` returns a value's number, and `from_i64`
+//! returns the value of a number, if there is one. The two functions are inverse to each other.
+//! [`EnumI64`] states this as a law, so generic code can rely on it for these seventeen registries
+//! and for a caller's own. Values are ordered by their numbers. `name` returns a value's name in
+//! its registry ([`Named`]), and `Display` writes it.
 #![tactic(auto)]
 
 ghost use Rattle.std.specs.Prelude.{◌≡◌, ℕ, ℤ, Bool, List, Option, Some};

@@ -102,7 +102,7 @@ then-less n p h q = grind arith
 then-not-less : (n : ℕ) (p : Ordering) → 1 ≤ n → is_lt p ≡ false → is_lt (ordering_then (nat_cmp n 1) p) ≡ false
 then-not-less n p h q = grind arith
 
--- If a one-byte number is less in one order, it is less in the other, because no encoding is shorter than one byte.
+-- If `label_cmp` puts a one-byte number before a label, both orders do, because no encoding is shorter than one byte.
 less-by : (o : CborOrdering) (c : ℕ) (b : LabelView) → c < 24 → label_cmp (number (pos c)) b ≡ Less → label_cmp_by o (number (pos c)) b ≡ Less
 less-by Lexicographic c b k h = h
 less-by LengthFirstLexicographic c b k h =
@@ -136,7 +136,7 @@ is_field-number (suc (suc (suc (suc zero)))) h k = refl
 is_field-number (suc (suc (suc (suc (suc zero))))) h k = refl
 is_field-number (suc (suc (suc (suc (suc (suc n)))))) h k = absurd (omega (arith, k))
 
--- The labels 0 to 5 are less than all such labels.
+-- The labels 0 to 5 are less than all labels that are neither a field's nor 0.
 above-fields : (o : CborOrdering) (c : ℕ) (b : LabelView) → c ≤ 5 → IsOther b → label_cmp_by o (number (pos c)) b ≡ Less
 above-fields o c b k h = less-by o c b (omega arith) (by b h)
   where

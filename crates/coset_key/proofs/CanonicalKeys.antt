@@ -48,7 +48,7 @@ arranged v k ps p m =
     let a = labelled_arranged cose_labels cose_labels_laws true fields fields_laws v (parts_of k) ps p.0 m in
     record { image = a.image; is_image = a.is_image; described = (a.described, p.1); shallow = a.shallow }
 
--- The labels of the params of a key that was read differ.
+-- In a key that was read, the labels of the params differ.
 params_differ : (o : CborOrdering) (v : Item) (k : KeyView) → key.describes v k → IsDistinct (eq_by_cmp (label_cmp_by o)) (keys_of k.params)
 unfolding key
 params_differ o v k p =

@@ -3,7 +3,7 @@ use Rattle.std.proofs.Common.{◌≡◌, ◌≤◌, ◌<◌, ℕ, zero, suc, Lis
 use Rattle.coset_value.specs.Item.{Item, Items, no_items, item, depth, items_depth}
 use Rattle.coset_codec.specs.Shape.{Shape, Each}
 
--- Each element is described by an item of the list, whose depth is at most the list's.
+-- Each element is described by an item of the list. The depth of this item is at most the list's.
 pub element_of :
     {A : Type 0} (s : Shape A) (vs : Items) (xs : List A) (n : ℕ) (x : A) → Each s.describes vs xs → n < length xs → get_or xs n x ≡ x
     → (v : Item) × s.describes v x × (depth v ≤ items_depth vs)

@@ -14,7 +14,7 @@ set-there view [] b none all = sym (ap not (all refl))
 set-there view (k ∷ ks) true none all = let e = none refl in absurd (omega (arith, e))
 set-there view (k ∷ ks) false none all = refl
 
--- An algorithm has an item.
+-- Every algorithm has an image.
 pub algorithm-has : (n : RegisteredLabelView) → algorithm.image n ≡ None → ⊥
 unfolding algorithm
 algorithm-has (assigned i) e = absurd (cc)

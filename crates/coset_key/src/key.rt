@@ -399,7 +399,7 @@ fn write_key_ops(
     )
 }
 
-/// Builds a [`CoseKey`], field by field. Contracts see it as the key that
+/// Builds a [`CoseKey`] field by field. Contracts see the builder as the key that
 /// [`build`](CoseKeyBuilder::build) returns.
 #[derive(Debug, Drop)]
 pub struct CoseKeyBuilder(CoseKey);
@@ -601,8 +601,8 @@ impl CoseKeyBuilder {
 
     /// Adds a pair whose label is a number outside 0 to 5.
     ///
-    /// The labels 1 to 5 have calls of their own, and 0 is reserved. A key with a repeated label
-    /// can't be written (`DuplicateMapKey`).
+    /// The labels 1 to 5 have calls of their own, and 0 is reserved. A key with a repeated label in
+    /// `params` can't be written (`DuplicateMapKey`).
     ///
     /// # Errors
     /// `OutOfMemory` if an allocation fails.

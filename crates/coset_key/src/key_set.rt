@@ -18,6 +18,8 @@ use std::alloc::{AllocError, Global};
 /// ```cddl
 /// COSE_KeySet = [ * COSE_Key ]
 /// ```
+///
+/// RFC 8152 requires at least one key. A set without keys can be read and written too.
 #[derive(Debug, Drop, PartialEq, Eq)]
 pub struct CoseKeySet(pub Vec<CoseKey>);
 

@@ -1,4 +1,4 @@
--- A copied option or list has the same view as the original, if the copies of its elements have.
+-- A copied option or list has the same view as the original if each copied element has the same view as its original.
 use Rattle.std.proofs.Common.{◌≡◌, List, [], ◌∷◌, Option, Some, None, option_map, map, refl, ap}
 use Rattle.std.specs.List.{AllZip}
 

@@ -24,7 +24,7 @@ as_label (assigned i) = number i
 as_label (private_use i) = number i
 as_label (text_name s) = text_label s
 
--- 1 for a private-use number, else 0. It puts an assigned number before the same number for private use.
+-- 1 for a private-use number, else 0. This rank puts an assigned number before the same number for private use.
 abbrev pub private_rank : RegisteredLabelView → ℕ
 private_rank (assigned i) = 0
 private_rank (private_use i) = 1

@@ -64,11 +64,12 @@ abbrev pub registered_or_private : (ℤ → Bool) → (ℤ → Bool) → Shape R
 registered_or_private known private =
     mapped registered_of_sum sum_of_registered (either is_integer (either (is_known known) int64 (such_that IsNotPrivate (λ i. private i ≡ true) int64)) tstr)
 
--- The labels of a registry whose values `value_of` returns, by number.
+-- The labels of a registry. `value_of` returns the registry's value for a number, if there is one.
 abbrev pub registered_in : {T : Type 0} → (ℤ → Option T) → Shape LabelView
 registered_in value_of = registered (λ i. is_some (value_of i))
 
--- The labels of a registry with a private-use range, whose assigned values `value_of` returns, by number.
+-- The labels of a registry with a private-use range. `value_of` returns the assigned value for a number, if there is
+-- one. `private i` is true if i is in the range.
 abbrev pub registered_or_private_in : {T : Type 0} → (ℤ → Option T) → (ℤ → Bool) → Shape RegisteredLabelView
 registered_or_private_in value_of private = registered_or_private (λ i. is_some (value_of i)) private
 

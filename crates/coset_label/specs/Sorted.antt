@@ -1,4 +1,4 @@
--- Lists of pairs, sorted by label. Of all lists with the same pairs and distinct labels, only one is sorted.
+-- Lists of pairs, sorted by label. Among all lists with the same pairs and distinct labels, only one is sorted.
 use Rattle.std.specs.Prelude.{◌≡◌, List}
 use Rattle.std.specs.List.{IsDistinct}
 use Rattle.std.specs.List.Sorted.{IsPermutation, IsSortedByKey}
@@ -11,7 +11,7 @@ use Rattle.coset_value.specs.Item.{Item}
 abbrev pub AreInOrder : {N : Type 0} → (N → N → Ordering) → List (N × Item) → Type 0
 AreInOrder cmp es = IsSortedByKey (λ e. e.0) cmp es
 
--- Two lists with the same pairs are equal if their labels all differ and both are sorted.
+-- Two lists with the same pairs are equal if neither repeats a label and both are sorted.
 abbrev pub HasOneOrder : {N : Type 0} → (N → N → Ordering) → Type 0
 HasOneOrder {N} cmp = (xs ys : List (N × Item)) → IsDistinct (eq_by_cmp cmp) (keys_of xs) → IsPermutation xs ys → AreInOrder cmp xs → AreInOrder cmp ys
     → xs ≡ ys

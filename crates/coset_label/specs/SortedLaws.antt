@@ -82,7 +82,8 @@ module _ {N : Type 0} {cmp : N → N → Ordering} (o : IsTotalOrder cmp) where
         | inr m ↦ elim (in-cases x xs y d) [ inl h ↦ h | inr n ↦ absurd (not-both x.0 y.0 (above x xs y s n) (above y ys x t m)) ]
       ]
 
-  -- If two lists have the same first element, a later element of one is a later element of the other.
+  -- If two strictly sorted lists have the same first element, an element of both that comes later in one also comes
+  -- later in the other.
   behind : (x y : N × Item) (xs ys : List (N × Item)) (e : N × Item) → IsStrictlySortedBy cmp (keys_of (x ∷ xs)) → x ≡ y → Contains (y ∷ ys) e → Contains xs e
       → Contains ys e
   behind x y xs ys e s one d c =

@@ -106,7 +106,7 @@ impl Label {
     }
 }
 
-/// Returns true if the label is the number of this parameter, from any registry.
+/// Returns true if the label is the number of `parameter`, which may be of any registry.
 pub fn is_parameter<P: EnumI64 + Copy>(label: &Label, parameter: P) -> bool
     ensures { result ≡ same_label (number (P.number parameter)) (label_view label.now) }
 {

@@ -1,7 +1,8 @@
 //! Borrowed labels of any kind, and their orders.
 //!
-//! Labels are ordered as their encodings, which compare by head and then by content (RFC 8949,
-//! sections 3 and 4.2.1). Comparing them encodes nothing and allocates nothing.
+//! Labels are ordered as their encodings: by head and then by content (RFC 8949, sections 3 and
+//! 4.2.1), or by length first (RFC 7049, section 3.9). Comparing labels encodes nothing and
+//! allocates nothing.
 
 ghost use Rattle.std.specs.Prelude.{◌≡◌};
 ghost use Rattle.coset_label.specs.LabelData.{number, label_cmp, canonical_cmp, major_type, argument, content, head_length, encoded_length};

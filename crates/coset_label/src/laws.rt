@@ -32,7 +32,7 @@ pub fn orders_match_equality()
     ensures registered { TellsApart registered_cmp }
 {}
 
-/// Two lists with the same pairs are equal if their labels all differ and both are sorted by label.
+/// Two lists with the same pairs are equal if neither repeats a label and both are sorted by label.
 pub fn one_order()
     ensures bytes { HasOneOrder label_cmp }
     ensures lengths { HasOneOrder canonical_cmp }

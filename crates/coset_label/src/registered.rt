@@ -142,8 +142,8 @@ impl<T: EnumI64 + WithPrivateRange + Drop> Codec for RegisteredLabelWithPrivate<
     }
 }
 
-/// Writes an assigned value as its own `Display` does, which is its name. Writes a text as its
-/// `Debug` does: in double quotes, with escapes.
+/// Writes an assigned value as its own `Display` does. For the enums of `coset_iana`, this is the
+/// value's name. Writes a text as its `Debug` does: in double quotes, with escapes.
 impl<T: fmt::Display> fmt::Display for RegisteredLabel<T> {
     ghost use Rattle.coset_label.specs.Views.{registered_output};
 
@@ -157,8 +157,9 @@ impl<T: fmt::Display> fmt::Display for RegisteredLabel<T> {
     }
 }
 
-/// Writes a private-use number in decimal, and an assigned value as its own `Display` does, which
-/// is its name. Writes a text as its `Debug` does: in double quotes, with escapes.
+/// Writes a private-use number in decimal, and an assigned value as its own `Display` does. For the
+/// enums of `coset_iana`, this is the value's name. Writes a text as its `Debug` does: in double
+/// quotes, with escapes.
 impl<T: fmt::Display> fmt::Display for RegisteredLabelWithPrivate<T> {
     ghost use Rattle.coset_label.specs.Views.{registered_or_private_output};
 

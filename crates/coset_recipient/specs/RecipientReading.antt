@@ -16,7 +16,7 @@ abbrev pub FillsFirst : Item → Item → Item → ProtectedView → HeaderView 
 FillsFirst v w x p u c (Ok t) = protected.describes v p × header.describes w u × (or_nil bstr).describes x c
 FillsFirst v w x p u c (Err e) = UnlessMemory e (λ f. protected.faults v f ⊎ header.faults w f ⊎ (or_nil bstr).faults x f)
 
--- The first three elements were read, and the others are at t. Otherwise there are fewer.
+-- The first three elements were read, and the others are at t. Otherwise there are fewer than three elements.
 abbrev pub BeginsThree : Items → ProtectedView → HeaderView → Option (List ℕ) → State → State → ArrayElements → Result (Result (Unit {0}) CoseError) CoseError
     → Type 0
 BeginsThree vs p u c t z m (Ok r) =

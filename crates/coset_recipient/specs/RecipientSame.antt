@@ -14,7 +14,7 @@ use Rattle.coset_codec.specs.EqDecides.{EqDecides}
 use Rattle.coset_recipient.specs.RecipientViews.{recipient_view}
 use Rattle.coset_recipient.specs.Recipient.{Recipients, no_recipients, recipient_and, RecipientView}
 
--- There are as many recipients in both, and each has the same fields as its counterpart.
+-- Both lists have the same number of recipients, and each recipient has the same fields as its counterpart.
 abbrev pub recipients_eq : Recipients → Recipients → Bool
 recipients_eq no_recipients no_recipients = true
 recipients_eq (recipient_and p u c inside more) (recipient_and q v d others rest) =

@@ -8,8 +8,8 @@ use Rattle.coset_recipient.specs.Encrypt.{EncryptView}
 use Rattle.coset_recipient.specs.Mac.{MacView}
 use Rattle.coset_recipient.specs.Recipient.{Recipients, no_recipients, recipient_and, RecipientView}
 
--- There are as many recipients in both. Corresponding ones have the same structure, and so have those nested in them,
--- at any depth.
+-- Both lists have the same number of recipients. Corresponding recipients have the same structure, and so have those
+-- nested in them, at any depth.
 abbrev pub EachEncryptsSame : Recipients → Recipients → Type 0
 EachEncryptsSame no_recipients no_recipients = ⊤
 EachEncryptsSame (recipient_and p u c inside more) (recipient_and q w d within others) =

@@ -446,8 +446,9 @@ impl CoseRecipient {
     /// Returns the additional authenticated data: the encoded `Enc_structure` (RFC 8152,
     /// section 5.3).
     ///
-    /// A protected header that was read is represented by its kept bytes. `context` is that of a
-    /// recipient of an encrypted message, of a message with a MAC, or of another recipient.
+    /// A protected header that was read is represented by its kept bytes. `context` should be
+    /// `EncRecipient` in an encrypted message, `MacRecipient` in a message with a MAC, and
+    /// `RecRecipient` in another recipient. The function does not check `context`.
     ///
     /// # Errors
     /// - `OutOfMemory` if an allocation fails.
@@ -479,10 +480,10 @@ impl CoseRecipient {
     /// Calls `cipher` with the ciphertext and the additional authenticated data (RFC 8152, section
     /// 5.3), and returns the plaintext: the key, or other content.
     ///
-    /// The recipient must carry a ciphertext. `context` is that of a recipient of an encrypted
-    /// message, of a message with a MAC, or of another recipient. `cipher` gets its arguments in
-    /// this order. It is called once, or not at all if the additional authenticated data can't be
-    /// made.
+    /// The recipient must carry a ciphertext. `context` must be that of a recipient:
+    /// `EncRecipient` in an encrypted message, `MacRecipient` in a message with a MAC, or
+    /// `RecRecipient` in another recipient. `cipher` gets its arguments in this order. It is called
+    /// once, or not at all if the additional authenticated data can't be made.
     ///
     /// # Errors
     /// - `Coset` with an error of [`CoseRecipient::aad`].
@@ -713,10 +714,10 @@ impl CoseRecipientBuilder {
     /// Calls `cipher` with `plaintext` and the additional authenticated data (RFC 8152, section
     /// 5.3), and sets the ciphertext to its result.
     ///
-    /// Set all other fields before this call. `context` is that of a recipient of an encrypted
-    /// message, of a message with a MAC, or of another recipient. `cipher` gets its arguments in
-    /// this order. It is called once, or not at all if the additional authenticated data can't be
-    /// made.
+    /// Set all other fields before this call. `context` must be that of a recipient:
+    /// `EncRecipient` in an encrypted message, `MacRecipient` in a message with a MAC, or
+    /// `RecRecipient` in another recipient. `cipher` gets its arguments in this order. It is called
+    /// once, or not at all if the additional authenticated data can't be made.
     ///
     /// # Errors
     /// - `OutOfMemory` if an allocation fails.

@@ -1,4 +1,4 @@
--- Storing the result of a closure.
+-- Views of messages with one more signature.
 use Rattle.std.proofs.Common.{◌≡◌, [], ◌∷◌, ◌++◌, map, Vec, Global, ap, ◌∙◌}
 use Rattle.std.proofs.lemmas.List.{map_push}
 use Rattle.coset_core.specs.Headers.{SignatureView}

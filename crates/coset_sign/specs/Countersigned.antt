@@ -1,5 +1,4 @@
--- The structures that countersignatures of version 2 sign. They are this library's own, modelled on RFC 9338,
--- section 3.3.
+-- The structures that countersignatures of version 2 sign: those with other fields of RFC 9338, section 3.3.
 use Rattle.std.specs.Prelude.{◌≡◌, ℕ, List, Option, Some, None, Bool, true, false, is_some, option_map, codes}
 use Rattle.coset_value.specs.Item.{Item, array, no_items, item}
 use Rattle.coset_codec.specs.Shape.{both}

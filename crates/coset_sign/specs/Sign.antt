@@ -70,7 +70,7 @@ signer_structure m s external_aad payload = signed_item CoseSignature m.protecte
 abbrev pub signer_attached : SignView → SignatureView → List ℕ → Option Item
 signer_attached m s external_aad = signer_structure m s external_aad (or_empty m.payload)
 
--- The messages have as many signatures. Each signature has the same structure as its counterpart, for any
+-- The messages have the same number of signatures. Each signature has the same structure as its counterpart, for any
 -- `external_aad` and payload.
 abbrev pub EachSignsSame : SignView → SignView → Type 0
 EachSignsSame m n = EachWith (λ s t. (external_aad payload : List ℕ)

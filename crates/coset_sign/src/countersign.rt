@@ -1,5 +1,5 @@
-//! The bytes that countersignatures of version 2 sign. The structures are this library's own,
-//! modelled on RFC 9338, section 3.3.
+//! The bytes that countersignatures of version 2 sign: the structures with other fields of
+//! RFC 9338, section 3.3.
 
 ghost use Rattle.std.specs.Prelude.{◌≡◌, ◌≢◌, [], map, option_map, is_some, IfOk, IfErr, Some, None};
 ghost use Rattle.std.specs.Option.{option_copied};
@@ -128,8 +128,7 @@ fn countersigned_bytes(
 ///
 /// `body` is the protected header of the body, and `sign` that of the countersignature. A header
 /// that was read is represented by its kept bytes. The caller chooses `other_fields` from the
-/// countersigned structure; there must be at least one. The structure is modelled on RFC 9338,
-/// section 3.3.
+/// countersigned structure; there must be at least one (RFC 9338, section 3.3).
 ///
 /// # Errors
 /// - `OutOfMemory` if an allocation fails.
@@ -172,7 +171,7 @@ pub fn countersign_v2_structure_data(
 /// ```
 ///
 /// It is the structure of [`countersign_v2_structure_data`] without the countersignature's header,
-/// and with a context of its own. It is modelled on RFC 9338, section 3.3.
+/// and with a context of its own (RFC 9338, section 3.3).
 ///
 /// # Errors
 /// The same as [`countersign_v2_structure_data`].

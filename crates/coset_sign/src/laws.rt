@@ -70,8 +70,8 @@ pub fn attached_as_written()
     ensures tagged { AsWritten (tagged 18 sign1) SamePayloadAndSignature }
 {}
 
-/// A `COSE_Sign` message that is read back, plain or tagged, has as many signatures. Each signature
-/// has the same structures to be signed.
+/// A `COSE_Sign` message that is read back, plain or tagged, has the same number of signatures.
+/// Each signature has the same structures to be signed.
 pub fn each_signed_as_written()
     ensures plain { AsWritten sign (λ m n. EachSignsSame n m) }
     ensures tagged { AsWritten (tagged 98 sign) (λ m n. EachSignsSame n m) }

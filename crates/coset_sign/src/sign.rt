@@ -466,7 +466,7 @@ impl CoseSignBuilder {
     }
 
     /// Calls `signer` with the bytes that `signature` is to sign ([`CoseSign::tbs_data`]), and
-    /// appends `signature` with its result.
+    /// appends `signature` with the result of `signer`.
     ///
     /// Set the headers of `signature` and the message's other fields before this call. `signer` is
     /// called once, or not at all if an error of this library comes first.

@@ -40,7 +40,7 @@ pairs_count no_pairs = 0
 pairs_count (pair k v ps) = suc (pairs_count ps)
 
 -- The nesting depth. An array, a map or a tag is 1 deeper than the deepest item in it. An empty array or map has depth
--- 1, and all other items have depth 0.
+-- 1. Items of all other kinds have depth 0.
 abbrev mutual
   pub depth : Item → ℕ
   depth (integer n) = 0

@@ -44,7 +44,7 @@ fn half_to_f64(bits: u16) -> f64
     if bits / 1_024 >= 32 { -size } else { size }
 }
 
-/// Returns the double of a half without its sign, from the half's exponent and fraction bits.
+/// Returns a half's magnitude as a double, from the half's exponent and fraction bits.
 fn half_magnitude(exponent: u16, fraction: u16) -> f64
     requires exponents { exponent < 32 }
     requires fractions { fraction < 2 ^ 10 }

@@ -10,9 +10,9 @@ use std::num::TryFromIntError;
 
 /// An integer from -2^64 to 2^64 - 1 (RFC 8949, section 3.1, major types 0 and 1).
 ///
-/// Integers are ordered as numbers. `From` converts Rust's integer types of up to 64 bits to an
-/// `Integer`, and an `Integer` to an `i128`. `TryFrom` converts the 128-bit types to an `Integer`,
-/// and an `Integer` to an `i64` or a `u64`. Each conversion keeps the number.
+/// Integers are ordered as numbers. `From` converts Rust's fixed-width integer types of up to 64
+/// bits to an `Integer`, and an `Integer` to an `i128`. `TryFrom` converts the 128-bit types to an
+/// `Integer`, and an `Integer` to an `i64` or a `u64`. Each conversion keeps the number.
 #[derive(Clone, Copy, Debug, PartialEq, Eq, PartialOrd, Ord)]
 pub struct Integer {
     value: i128,

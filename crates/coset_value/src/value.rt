@@ -15,8 +15,8 @@ use std::alloc::AllocError;
 
 /// A CBOR value (RFC 8949, sections 2 and 3.1).
 ///
-/// Rust's integer types of up to 64 bits convert to a `Value` with `From`. The only simple values
-/// are `false`, `true` and `null`. Tags 2 and 3 stay tags and do not become integers.
+/// Rust's fixed-width integer types of up to 64 bits convert to a `Value` with `From`. The only
+/// simple values are `false`, `true` and `null`. Tags 2 and 3 stay tags and do not become integers.
 ///
 /// Copying, comparing and dropping a value recurse once for each level of nesting.
 #[derive(Debug, Drop)]

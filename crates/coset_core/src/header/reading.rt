@@ -75,7 +75,7 @@ pub(crate) enum CountersignatureVersion {
     V2,
 }
 
-/// A field of a header, by its label (RFC 8152, section 3.1; RFC 9338, section 3).
+/// A field of a header, by its label (RFC 8152, section 3.1; RFC 9338, section 2).
 #[derive(Clone, Copy)]
 pub(crate) enum Field {
     /// Label 1.
@@ -349,8 +349,8 @@ fn fill_pairs(
         }
         let mut read = Vec::new(alloc);
         if let Err(refused) = fill_counter_signatures(&mut read, alloc, input, layers, error) {
-            // In a separate call, because dropping a signature takes more stack than a level of
-            // reading.
+            // Dropping a signature takes more stack than a level of reading, so it is a separate
+            // call.
             drop_nested(read, Vec::new(alloc));
             return Err(refused);
         }

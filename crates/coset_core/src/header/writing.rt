@@ -120,8 +120,8 @@ pub(crate) fn check_distinct(alloc: Global, rest: &[(Label, Value)]) -> Result<(
     Ok(())
 }
 
-/// Appends the head of the array of counter signatures. A single one is written without an array
-/// around it, and so without a head.
+/// Appends the head of the array of counter signatures. A single signature is written without an
+/// array around it, and so without this head.
 fn write_counter_signatures_head(count: usize, out: &mut Vec<u8>) -> Result<(), OutOfMemory>
     ensures one { OnOk result (count ≡ 1 → out.new.items ≡ out.old.items) }
     ensures array { OnOk result (count ≢ 1 → out.new.items ≡ out.old.items ++ least_head 4 count) }
@@ -158,8 +158,8 @@ pub(crate) fn write_header(alloc: Global, header: &Header, out: &mut Vec<u8>) ->
     write_rest(alloc, &header.rest, out)
 }
 
-/// Appends the pair of label 7, unless there are no signatures. One is written as itself, several
-/// as an array.
+/// Appends the pair of label 7, unless there are no signatures. A single signature is written as
+/// itself, and several as an array.
 #[cycle(write)]
 fn write_counter_signatures(
     alloc: Global,

@@ -1,0 +1,127 @@
+"""Checks of tools/pages that need nothing built: links and paths, the places of promises, the kit's version, the texts of edits."""
+import os
+import re
+import subprocess
+import sys
+
+sys.dont_write_bytecode = True
+import common  # noqa: E402
+import edits  # noqa: E402
+from sources import files, read  # noqa: E402
+
+HERE = common.HERE
+WORD = re.compile(r"[A-Za-z_]\w*")
+LINK = re.compile(r"\]\(([^)#\s]+)(?:#[^)]*)?\)")
+# A path in backquotes, or in the text of a page: one that begins with a folder of the repository.
+PATH = re.compile(r"(?<![\w/.])((?:crates|tools|c|docs|edits|coset_\w+|cwt_gate|ffi_\w+|tool_\w+|test_\w+|example_\w+)/[\w./*-]+)")
+
+
+def pages():
+    """Returns the paths of all pages."""
+    found = [*sorted(it for it in os.listdir(HERE) if it.endswith(".md")), *files("docs")]
+    return [*found, *(f"crates/{it}/README.md" for it in sorted(os.listdir(f"{HERE}/crates")) if os.path.exists(f"{HERE}/crates/{it}/README.md"))]
+
+
+# ---- links and paths
+
+
+def is_there(path):
+    """Returns true if the repository has this file or folder. A path may begin with the name of a crate, and leave out `src/`."""
+    crate, _, rest = path.partition("/")
+    places = [path, f"crates/{path}", f"crates/{crate}/src/{rest}"]
+    return any(os.path.exists(f"{HERE}/{it}") for it in places)
+
+
+def astray(page):
+    """Yields the links and paths of a page that lead to no file. Built files, patterns, and words in capitals aren't checked."""
+    text, folder = read(page), os.path.dirname(page)
+    for link in LINK.findall(text):
+        if "://" not in link and not os.path.exists(os.path.join(HERE, folder, link)):
+            yield f"{page}: there is no {link}"
+    prose = re.sub(r"^```.*?^```", "", text, flags=re.M | re.S)
+    for path in sorted({it.rstrip("./-") for it in PATH.findall(prose)}):
+        if not re.search(r"[*]|/out(/|$)|\b[A-Z]{4,}\b", path) and not path.startswith("crates/hello") and not is_there(path):
+            yield f"{page}: there is no {path}"
+
+
+# ---- promises
+
+
+def module(crate, name):
+    """Returns the text of a crate's modules of that name, or of its folder specs/. An empty text: there are none."""
+    if name == "specs":
+        return "".join(read(it) for it in files("crates", crate, "specs"))
+    return "".join(read(it) for it in files("crates", crate, "src") if os.path.basename(it) == f"{name}.rt")
+
+
+def crate_text(crate):
+    """Returns the text of a crate's code, contracts and definitions."""
+    return "".join(read(it) for part in ("src", "specs") for it in files("crates", crate, part))
+
+
+def texts_at(cell):
+    """Yields each place that a cell 'Where' names, with its text: `crate`, module, .. or laws. Other words yield nothing."""
+    crate, parts = None, [it.strip() for it in cell.split(",")]
+    for at, part in enumerate(parts):
+        if named := re.fullmatch(r"`(\w+)`", part):
+            crate = named[1]
+            if at + 1 == len(parts) or parts[at + 1] == "laws" or parts[at + 1].startswith("`"):
+                yield part, crate_text(crate)
+        elif part == "laws":
+            yield part, read("crates", "coset", "src", "laws.rt")
+        elif of := re.fullmatch(r"laws of `(\w+)`", part):
+            yield part, module(of[1], "laws")
+        elif crate:
+            yield f"{crate}, {part}", module(crate, part)
+
+
+def misplaced():
+    """Yields the promises of PROVED whose contract isn't where the row says."""
+    for row in re.findall(r"^\| (.*) \|$", read("docs", "PROVED.md"), re.M):
+        cells = row.split(" | ")
+        if len(cells) != 3 or cells[2] == "Where":
+            continue
+        texts = dict(texts_at(cells[2]))
+        yield from (f"PROVED: there is no {it}" for it, text in texts.items() if not text)
+        known = set(WORD.findall("".join(texts.values())))
+        for code in re.findall(r"`([^`]+)`", cells[1]) if texts else ():
+            if unknown := [it for it in WORD.findall(code) if it not in known and not it.endswith("_")]:
+                yield f"PROVED: {cells[2]} has no {unknown[0]}: {cells[0][:80]}"
+
+
+# ---- the kit
+
+
+def other_kit():
+    """Yields the pages that name another kit than the installed one."""
+    ran = subprocess.run(["rt", "version"], capture_output=True, text=True, check=False)
+    installed = ran.stdout.strip()
+    for page in pages():
+        for named in sorted(set(re.findall(r"rattle-kit-\w+(?: logic \w+)?", read(page)))):
+            if page != "CHANGELOG.md" and not installed.startswith(named):
+                yield f"{page}: {named} is named, and {installed} is installed"
+
+
+# ---- edits
+
+
+def unfit():
+    """Yields the edits whose old text isn't in its file exactly once."""
+    for crate in sorted(os.listdir(f"{HERE}/crates")):
+        found = [(f"edits/{crate}.edits: {name}", lines) for name, lines in edits.records(crate, "edit", "planted")] if crate in edits.crates() else []
+        found += [(path, read(path)) for path in files("crates", crate, "must-fail") if path.endswith(".edit")]
+        for name, lines in found:
+            yield from edits.misplaced(lambda path: text_of(f"crates/{crate}/{path}"), name, lines)
+
+
+def text_of(path):
+    return read(path) if os.path.exists(f"{HERE}/{path}") else None
+
+
+def wrong():
+    """Yields what is wrong by these checks."""
+    for page in pages():
+        yield from astray(page)
+    yield from misplaced()
+    yield from other_kit()
+    yield from unfit()
