@@ -8,8 +8,8 @@ use Rattle.coset_codec.specs.Encoding.{AppendsElements}
 use Rattle.coset_codec.specs.Lists.{Continues}
 use Rattle.coset_codec.specs.Shape.{bstr, EachFaults}
 
--- Of all the items that should be byte strings, `xs` were read and `left` are to come. If one of them had a fault,
--- `all` has that fault, and `all` also has every fault of `left`.
+-- The items `all` should be byte strings: `xs` were read, and `left` are to come. If one of them had a fault, `all` has
+-- that fault, and `all` also has every fault of `left`.
 abbrev pub ReadSoFar : Items → List (List ℕ) → Items → Option CoseError → Type 0
 ReadSoFar all xs left None = Continues (List ℕ) bstr.describes bstr.faults all xs left
 ReadSoFar all xs left (Some e) = EachFaults bstr.faults all e × ((f : CoseError) → EachFaults bstr.faults left f → EachFaults bstr.faults all f)

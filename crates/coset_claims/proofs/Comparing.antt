@@ -57,7 +57,7 @@ divided_less a b p h n =
     below : (x y : ℕ) → x ≤ y → (x ≢ y) → x < y
     below x y l n = omega (arith, l, n)
 
--- A power of 2 is the product of the powers of two parts of its exponent.
+-- 2 to the power of `e` is 2 to the power of `e - c`, times 2 to the power of `c`.
 pub split : (e c : ℕ) → c ≤ e → 2 ^ e ≡ 2 ^ (e - c) * 2 ^ c
 split e c l = ap (λ (z : ℕ). 2 ^ z) (omega arith) ∙ pow-add 2 (e - c) c
 
@@ -67,7 +67,7 @@ with_scale s e k c l =
     let over : s * 2 ^ e ≡ s * 2 ^ (e - c) * 2 ^ c = ap (λ (z : ℕ). s * z) (split e c l) ∙ sym (mul_assoc s (2 ^ (e - c)) (2 ^ c)) in
     sym (cancelled (s * 2 ^ (e - c)) k (2 ^ c) (pow_pos c)) ∙ ap (λ (z : ℕ). nat_cmp z (k * 2 ^ c)) (sym over)
 
--- A number other than 0, times a power of 2 from 128 on, is greater than any number of 128 bits.
+-- A number other than 0, times 2 to the power of at least 128, is greater than any number of 128 bits.
 pub beyond : (a b up : ℕ) → 0 < a → b < 2 ^ 128 → 128 ≤ up → Greater ≡ nat_cmp (a * 2 ^ up) b
 beyond zero b up h l n = absurd (omega (arith, h))
 beyond (suc t) b up h l n =

@@ -53,7 +53,7 @@ counted (suc k) (suc most) j l n r is enough e h =
     later most (suc j) n (omega (arith, e, next, up))
     ∙ counted k most (suc j) l (n - days_in_year (suc j)) r over (omega (arith, enough)) (omega (arith, e, next, up)) h
 
--- The days before the year after `e` eras of 400 years, `m` centuries, `q` times four years, and `y` years.
+-- The days from the year 1 on, of `e` eras of 400 years, `m` centuries, `q` times four years, and `y` years.
 before : (e m q y : ℕ) → m ≤ 3 → q ≤ 24 → y ≤ 3 → days_of_years (400 * e + 100 * m + 4 * q + y) ≡ 146097 * e + 36524 * m + 1461 * q + 365 * y
 before e m q y a b c =
     let n = 400 * e + 100 * m + 4 * q + y in
@@ -62,7 +62,7 @@ before e m q y a b c =
     let j : n / 400 ≡ e = omega (arith, a, b, c) in
     omega (arith, closed n, h, i, j)
 
--- A leap day is the last day of four years, but it ends a century only if that is the last one of an era.
+-- A leap day is the last day of four years, but it ends a century only if that century is the last of an era.
 fits : (e m q y t : ℕ) → m ≤ 3 → t < 1461 → 1461 * q + t ≤ 36524 → (m < 3 → 1461 * q + t < 36524) → y ≡ min (t / 365) 3
     → t - 365 * y < days_in_year (suc (400 * e + 100 * m + 4 * q + y))
 fits e m q y t a b c d i = grind (arith, nat_tests)

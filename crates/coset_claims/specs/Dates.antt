@@ -31,7 +31,7 @@ unfoldable pub month_after : ℕ → ℕ → ℕ → ℕ → ℕ × ℕ
 month_after zero y m n = (m, n)
 month_after (suc most) y m n = if nat_lt n (days_in_month y m) then (m, n) else month_after most y (suc m) (n - days_in_month y m)
 
--- A number in decimal, with leading zeros if it has fewer digits.
+-- A number in decimal, with leading zeros if it has fewer than `digits` digits.
 abbrev pub padded : ℕ → ℕ → List ℕ
 padded digits n = styled_decimal (format_spec 32 0 4 digits (2 ^ 64 - 1)) n
 
@@ -55,7 +55,7 @@ abbrev pub in_calendar : ℤ → Option ℕ
 in_calendar (pos n) = if nat_lt n after_9999 then Some n else None
 in_calendar (negsuc n) = None
 
--- The text of a moment within the years 1 to 9999, or the seconds since 1970 began for any other.
+-- The text of a moment within the years 1 to 9999. For any other moment, the number of seconds since 1970 began.
 abbrev pub moment_or_seconds : Option ℕ → ℤ → List ℕ
 moment_or_seconds (Some n) i = moment_text n ++ codes "Z"
 moment_or_seconds None i = signed_decimal i ++ codes " seconds since 1970"

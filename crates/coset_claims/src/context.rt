@@ -139,7 +139,7 @@ impl Codec for CoseKdfContext {
         (lists_decides (λ b. b.items) _ vec_decides a.supp_priv_info.items b.supp_priv_info.items) };
 
     /// Reads the elements of a context in order. If there are too few elements, the error says so.
-    /// Otherwise it is the fault of the last element that has one.
+    /// Otherwise the error is the fault of the last element that has one.
     fn read(alloc: Global, input: &mut Decoder<'_>) -> Result<CoseKdfContext> {
         let mut elements = input.enter_array("array")?;
         elements.next_required(input, EXPECTED_ARRAY)?;

@@ -70,8 +70,8 @@ fn number_in(bits: u64, format: Format) -> Option<Number>
     })
 }
 
-/// Returns the significand for this exponent and fraction, and the power of 2 that scales it to
-/// units.
+/// Returns the significand for this exponent and fraction, and the exponent of the power of 2 that
+/// scales it to units.
 fn scaled(fractions: u64, exponent: u64, fraction: u64) -> (u64, u32)
     requires few_fractions { fractions < 2 ^ 53 }
     requires fraction { fraction < fractions }

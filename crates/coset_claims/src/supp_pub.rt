@@ -47,7 +47,7 @@ impl SuppPubInfo {
     }
 }
 
-/// The expected item, for the error of another number of elements.
+/// The expected item, for the error of a wrong number of elements.
 const EXPECTED_ARRAY: &str = "array with 2 or 3 items";
 
 /// Reads the last element, if there is one.
@@ -80,8 +80,8 @@ impl Codec for SuppPubInfo {
 
     ghost equal = { supp_pub_decides };
 
-    /// Reads the elements in order. If their number is wrong, the error says so. Otherwise it is
-    /// the fault of the last element that has one.
+    /// Reads the elements in order. If their number is wrong, the error says so. Otherwise the
+    /// error is the fault of the last element that has one.
     fn read(alloc: Global, input: &mut Decoder<'_>) -> Result<SuppPubInfo> {
         let mut elements = input.enter_array("array")?;
         elements.next_required(input, EXPECTED_ARRAY)?;

@@ -67,10 +67,10 @@ impl Codec for Timestamp {
     }
 }
 
-/// Writes the moment in UTC in the form of RFC 3339 (section 5.6): `2013-03-21T20:04:00Z`, or for a
-/// float, with microseconds, `2015-10-04T07:49:04.500000Z`. A moment outside the years 1 to 9999 is
-/// written as the number of seconds: `-62135596801 seconds since 1970`. So is a float that is no
-/// moment.
+/// Writes the moment in UTC in the form of RFC 3339 (section 5.6): `2013-03-21T20:04:00Z`. A float
+/// is written with microseconds: `2015-10-04T07:49:04.500000Z`. A moment outside the years 1 to
+/// 9999 is written as the number of seconds: `-62135596801 seconds since 1970`. So is a float that
+/// is no moment.
 impl fmt::Display for Timestamp {
     ghost use Rattle.coset_claims.specs.Dates.{timestamp_output};
 

@@ -34,7 +34,7 @@ fn line_of<T: Lawful + CborSerializable>(alloc: Global, value: T) -> Result<Stri
 /// Returns the line of the value that the bytes describe.
 ///
 /// # Errors
-/// The reason why they describe no value, or `OutOfMemory`.
+/// The reason why the bytes describe no value, or `OutOfMemory`.
 pub fn type_line<T: Lawful + CborSerializable>(
     alloc: Global,
     bytes: &[u8],

@@ -190,8 +190,8 @@ fn shows_strings(rt: HostRuntime) -> Result<(), Fail> {
     Ok(())
 }
 
-/// Returns the encoding of a byte string, both in hexadecimal. It is the shortest encoding if there
-/// are fewer than 256 bytes.
+/// Returns the shortest encoding of a byte string of fewer than 256 bytes. `content` and the result
+/// are in hexadecimal.
 fn byte_string(alloc: Global, content: &str) -> Result<String, AllocError> {
     let length = content.len() / 2;
     if length < 24 {

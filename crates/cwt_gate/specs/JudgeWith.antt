@@ -58,7 +58,7 @@ IsIn k p b [] c = c ≡ b
 IsIn k p b (l ∷ ls) c = (q : List ℕ) × IsIn k p b ls q × Describes (layer p.plain (is_outside ls)) q l × IsAdmitted p l × HasContent k l c
 
 -- Returns true if the content of these layers is another layer. A token is at least one layer. The content of a layer
--- is another one if it begins like one.
+-- is another layer if it begins like an array or a tag.
 abbrev pub goes_on : List LayerView → List ℕ → Bool
 goes_on [] q = true
 goes_on (l ∷ ls) q = begins_layer q

@@ -1,4 +1,4 @@
--- The times in claims (RFC 8392, sections 3.1.4 and 3.1.5), in seconds since 1970 began in UTC.
+-- The times in claims (RFC 8392, sections 3.1.4 to 3.1.6), in seconds since 1970 began in UTC.
 use Rattle.std.specs.Prelude.{◌||◌, ◌+ℤ◌, ◌-ℤ◌, not, ℕ, ℤ, pos, Bool, true, false, Option, Some, None}
 use Rattle.std.specs.declared.cmp.Ordering.{Ordering}
 use Rattle.std.specs.Ordering.{is_le}

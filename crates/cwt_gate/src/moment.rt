@@ -1,4 +1,4 @@
-//! Checks of the times in claims (RFC 8392, sections 3.1.4 and 3.1.5).
+//! Checks of the times in claims (RFC 8392, sections 3.1.4 to 3.1.6).
 
 ghost use Rattle.std.specs.Prelude.{◌≡◌, option_map};
 ghost use Rattle.coset.specs.Timestamp.{timestamp_view};

@@ -12,8 +12,8 @@ use Rattle.coset.specs.Parts.{as_array, as_bytes, as_text}
 abbrev pub IsNoMediaType : Item → Type 0
 IsNoMediaType v = (s : List ℕ) × (as_text v ≡ Some s) × (IsMediaType s → ⊥)
 
--- The name that errors give to the item v with the encoding b. It is the item's kind, or says that something is
--- missing.
+-- The name that errors give to the item v with the encoding b. It is the item's kind, or says what is wrong with the
+-- item.
 pub data IsCalled : List ℕ → List ℕ → Item → Type 0 where
   by_kind : (b : List ℕ) (v : Item) → IsCalled (kind v) b v
   no_bytes : (b : List ℕ) (v : Item) → as_bytes v ≡ Some [] → IsCalled (codes "empty bstr") b v

@@ -114,7 +114,7 @@ label_is i v = label.describes v (number i)
 abbrev pub SameLabel : Item → Item → Type 0
 SameLabel v w = (l : LabelView) × label.describes v l × label.describes w l
 
--- One is IV and the other Partial IV (RFC 8152, section 3.1).
+-- The two items are the labels of IV and Partial IV, in either order (RFC 8152, section 3.1).
 abbrev pub BothIvs : Item → Item → Type 0
 BothIvs v w = (label_is (pos 5) v × label_is (pos 6) w) ⊎ (label_is (pos 6) v × label_is (pos 5) w)
 

@@ -1,4 +1,4 @@
--- Where steps lead in bytes, by the grammar of CBOR (RFC 8949, section 3).
+-- The places in bytes to which steps lead, by the grammar of CBOR (RFC 8949, section 3).
 use Rattle.std.specs.Prelude.{◌≡◌, ◌≢◌, ◌⊎◌, ◌<◌, ◌+◌, ◌*◌, ℕ, suc, List, [], ◌∷◌, ◌++◌, length, Some, None}
 use Rattle.coset.specs.Item.{Item, Items, items_count}
 use Rattle.coset.specs.Grammar.{AreEncodings, IsHead, IsItem}
@@ -16,8 +16,8 @@ pub record BeginsWithItems (b : List ℕ) (count : ℕ) (s : List ℕ) : Type 0 
   pub number : items_count items ≡ count
   pub parts : b ≡ encodings ++ s
 
--- h is a head of major type m, and an item at index i follows it. Keys and values of a map count one each. h announces
--- more than i items, or has an indefinite length.
+-- h is a head of major type m. It announces more than i items, or has an indefinite length. Keys and values of a map
+-- count one each.
 abbrev pub Opening : ℕ → ℕ → List ℕ → Type 0
 Opening m i h = ((n : ℕ) × IsHead m n h × (((m ≡ 4) × (i < n)) ⊎ ((m ≡ 5) × (i < 2 * n)))) ⊎ (h ≡ (32 * m + 31) ∷ [])
 
@@ -64,7 +64,7 @@ StepTo (TextChunk i) b n s = Splits (Opens 3 i) b n s
 StepTo Content b n s = Holds b n s
 StepTo After b n s = Splits (IsFront s) b n s
 
--- One after another, the steps lead n bytes on, to the front of t.
+-- From the front of b, the steps lead n bytes on, one after another, to the front of t.
 abbrev pub PathTo : List Step → List ℕ → ℕ → List ℕ → Type 0
 PathTo [] b n t = (n ≡ 0) × (t ≡ b)
 PathTo (step ∷ steps) b n t = (k : ℕ) × (m : ℕ) × (s : List ℕ) × StepTo step b k s × PathTo steps s m t × (n ≡ k + m)

@@ -16,8 +16,8 @@ const LEVELS: usize = 256;
 /// The most nested byte strings, each with an item of its own as its content.
 const LAYERS: usize = 16;
 
-/// Returns true if the bytes end before the head at the front is complete, or the content that it
-/// announces.
+/// Returns true if the head at the front is incomplete, or if it announces more content than is
+/// left.
 fn ends(bytes: &[u8]) -> bool
     ensures { IsTrue result → Ends bytes.now }
 {
