@@ -13,8 +13,8 @@ use Rattle.coset_codec.specs.declared.error.CallError.{CallError}
 use Rattle.coset_codec.specs.declared.error.CallError.TheVariants.{Coset, Caller}
 use Rattle.coset_codec.specs.Shape.{Shape, Each, EachFaults, images}
 
--- Of all the elements of a list, some were read as so_far, and those left are still to be read. The values of those
--- left complete the list, and a fault in one of them is a fault in the list.
+-- Some elements of a list were read as so_far, and the elements left are still to be read. The values of the elements
+-- left complete the list, and a fault in one of these elements is a fault in the list.
 pub record Continues (A : Type 0) (r : Item → A → Type 0) (f : Item → CoseError → Type 0) (all : Items) (so_far : List A) (left : Items) : Type 0 where
   pub ends : (zs : List A) → Each r left zs → Each r all (so_far ++ zs)
   pub blames : (e : CoseError) → EachFaults f left e → EachFaults f all e

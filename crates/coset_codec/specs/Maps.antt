@@ -213,7 +213,7 @@ Adds n fs m v x y = IfThenElse (is_core n fs.labels m) (fs.takes m v x.0 y.0 × 
 abbrev pub Refuses : {N A : Type 0} → MapLabels N → Fields N A → N → Item → A × List (N × Item) → CoseError → Type 0
 Refuses n fs m v x e = IfThenElse (is_core n fs.labels m) ((fs.repeats m x.0 × (e ≡ errors.DuplicateMapKey)) ⊎ fs.faults m v e) ⊥
 
--- Of all the pairs, some were read and make x, and those left are still to be read.
+-- Some of the pairs were read and make x, and the pairs left are still to be read.
 pub record Walks (N A : Type 0) (n : MapLabels N) (fs : Fields N A) (all : Pairs) (x : A × List (N × Item)) (left : Pairs) : Type 0 where
   pub done : Pairs
   pub parts : all ≡ and_pairs done left

@@ -59,7 +59,7 @@ as_tag-is null t w p = absurd (cc)
 as_tag-is (dict ps) t w p = absurd (cc)
 
 module _ {A : Type 0} (number : ℕ) (s : Shape A) where
-  -- A value described plain or under the tag is described by one of the two shapes.
+  -- A value that `perhaps_tagged` describes is described plain or under the tag.
   pub perhaps_tagged_is : (v : Item) (x : A) → (perhaps_tagged number s).describes v x → s.describes v x ⊎ (tagged number s).describes v x
   perhaps_tagged_is v x p =
       elim (untagged_cases number v) [

@@ -13,12 +13,12 @@ use Rattle.coset_codec.specs.Results.{Describes}
 abbrev pub ReadsAgain : {A : Type 0} → Shape A → A → Type 0
 ReadsAgain s x = (v : Item) × (s.image x ≡ Some v) × ((b : List ℕ) → IsShortest b v → Describes s b x)
 
--- This holds if x is written as an item that represents x and is no deeper than one within 256 levels.
+-- `ReadsAgain` holds if v is within 256 levels, and x is written as an item that represents x and is no deeper than v.
 pub again_reads : {A : Type 0} (s : Shape A) (v : Item) (x : A) → Again A s v x → depth v ≤ 256 → ReadsAgain s x
 again_reads s v x a shallow =
     (a.image, a.is_image, λ c short. (a.image, (definite_is_encoding a.image c short.definite, omega (arith, a.shallow, shallow)), a.described))
 
--- This holds for each value that bytes describe.
+-- `ReadsAgain` holds for each value that bytes describe.
 pub reads_again : {A : Type 0} (s : Shape A) → Lawful A s → (b : List ℕ) (x : A) → Describes s b x → ReadsAgain s x
 reads_again s l b x p = again_reads s p.0 x (l.again p.0 x p.2) p.1.1
 

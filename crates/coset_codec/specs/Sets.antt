@@ -1,5 +1,5 @@
--- Arrays that are read as sets. The order of the elements has no meaning, and no element may occur twice (RFC 8152,
--- section 7.1, of key_ops).
+-- Arrays that are read as sets, such as key_ops (RFC 8152, section 7.1). The order of the elements has no meaning, and
+-- no element may occur twice (RFC 7517, section 4.3).
 use Rattle.std.specs.Prelude.{◌≡◌, ◌⊎◌, ◌↔◌, List, Some, Contains}
 use Rattle.std.specs.List.{IsDistinct}
 use Rattle.std.specs.List.Sorted.{IsStrictlySortedBy}

@@ -287,7 +287,7 @@ abbrev pub one_or_array : Items → Item
 one_or_array (item v no_items) = v
 one_or_array vs = array vs
 
--- s / [+ s], if s describes arrays that begin with a byte string
+-- s / [+ s], if s describes only arrays that begin with a byte string
 abbrev pub one_or_many : {A : Type 0} → Elements A → Shape A
 one_or_many {A} ps = record {
   describes = λ v x. (vs : Items) × (one_or_more v ≡ Some vs) × ps.describes vs x;

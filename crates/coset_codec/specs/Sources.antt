@@ -1,5 +1,5 @@
--- What contracts see of an item that is given as a value or as borrowed bytes. Also the errors for a wrong number of
--- array elements.
+-- Items given as a value or as borrowed bytes, as contracts see them. Also the errors for a wrong number of array
+-- elements.
 use Rattle.std.specs.Prelude.{◌≡◌, List, codes, ℕ, length, zero, suc, Result, Ok, Err}
 use Rattle.coset_value.specs.Item.{Item, Items, no_items, depth}
 use Rattle.coset_value.specs.View.{value_item}

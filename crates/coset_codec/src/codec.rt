@@ -1,4 +1,5 @@
-//! The short way to a type of your own: implement one trait, and all others follow.
+//! The short way to a type of your own: implement [`Codec`], and the other traits follow. For a
+//! type with a tag, implement [`TaggedCodec`] too.
 
 ghost use Rattle.std.specs.Prelude.{◌≡◌, ◌↔◌, ℕ, ⊤, IfErr, IsTrue};
 ghost use Rattle.coset_cbor.specs.Least.{Extends};
@@ -30,7 +31,7 @@ use std::alloc::Global;
 /// [`AsCborValue`], [`FromPull`], [`CborSerializable`], [`Encode`] and [`Lawful`] follow from this
 /// trait. With [`TaggedCodec`], [`TaggedCborSerializable`] follows too.
 pub trait Codec: Sized + Drop + PartialEq {
-    /// What contracts see of a value: everything except its place in memory.
+    /// The view of a value. Contracts see everything except its place in memory.
     ghost View: { Type 0 };
 
     ghost view: { Self → View };

@@ -14,7 +14,8 @@ use std::num::TryFromIntError;
 /// Why a value could not be read or written.
 #[derive(Drop)]
 pub enum CoseError {
-    /// The bytes are not CBOR, or nest too deep (RFC 8949, section 3).
+    /// The bytes could not be decoded (RFC 8949, section 3). They are not valid CBOR, nest too
+    /// deep, or contain a simple value other than false, true and null.
     DecodeFailed(de::Error<EndOfFile>),
     /// Two keys of a map are the same label (RFC 8152, section 3).
     DuplicateMapKey,

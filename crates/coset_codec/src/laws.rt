@@ -80,8 +80,8 @@ pub fn refused_describes_nothing<T: AsCborValue>()
 {}
 
 /// If an item describes a value, the value is written as an item no deeper, which describes the
-/// same value. So `to_cbor_value` writes each value that `from_cbor_value` read, and
-/// `from_cbor_value` reads it again as the same value.
+/// same value. So, unless an allocation fails, `to_cbor_value` writes each value that
+/// `from_cbor_value` read. `from_cbor_value` then reads the written item as the same value.
 pub fn image_is_described<T: Lawful>()
     ensures { (v : Item) (x : T.View) → T.shape.describes v x → Again T.View T.shape v x }
 {}

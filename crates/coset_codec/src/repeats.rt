@@ -12,7 +12,7 @@ use std::alloc::Global;
 const MAX_PAIRWISE: usize = 16;
 
 /// Returns true if two of the keys are equal. The keys of up to 16 pairs are compared with each
-/// other, without memory. More keys are sorted by reference, so the work grows with n log n.
+/// other, without allocating. More keys are sorted by reference, so the work grows with n log n.
 ///
 /// # Errors
 /// `OutOfMemory` if an allocation fails. This happens only for more than 16 pairs.

@@ -28,7 +28,7 @@ use std::alloc::Global;
 /// errors name a fault in an item. The implementer proves that an item describes at most one value,
 /// and no value if a fault is in the item.
 pub trait AsCborValue: Sized {
-    /// What contracts see of a value: everything except its place in memory.
+    /// The view of a value. Contracts see everything except its place in memory.
     ghost View: { Type 0 };
 
     ghost view: { Self → View };
@@ -111,8 +111,8 @@ pub trait CborSerializable: AsCborValue {
     /// - `OutOfMemory` if an allocation fails. This happens only if the bytes are one item, because
     ///   other bytes are refused without allocating.
     ///
-    /// The first fault found is returned. Unless the error is `OutOfMemory`, the bytes then
-    /// describe no value.
+    /// If the bytes have several faults, the error names one of them. Unless the error is
+    /// `OutOfMemory`, the bytes then describe no value.
     fn from_slice(alloc: Global, s: &[u8]) -> Result<Self>
         ensures read { ReadsSlice Self.shape Self.view s.now result }
         ensures refused { RefusesSlice Self.shape s.now result }
@@ -258,7 +258,8 @@ pub trait FromPull: AsCborValue {
     /// Reads a value from a borrowed item.
     ///
     /// # Errors
-    /// The same as [`AsCborValue::from_cbor_value`].
+    /// - `OutOfMemory` if an allocation fails.
+    /// - A fault in the item, which then describes no value.
     fn from_pull(alloc: Global, pull: Pull<'_>) -> Result<Self>
         ensures { Reads Self.shape Self.view (pull_item pull.entry) result };
 
@@ -266,7 +267,7 @@ pub trait FromPull: AsCborValue {
     /// item is refused.
     ///
     /// # Errors
-    /// The same as [`AsCborValue::from_cbor_value`].
+    /// The same as [`FromPull::from_pull`].
     fn from_input(alloc: Global, input: &mut Decoder<'_>) -> Result<Self>
         ensures forward { ReadsForward (state input.old) (state input.new) result
             (λ v. Reads Self.shape Self.view v result) }

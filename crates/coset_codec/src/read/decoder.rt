@@ -321,8 +321,8 @@ fn tree_key<K: FromPull>(
 }
 
 impl MapEntries {
-    /// Reads the next key, or returns `None` if no pair is left. The key's value is then at the
-    /// input, and the caller must read or skip it next.
+    /// Reads the next key, or returns `None` if no pair is left. After a key, the key's value is at
+    /// the input. The caller must read or skip that value next.
     ///
     /// # Errors
     /// - `OutOfMemory` if an allocation fails.

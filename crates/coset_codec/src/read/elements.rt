@@ -14,7 +14,7 @@ use std::alloc::Global;
 /// The elements of an array, read one by one. `()` is no element, and `(A, P)` is one element
 /// followed by the elements `P`. So `(A, (B, ()))` is two elements.
 pub trait DecodeElements: Sized {
-    /// What contracts see of the values, and which elements of an array represent which values.
+    /// The view of the values, and which elements of an array represent which values.
     ghost View: { Type 0 };
 
     ghost view: { Self → View };
@@ -28,7 +28,7 @@ pub trait DecodeElements: Sized {
     /// Reads the elements from first to last, and leaves the input just after the array.
     ///
     /// # Errors
-    /// - `UnexpectedItem` with `want` if there are fewer elements or more.
+    /// - `UnexpectedItem` with `want` if there are too few elements or too many.
     /// - Otherwise the error of the last element that has one.
     fn decode_elements(
         alloc: Global,

@@ -12,10 +12,10 @@ use crate::read::{Decoder, read_list};
 use crate::traits::FromPull;
 use std::alloc::Global;
 
-/// A type that is read from the item at an input: every [`FromPull`] type, bytes, texts and
-/// numbers. This trait is to reading as [`Encode`](crate::Encode) is to writing.
+/// A type that is read from the item at an input: every [`FromPull`] type, byte strings, texts,
+/// lists and `i64`. This trait is to reading as [`Encode`](crate::Encode) is to writing.
 pub trait Decode: Sized {
-    /// What contracts see of a value, and which items represent which values.
+    /// The view of a value, and the shape: which items represent which values.
     ghost View: { Type 0 };
 
     ghost view: { Self → View };

@@ -66,7 +66,7 @@ impl<'a> Decoder<'a> {
         }
     }
 
-    /// Skips the item and returns true if it is null. Allocates nothing.
+    /// If the item is null, skips it and returns true. Allocates nothing.
     pub fn null(&mut self) -> bool
         ensures shrinks { length_left (state self.new) ≤ length_left (state self.old) }
         ensures strictly { IsTrue result → MovesForward (state self.old) (state self.new) }
@@ -109,7 +109,7 @@ impl<'a> Decoder<'a> {
     /// Reads the item as a value.
     ///
     /// # Errors
-    /// `OutOfMemory` if an allocation fails. A tree is moved, without memory.
+    /// `OutOfMemory` if an allocation fails. A tree is moved, which allocates nothing.
     pub fn value(&mut self, alloc: Global) -> Result<Value>
         ensures forward { ReadsForward (state self.old) (state self.new) result
             (λ v. Copies value_item v result) }

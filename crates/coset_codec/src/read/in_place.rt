@@ -75,9 +75,9 @@ pub fn next_place<T: InPlace>(
     Ok(true)
 }
 
-/// Drops a value that was read in part, if its item is refused. A function that drops a value keeps
-/// room for it in its stack frame. It clears that room on every path, even if nothing is dropped.
-/// So the drop has a function of its own.
+/// Drops a value that was read in part, because its item is refused. A function that drops a value
+/// keeps room for it in its stack frame. It clears that room on every path, even if nothing is
+/// dropped. So the drop has a function of its own.
 #[cold]
 #[inline(never)]
 pub fn drop_refused<T: Drop>(_value: T) {}

@@ -22,7 +22,7 @@ pub trait MapVisitor: Sized {
     /// A label.
     type Label: Drop;
 
-    /// What contracts see of a label, and of the fields.
+    /// The views of a label and of the fields.
     ghost LabelView: { Type 0 };
 
     ghost FieldValues: { Type 0 };
@@ -37,8 +37,8 @@ pub trait MapVisitor: Sized {
     /// The fields, and the pairs of the rest by label.
     ghost view: { Self → FieldValues × List (LabelView × Item) };
 
-    /// Reads the next label, or returns `None` if no pair is left. The label's value is then at the
-    /// input.
+    /// Reads the next label, or returns `None` if no pair is left. After a label, the label's value
+    /// is at the input.
     ///
     /// # Errors
     /// The same as [`MapEntries::next_key`].
@@ -109,7 +109,8 @@ fn first_fault<V: MapVisitor>(alloc: Global, visitor: &V, all: Result<()>) -> Re
 ///
 /// # Errors
 /// - `OutOfMemory` if an allocation fails.
-/// - The fault of the first pair that has one: in its key, then in its value.
+/// - The fault of the first pair that has one: in its key, then a repeated label of a field, then
+///   in its value.
 fn read_pairs<V: MapVisitor>(
     alloc: Global,
     pairs: &mut MapEntries,

@@ -29,8 +29,8 @@ fn count_true(there: &[bool]) -> usize
     count
 }
 
-/// Appends the head of a map with the present fields, as `there` says of each, and with the pairs
-/// of `rest`.
+/// Appends the head of a map of the present fields and the pairs of `rest`. `there` says of each
+/// field if it is present.
 ///
 /// # Errors
 /// `OutOfMemory` if an allocation fails, or if the number of pairs overflows `usize`. `out` is then
