@@ -6,19 +6,9 @@ import sys
 from collections.abc import Iterator
 from pathlib import Path
 
-
-def head(major: int, number: int) -> bytes:
-    """Returns the shortest head of that major type and argument (RFC 8949, section 3)."""
-    if number < 24:
-        return bytes([major << 5 | number])
-    for info, width in ((24, 1), (25, 2), (26, 4), (27, 8)):
-        if number < 1 << 8 * width:
-            return bytes([major << 5 | info]) + number.to_bytes(width, "big")
-    raise ValueError(number)
-
-
-def byte_string(content: bytes) -> bytes:
-    return head(2, len(content)) + content
+sys.dont_write_bytecode = True
+sys.path.append(str(Path(__file__).resolve().parents[2] / "tools"))
+from cbor import byte_string, head, indefinite  # noqa: E402
 
 
 def with_counter_signature(label: int, protected: bytes, unprotected: bytes) -> bytes:
@@ -77,7 +67,7 @@ PAIR = head(0, 70) + head(4, 200_000) + bytes(200_000)
 WIDE = head(5, 1) + PAIR
 TWICE = head(5, 2) + PAIR + head(0, 70) + b"\x00"
 # WIDE with one more element in its array: an array of indefinite length.
-WIDE_END = head(5, 1) + head(0, 70) + head(4, 200_001) + bytes(200_000) + b"\x9f\xff"
+WIDE_END = head(5, 1) + head(0, 70) + head(4, 200_001) + bytes(200_000) + indefinite(4)
 
 
 def nests(labels: list[int]) -> dict[str, bytes]:

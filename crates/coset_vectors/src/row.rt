@@ -12,8 +12,8 @@ use test_lines::mark;
 pub struct Rows;
 
 impl Calls for Rows {
-    /// Returns the answer to the row. A row is answered between two marks. If an allocation fails
-    /// there, the answer is `error: out of memory`.
+    /// Returns the answer to the row. A row that is no sweep is answered between two marks. If an
+    /// allocation fails there, the answer is `error: out of memory`.
     fn answer(alloc: Global, line: &str) -> Result<String, AllocError> {
         match name_and_rest(line) {
             ("every", row) => answer_one(alloc, row, true),

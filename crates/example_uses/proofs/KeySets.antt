@@ -82,7 +82,7 @@ pub written_unless_memory :
 written_unless_memory x (Ok b) a w = tt
 written_unless_memory x (Err e) a w = only_memory e (λ n. some-none a.1 (w n).1)
 
--- A key of these fails only with `OutOfMemory`, and the error is passed on.
+-- The call for one of these keys fails only with `OutOfMemory`, and the error is passed on.
 module _ {A : Type 0} (view : A → KeyView) (ks : List A) (read : AreRead (map view ks)) where
   pub refused_for_memory :
       {T : Type 0} (ys old new : List A) (x : A) (r : Result T CoseError) (e : CoseError) (stands : CoseError → Type 0) → ys ++ old ≡ ks → old ≡ x ∷ new

@@ -7,7 +7,7 @@ use Rattle.coset_value.specs.declared.value.Value.{Value}
 use Rattle.coset_cbor.specs.Grammar.{IsItem}
 use Rattle.example_uses.specs.Sequence.{IsSequence}
 
--- Some items were read. Whatever sequence the remaining bytes are, all bytes together are one.
+-- Some items were read. If the remaining bytes are a sequence, all bytes together are a sequence too.
 abbrev pub GoesOn : List ℕ → List Item → List ℕ → Type 0
 GoesOn all vs left = (ws : List Item) → IsSequence ws left → IsSequence (vs ++ ws) all
 

@@ -19,7 +19,7 @@ pub passed : {T E : Type 0} (P : E → Type 0) (e : E) (r : Result T E) → IsEr
 passed P e (Ok x) is h = absurd is
 passed P e (Err x) is h = subst P (sym is) h
 
--- So does a property of a result that is the error.
+-- A property of the refused result also holds after its error is passed on.
 pub passed_as : {T E : Type 0} (P : Result T E → Type 0) (e : E) (r : Result T E) → IsErrAnd r (λ x. x ≡ e) → P (Err e) → P r
 passed_as P e (Ok x) is h = absurd is
 passed_as P e (Err x) is h = subst (λ y. P (Err y)) (sym is) h

@@ -48,7 +48,7 @@ module _ {F H E : Type 0} (g : Maker F E) (f : F) (k : Maker H E) (h : H) (exter
   first_refused unsigned is (Caller e) tried =
       inl (tried.0, subst (λ m. IsStructure (signer_attached m first external_aad) tried.0) is tried.1, tried.2)
 
-  -- The second signer does.
+  -- The second signer refuses, or has no structure.
   pub second_refused :
       (unsigned once : SignView) (s : List ℕ) → unsigned ≡ signed_by payload [] → once ≡ push_signature (signed_with s first) unsigned
       → (e : CallError E) → NotMade k h (signer_attached once second external_aad) e → SignsByTwo g f k h external_aad payload first second (Err e)

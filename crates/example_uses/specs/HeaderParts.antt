@@ -1,4 +1,4 @@
--- Facts in a header other than its algorithm.
+-- Facts in a header: a certificate, the algorithm, and the key.
 use Rattle.std.specs.Prelude.{◌==◌, ◌||◌, ℕ, List, Bool, Option, Some, None}
 use Rattle.std.specs.Cmp.Lexicographic.{pointwise}
 use Rattle.coset_value.specs.Item.{Item, bytes, array, item}

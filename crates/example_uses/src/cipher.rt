@@ -10,14 +10,13 @@ use std::alloc::Global;
 /// The reason why a key didn't sign or decrypt, or doesn't accept a signature.
 #[derive(Clone, Copy, Debug, PartialEq, Eq)]
 pub enum Refused {
-    /// The key can't sign or decrypt its input, there is no input, or it doesn't accept the
-    /// signature.
+    /// The key can't sign or decrypt its input, has no input, or doesn't accept the signature.
     Rejected,
     /// An allocation failed.
     OutOfMemory,
 }
 
-/// A key that signs. This trait has everything that is required of it.
+/// A key that signs. This trait has everything that is required of such a key.
 pub trait SigningKey {
     /// The signatures that the key makes for bytes. The bytes are the first argument.
     ghost signs: { Self → List ℕ → List ℕ → Type 0 };

@@ -1,5 +1,5 @@
-//! Names each type once, of those that are read and written. If one lacked a trait or a law, this
-//! wouldn't compile.
+//! Names every type that is read and written. If one lacked a trait or a law, this wouldn't
+//! compile.
 
 ghost use Rattle.std.specs.Prelude.{◌≡◌, ◌↔◌, ◌≤◌, IsTrue, ℕ, List, Result};
 ghost use Rattle.coset_value.specs.Item.{Item, depth};
@@ -66,8 +66,8 @@ pub fn keeps_the_laws<T: Lawful + CborSerializable + FromPull + PartialEq + fmt:
 
 /// The additional laws of every type that may be under its tag.
 ///
-/// They are the same laws with the tag. In addition, a value that was read under the tag is read
-/// again if it is written without the tag.
+/// They are the laws about bytes, with the tag. In addition, a value that was read under the tag is
+/// read again if it is written without the tag.
 pub fn keeps_the_laws_when_tagged<T: Lawful + TaggedCborSerializable>()
     ensures one { (n : ℕ) (s : List ℕ) (x y : T.View) → Describes (tagged n T.shape) s x
         → Describes (tagged n T.shape) s y → x ≡ y }

@@ -37,11 +37,11 @@ pub trait Channel {
 /// The reason why a token wasn't verified.
 #[derive(Debug, Drop)]
 pub enum Lost {
-    /// It wasn't signed or encoded.
+    /// The token wasn't signed or encoded.
     NotSent(CallError<Refused>),
-    /// It didn't arrive.
+    /// The token didn't arrive.
     NotArrived,
-    /// It arrived, and was refused.
+    /// The token arrived, and was refused.
     NotVerified(CallError<Refused>),
 }
 

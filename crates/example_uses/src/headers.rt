@@ -1,4 +1,4 @@
-//! Facts in a header other than its algorithm: critical labels, certificates, and the key.
+//! Facts in a header: critical labels, certificates, the algorithm, and the key.
 
 ghost use Rattle.std.specs.Prelude.{◌≡◌, map, option_map};
 ghost use Rattle.std.specs.List.{list_all};

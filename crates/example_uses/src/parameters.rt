@@ -38,7 +38,7 @@ pub fn traced(alloc: Global, algorithm: Algorithm, trace: &[u8]) -> Result<Heade
     Ok(header.build())
 }
 
-/// Returns the value of that parameter, if the header has it and it is a byte string.
+/// Returns the value of the parameter [`TRACE`], if the header has it and it is a byte string.
 pub fn trace_of(header: &Header) -> Option<&[u8]>
     ensures { option_map (λ b. b.now) result ≡ option_and_then as_bytes
         (lookup (same_label (number TRACE)) (fields_in (header_view header.now)).rest) }

@@ -65,7 +65,7 @@ pub fn front_lengths<L: Ledger>(
     Ok((one, other))
 }
 
-/// Does the same with a counter of its own, whose ledger is the one of `blank`.
+/// Returns the same lengths with a counter of its own. The counter's ledger is the one of `blank`.
 fn counted_lengths<L: Ledger>(
     first: &[u8],
     second: &[u8],
@@ -81,7 +81,7 @@ fn counted_lengths<L: Ledger>(
     front_lengths(first, second, &mut steps)
 }
 
-/// Does the same for callers that don't need the number of steps.
+/// Returns the same lengths as [`front_lengths`], for callers that don't need the number of steps.
 ///
 /// # Errors
 /// The errors of [`front_lengths`].

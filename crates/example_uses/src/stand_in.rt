@@ -55,7 +55,7 @@ impl DecryptionKey for StandInKey {
     }
 }
 
-/// The same, whichever key is given.
+/// Verifies and decrypts in the same way, whichever key is given.
 impl TokenCipher for StandInKey {
     ghost verifies = { λ self key tbs signature. signature ≡ tbs };
 

@@ -25,7 +25,7 @@ use coset_sign::laws::{countersigned_as_written, each_signed_as_written, each_si
 /// structures are the sender's.
 ///
 /// This holds for each signature, for the MAC, for the ciphertext, and for each recipient at any
-/// depth.
+/// depth. For messages with one signature, see [`verify_token`](crate::verify::verify_token).
 pub fn structures_arrive()
     ensures sign { Arrives sign (λ m n. EachSignsSame n m)
         × Arrives (tagged 98 sign) (λ m n. EachSignsSame n m) }
@@ -44,7 +44,8 @@ pub fn structures_arrive()
     structures_as_written();
 }
 
-/// The same holds for the structure of each countersignature in the message's unprotected header.
+/// The law of [`structures_arrive`] also holds for the structure of each countersignature in the
+/// message's unprotected header.
 pub fn countersignatures_arrive()
     ensures sign1 { Arrives sign1
         (λ m n. EachCountersignsSame m.protected m.unprotected n.protected n.unprotected)
@@ -77,8 +78,9 @@ pub fn countersignatures_arrive()
     all_countersigned_as_written();
 }
 
-/// A message that was read, plain or under its tag, always has each of these structures. So a
-/// caller that verifies or decrypts it gets no error of the library other than `OutOfMemory`.
+/// A message that was read, plain or under its tag, always has each structure of
+/// [`structures_arrive`]. So a caller that verifies or decrypts the message gets no error of the
+/// library other than `OutOfMemory`.
 pub fn structures_are_there()
     ensures sign { IsReceived sign EachSigns × IsReceived (tagged 98 sign) EachSigns }
     ensures mac0 { IsReceived mac0 (λ m. Authenticates m.protected)

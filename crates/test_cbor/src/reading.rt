@@ -59,7 +59,7 @@ pub fn check_front(alloc: Global, words: &Words<'_>) -> Result<String> {
     tell_length(alloc, answer)
 }
 
-/// Does the same without a counter.
+/// Returns the same length as [`check_front`], without a counter.
 ///
 /// # Errors
 /// - A fault in a word that isn't hexadecimal.

@@ -6,7 +6,7 @@ use std::cmp::Ordering;
 use test_lines::words::Words;
 use test_lines::{mark, spelled};
 
-/// Compares the first label of that kind with each of them.
+/// Compares the first of these labels of that kind with each of them.
 ///
 /// # Errors
 /// A fault in the arguments, or an unknown kind of labels.
@@ -68,7 +68,7 @@ fn cmp_algorithms(alloc: Global, words: &Words<'_>) -> Result<String> {
     told(alloc, &all)
 }
 
-/// Returns the labels that the words from that place on spell.
+/// Returns the labels spelled by the words from that place on.
 fn labels(alloc: Global, words: &Words<'_>, place: usize) -> Result<Vec<Label>> {
     let mut labels = Vec::new(alloc);
     for place in place..words.count() {
@@ -77,7 +77,7 @@ fn labels(alloc: Global, words: &Words<'_>, place: usize) -> Result<Vec<Label>> 
     Ok(labels)
 }
 
-/// Compares the first with each, and returns `<`, `=` or `>`, or `!` if `==` disagrees.
+/// Compares the first label with each. Returns `<`, `=` or `>` for each, or `!` if `==` disagrees.
 fn told<T: Ord>(alloc: Global, all: &[T]) -> Result<String> {
     let mut orders = Vec::with_capacity(alloc, all.len())?;
     mark::begin(alloc);

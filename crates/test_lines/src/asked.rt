@@ -111,7 +111,7 @@ impl Asked {
         self.behind(alloc, text)
     }
 
-    /// Returns the text for such a call if the closure may refuse.
+    /// Returns the text for a call whose closure made something, or refused.
     ///
     /// # Errors
     /// `OutOfMemory` if an allocation fails.
@@ -160,7 +160,7 @@ impl Asked {
         self.behind(alloc, text)
     }
 
-    /// Returns the text for such a call if the closure can't refuse.
+    /// Returns the text for a call whose closure encrypted its arguments, and can't refuse.
     ///
     /// # Errors
     /// `OutOfMemory` if an allocation fails.

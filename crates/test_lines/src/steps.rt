@@ -14,7 +14,7 @@ pub trait Step: Sized {
     fn of(alloc: Global, name: &str, first: &str, second: &str) -> Result<Self>;
 }
 
-/// Returns the calls that the words from `place` on name. Each is `NAME=WORD`, or `NAME=WORD:WORD`.
+/// Returns the calls named by the words from `place` on. Each is `NAME=WORD`, or `NAME=WORD:WORD`.
 ///
 /// # Errors
 /// The errors of [`Step::of`].

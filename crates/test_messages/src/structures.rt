@@ -98,7 +98,7 @@ fn authenticated(alloc: Global, words: &Words<'_>) -> Result<String> {
 /// Makes a `MAC_structure` over zeros, and prints its length, its capacity, and the bytes before
 /// the payload.
 ///
-/// Arguments: the context, the protected header, and the number of zeros.
+/// Arguments: the context, the protected header, the number of zeros, and the header's change.
 fn room(alloc: Global, words: &Words<'_>) -> Result<String> {
     let context = mac_context(words.word(1))?;
     let protected = header::read(alloc, words, 2, 4)?;

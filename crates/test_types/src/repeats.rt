@@ -6,12 +6,12 @@ use example_types::settings::Name;
 use std::alloc::{AllocError, Global};
 use std::test::*;
 
-/// Returns a label for each number, in descending order.
+/// Returns the label of a number. A greater number has a smaller label.
 fn label(n: i64) -> Name {
     Name(1000i64.wrapping_sub(n.wrapping_mul(7)))
 }
 
-/// Returns forty labels. The last is the label of `last`.
+/// Returns forty pairs. The last pair has the label of `last`.
 fn forty(alloc: Global, last: i64) -> Result<Vec<(Name, Value)>, AllocError> {
     let mut pairs = Vec::new(alloc);
     for n in 0..39i64 {

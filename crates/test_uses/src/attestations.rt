@@ -179,7 +179,7 @@ const INNER: &[u8] = b"\xd2\x84C\xa1\x01&\xa0K\xa1\x0aHnnnnnnnnAs";
 
 const INNER_CLAIMS: &[u8] = b"\xa1\x0aHnnnnnnnn";
 
-/// The structure of its signature, up to its claims.
+/// The structure of that token's signature, up to the claims.
 const INNER_STRUCTURE: &[u8] = b"\x84jSignature1C\xa1\x01&@K";
 
 /// Returns the claims with submodules.

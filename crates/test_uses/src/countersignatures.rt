@@ -14,8 +14,8 @@ const MESSAGE: &[u8] =
 \xf1\xd7oO\xfad\x0av\xc9+\xafk\xb6\x10\x09\x1f\xd2\x84\x5c\xec\xd1\xa9\xf1\xac\xa9\x0d\xcf|\x98\
 \xa7\xbe[\x19T252\x8a\x8f\x9ee\x03U\x9c\x80`\x92\x0e";
 
-/// The structure of its countersignature: `["CounterSignatureV2", h'a10127', h'a10127', h'0102',
-/// 'This is the content.', [signature]]`.
+/// The structure of the message's countersignature: `["CounterSignatureV2", h'a10127', h'a10127',
+/// h'0102', 'This is the content.', [signature]]`.
 const TBS: &[u8] =
     b"\x86rCounterSignatureV2C\xa1\x01'C\xa1\x01'B\x01\x02TThis is the content.\x81X@\x0bIuG\xd7\
 \xa3\x1d\xb8rF\xc7\x0e8\x0b1\xb3\xf1\xd7oO\xfad\x0av\xc9+\xafk\xb6\x10\x09\x1f\xd2\x84\x5c\xec\xd1\

@@ -91,7 +91,7 @@ const CONTENT: &[u8] = b"This is the content.";
 /// The MAC of appendix C.6.1.
 const MAC: &[u8] = b"\x72\x60\x43\x74\x50\x27\x21\x4f";
 
-/// Its structure: `["MAC0", h'a1010f', h'', content]`.
+/// The structure of that MAC: `["MAC0", h'a1010f', h'', content]`.
 const TBM: &[u8] = b"\x84\x64MAC0\x43\xa1\x01\x0f\x40\x54This is the content.";
 
 /// The message of appendix C.6.1, without its CBOR tag.
@@ -163,12 +163,12 @@ fn macs_that_are_refused(rt: HostRuntime) -> Result<(), Fail> {
 /// The initialization vector of appendix C.4.1.
 const IV: &[u8] = b"\x89\xf5\x2f\x65\xa1\xc5\x80\x93\x3b\x52\x61\xa7\x8c";
 
-/// Its ciphertext.
+/// The ciphertext of appendix C.4.1.
 const CIPHERTEXT: &[u8] =
     b"\x59\x74\xe1\xb9\x9a\x3a\x4c\xc0\x9a\x65\x9a\xa2\xe9\xe7\xff\xf1\x61\xd3\x8c\xe7\
 \x1c\xb4\x5c\xe4\x60\xff\xb5\x69";
 
-/// Its structure: `["Encrypt0", h'a1010a', h'']`.
+/// The structure of that ciphertext: `["Encrypt0", h'a1010a', h'']`.
 const AAD: &[u8] = b"\x83\x68Encrypt0\x43\xa1\x01\x0a\x40";
 
 /// The message of appendix C.4.1, without its CBOR tag.

@@ -12,8 +12,8 @@ const PAYLOAD: &[u8] = b"This is the content.";
 /// The MAC of RFC 8152, appendix C.5.1.
 const MAC: &[u8] = b"\x9e\x12\x26\xba\x1f\x81\xb8\x48";
 
-/// Its structure: `["MAC", h'a1010f', h'', payload]`. The key of appendix C.7.2 gives that MAC for
-/// it.
+/// The structure of that MAC: `["MAC", h'a1010f', h'', payload]`. The key of appendix C.7.2 gives
+/// the MAC for this structure.
 const TBM: &[u8] = b"\x84\x63MAC\x43\xa1\x01\x0f\x40\x54This is the content.";
 
 /// The message of appendix C.5.1, without its CBOR tag.

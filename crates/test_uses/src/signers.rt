@@ -133,7 +133,7 @@ fn signatures_by_their_keys(rt: HostRuntime) -> Result<(), Fail> {
 /// A signature with its key in the protected header: `[h'', {}, 'p', [[h'a104416b', {}, 's']]]`.
 const PROTECTED: &[u8] = b"\x84\x40\xa0\x41p\x81\x83\x44\xa1\x04\x41k\xa0\x41s";
 
-/// Its structure: `["Signature", h'', h'a104416b', h'', 'p']`.
+/// The structure of that signature: `["Signature", h'', h'a104416b', h'', 'p']`.
 const PROTECTED_TBS: &[u8] = b"\x85\x69Signature\x40\x44\xa1\x04\x41k\x40\x41p";
 
 #[test]

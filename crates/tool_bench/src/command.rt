@@ -20,8 +20,8 @@ pub struct Command {
 }
 
 impl Command {
-    /// Reads the four arguments. Returns `None` if there are more or fewer, or one of them can't be
-    /// read.
+    /// Reads the four arguments. Returns `None` if there are more or fewer, one of them can't be
+    /// read, or the number of calls is 0.
     pub fn of_arguments<R: Env + AllocGlobal>(rt: &R) -> Option<Command> {
         let mut arguments = env::args(rt).ok()?.skip(1);
         let operation = arguments.next()?;

@@ -7,7 +7,7 @@ use coset_recipient::{
 };
 use std::alloc::Global;
 
-/// A message that has such a structure.
+/// A message with a structure that is signed, authenticated, or passed to a cipher.
 pub trait Structured {
     /// Makes the structure with an empty `external_aad`, and returns its length.
     ///
@@ -26,8 +26,8 @@ fn told<T: Drop>(answer: Result<T, CallError<Option<usize>>>) -> Result<usize, F
     }
 }
 
-/// Its structure has an empty protected header, an empty payload, and one other field, which is
-/// empty too.
+/// The structure has an empty protected header of the body, an empty payload, and one other field,
+/// which is empty too.
 impl Structured for CoseCountersignature {
     fn structure_length(&self, alloc: Global) -> Result<usize, Fault> {
         let body = ProtectedHeader::new(alloc);

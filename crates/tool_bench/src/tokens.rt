@@ -1,4 +1,4 @@
-//! Judging tokens, timed, and the calls by hand that it replaces.
+//! Times judging tokens, and the calls by hand that judging replaces.
 
 use crate::fault::Fault;
 use coset::cwt::ClaimsSet;
@@ -88,7 +88,7 @@ fn read_by_hand(alloc: Global, bytes: &[u8]) -> Result<ClaimsSet, Fault> {
     }
 }
 
-/// Times the same steps by hand, without a look at the algorithm and the times.
+/// Times reading a token by hand, without a look at the algorithm and the times.
 pub fn time_by_hand<R: AllocGlobal + Clock>(
     rt: &R,
     bytes: &[u8],

@@ -180,7 +180,8 @@ fn place_of(
 /// Takes bytes that should be of `kind` apart into lines.
 ///
 /// Each line has some bytes, their meaning with registered names, and a note. With `now`, in
-/// seconds since 1970 began, the notes say whether a token is valid at that moment.
+/// seconds since 1970 began, the notes say if a token has expired or isn't valid yet at that
+/// moment.
 ///
 /// The bytes of the lines are the input: each byte once and in order, whatever the input is. If the
 /// bytes are refused, everything before the fault is shown, and the last line has the rest. A fault

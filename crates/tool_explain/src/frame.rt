@@ -43,7 +43,7 @@ pub(crate) struct Frame {
     pub(crate) index: u64,
     /// The label of the next value, if it is an integer.
     label: Option<i64>,
-    /// The type of the key that the map is, if it is an integer.
+    /// The type of the key, if the map is a key and its type is an integer.
     key_type: Option<i64>,
     /// The number of input bytes from the last key of the map on.
     pub(crate) key_left: usize,
@@ -112,7 +112,7 @@ impl Frame {
         }
     }
 
-    /// Returns the frame with the type of the key that its map is.
+    /// Returns this frame of a key's map, with the type of the key.
     pub(crate) fn with_key_type(mut self, key_type: Option<i64>) -> Frame {
         self.key_type = key_type;
         self

@@ -456,7 +456,8 @@ impl<'e> Hunt<'e> {
         }
     }
 
-    /// Returns true if the label at the front of the bytes came before in this map.
+    /// Returns true if the label at the front of the bytes came before in this map, or the key
+    /// operation in this array.
     fn repeats(
         &mut self,
         alloc: Global,

@@ -37,8 +37,8 @@ impl Notes<'_> {
         self.text.push_str(piece)
     }
 
-    /// Adds the date of a timestamp. If `now` is given, also adds whether the token is valid then
-    /// (RFC 8392, section 3.1).
+    /// Adds the date of a timestamp. With `now`, also adds that the token has expired or isn't
+    /// valid yet, if that is so (RFC 8392, section 3.1).
     fn add_date(
         &mut self,
         role: Role,
@@ -93,8 +93,8 @@ fn coverage(frame: &Frame) -> &'static str {
     }
 }
 
-/// Returns "detached" if `nil` is in the place of the payload or the ciphertext (RFC 8152, section
-/// 4.1), otherwise an empty text.
+/// Returns "detached" if `nil` is in the place of the payload or the ciphertext (RFC 8152, sections
+/// 4.1, 5.1 and 6.1), otherwise an empty text.
 fn detached(frame: &Frame, head: &Head) -> &'static str {
     match (frame.role, frame.index) {
         (Role::Message(_, _), 2) if head.is_null() => "detached",

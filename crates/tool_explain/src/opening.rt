@@ -63,7 +63,8 @@ fn opened_map(opened: Frame, bytes: &[u8]) -> Frame {
 ///
 /// The content of a protected byte string is opened if it is one item. It is also opened if it has
 /// the fault that is searched for, which `is_sought` says. The content of another byte string is
-/// opened if it is a message or claims.
+/// opened if it is a message or claims. The frame's `layers` and `openings` limit how deep this
+/// goes.
 ///
 /// # Errors
 /// `AllocError` if an allocation fails.

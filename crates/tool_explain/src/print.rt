@@ -106,7 +106,7 @@ pub fn annotated(alloc: Global, lines: &[Line<'_>]) -> Result<String, AllocError
     Ok(text)
 }
 
-/// Returns the same for a terminal, each line in the colour of its cover.
+/// Returns the same text as [`annotated`] for a terminal, each line in the colour of its cover.
 ///
 /// # Errors
 /// `AllocError` if an allocation fails.

@@ -206,7 +206,7 @@ pub fn structure_notes(
     Ok(notes)
 }
 
-/// Returns the same as comments, to be shown under the lines.
+/// Returns the texts of [`structure_notes`] as comments, to be shown under the lines.
 ///
 /// # Errors
 /// `AllocError` if an allocation fails.

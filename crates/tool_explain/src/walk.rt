@@ -283,8 +283,8 @@ impl<'a, 'e> Walk<'a, 'e> {
         frame.is_key_set() || self.open.iter().any(|outer| outer.is_key_set())
     }
 
-    /// Ends a key of a set at a fault in the next item of the frame. That item has this head, and
-    /// `left` bytes are from it on.
+    /// Ends a key of a set at a fault in the next item of the frame. `head` is the head of that
+    /// item, and `left` is the number of bytes of this frame from the item on.
     fn end_key(
         &mut self,
         alloc: Global,
@@ -399,8 +399,8 @@ impl<'a, 'e> Walk<'a, 'e> {
         Ok(true)
     }
 
-    /// Walks over `count` bytes, as far as they can be shown. Each step shows at least one byte, or
-    /// closes a container that a byte opened.
+    /// Walks over `count` bytes, as far as they can be shown. Each step shows at least one byte,
+    /// closes a container that a byte opened, or notes the fault of a key of a set.
     ///
     /// # Errors
     /// `AllocError` if an allocation fails.

@@ -71,7 +71,7 @@ one_digit digits left rest numbers pushed c v parts is push so_far n h =
     subst (λ (b : List ℕ). AreDigits digits b) (sym (ap (λ p. p ++ n) push ∙ append_assoc numbers (v ∷ []) n))
     (so_far (v ∷ n) (subst (λ (t : List ℕ). AreDigits t (v ∷ n)) (sym parts) (base64.digit c v rest n is h)))
 
--- The text has one more character that is no digit.
+-- The text has one more character of white space, which is no digit.
 pub one_break :
     (digits left rest numbers : List ℕ) (c : ℕ) → left ≡ c ∷ rest → is_break c ≡ true
     → ((n : List ℕ) → AreDigits left n → AreDigits digits (numbers ++ n)) → (n : List ℕ) → AreDigits rest n → AreDigits digits (numbers ++ n)
