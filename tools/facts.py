@@ -1,19 +1,20 @@
-"""Checks of tools/pages that need nothing built: links and paths, the places of promises, the kit's version, the texts of edits."""
+"""Checks of tools/pages that need nothing built: links and paths, programs, the places of promises, the kit's version, the texts
+of edits."""
 import os
 import re
-import subprocess
 import sys
 
 sys.dont_write_bytecode = True
 import common  # noqa: E402
 import edits  # noqa: E402
-from sources import files, read  # noqa: E402
+from sources import files, read, shown  # noqa: E402
 
 HERE = common.HERE
 WORD = re.compile(r"[A-Za-z_]\w*")
 LINK = re.compile(r"\]\(([^)#\s]+)(?:#[^)]*)?\)")
 # A path in backquotes, or in the text of a page: one that begins with a folder of the repository.
 PATH = re.compile(r"(?<![\w/.])((?:crates|tools|c|docs|edits|coset_\w+|cwt_gate|ffi_\w+|tool_\w+|test_\w+|example_\w+)/[\w./*-]+)")
+PROGRAM = re.compile(r"^In \[[^\]\n]*\]\(\.\./(crates/\w+/src/main\.rt)\):\n\n```rust\n(.*?)^```", re.M | re.S)
 
 
 def pages():
@@ -42,6 +43,17 @@ def astray(page):
     for path in sorted({it.rstrip("./-") for it in PATH.findall(prose)}):
         if not re.search(r"[*]|/out(/|$)|\b[A-Z]{4,}\b", path) and not path.startswith("crates/hello") and not is_there(path):
             yield f"{page}: there is no {path}"
+
+
+# ---- programs
+
+
+def unlike():
+    """Yields the programs of pages that aren't their files without contracts. A line `In [path](../path):` is above each."""
+    for page in pages():
+        for path, program in PROGRAM.findall(read(page)):
+            if program != shown(text_of(path) or "", [], []):
+                yield f"{page}: the program isn't that of {path}"
 
 
 # ---- promises
@@ -94,8 +106,7 @@ def misplaced():
 
 def other_kit():
     """Yields the pages that name another kit than the installed one."""
-    ran = subprocess.run(["rt", "version"], capture_output=True, text=True, check=False)
-    installed = ran.stdout.strip()
+    installed = common.rt("version")
     for page in pages():
         for named in sorted(set(re.findall(r"rattle-kit-\w+(?: logic \w+)?", read(page)))):
             if page != "CHANGELOG.md" and not installed.startswith(named):
@@ -122,6 +133,7 @@ def wrong():
     """Yields what is wrong by these checks."""
     for page in pages():
         yield from astray(page)
+    yield from unlike()
     yield from misplaced()
     yield from other_kit()
     yield from unfit()
