@@ -1,4 +1,4 @@
-/* Attacks the C interface (tools/attack.py writes calls.h): `attack ROWS SEED CALLS`.
+/* Attacks the C interface (tools/capi/attack.py writes calls.h): `attack ROWS SEED CALLS`.
  *
  * Eight threads make calls with the bytes of test vectors, most of them damaged. Each buffer of a call ends at an inaccessible
  * page, or begins after one. Afterwards the 64 bytes on its other side are checked, and so are the input and the part of `out`

@@ -11,6 +11,7 @@ import time
 
 import browser
 import common
+from cbor import byte_string, head
 
 HERE = common.HERE
 SHOTS = f"{HERE}/out/page"
@@ -112,20 +113,12 @@ def cases():
             yield data, kind, MOMENT
 
 
-def head(major, number):
-    for size, code in ((1, 24), (2, 25), (4, 26), (8, 27)):
-        if number < 24:
-            return bytes([major << 5 | number])
-        if number < 1 << 8 * size:
-            return bytes([major << 5 | code]) + number.to_bytes(size, "big")
-
-
 def layered(count):
     """Returns a message with a countersignature in its protected header, which has one in its own, and so on `count` times."""
     held = b"\xa0"
     for _ in range(count):
-        held = b"\xa1\7\x83" + head(2, len(held)) + held + b"\xa0\x40"
-    return b"\xd2\x84" + head(2, len(held)) + held + b"\xa0\xf6\x40"
+        held = b"\xa1\7\x83" + byte_string(held) + b"\xa0\x40"
+    return b"\xd2\x84" + byte_string(held) + b"\xa0\xf6\x40"
 
 
 def hostile():
@@ -133,7 +126,7 @@ def hostile():
     found = {f"levels {n}": b"\x81" * (n - 1) + b"\0" for n in (256, 257, 258)}
     found |= {f"tags {n}": b"\xc6" * (n - 1) + b"\0" for n in (256, 300)} | {f"layers {n}": layered(n) for n in (15, 16, 17, 18)}
     found |= {"maps 256": b"\xa1\0" * 255 + b"\0", "long opened": b"\x9f" * MEGABYTE}
-    found["long payload"] = bytes.fromhex("d28443a10126a0") + head(2, MEGABYTE) + b"\7" * MEGABYTE + head(2, 64) + b"\1" * 64
+    found["long payload"] = bytes.fromhex("d28443a10126a0") + byte_string(b"\7" * MEGABYTE) + byte_string(b"\1" * 64)
     found["long integers"] = head(4, MEGABYTE) + b"\1" * MEGABYTE
     found["long text"] = head(3, MEGABYTE) + b"a" * MEGABYTE
     found["long map"] = head(5, MEGABYTE // 6) + b"".join(head(0, MEGABYTE | i) + b"\xf6" for i in range(MEGABYTE // 6))

@@ -1,4 +1,4 @@
-/* Prints the payload of a signed token. Both are in hexadecimal. tools/install.py builds this with the installed
+/* Prints the payload of a signed token. Both are in hexadecimal. tools/capi/install.py builds this with the installed
  * library. */
 #include <coset.h>
 #include <stdio.h>

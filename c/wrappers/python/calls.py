@@ -8,9 +8,10 @@ from verify import verified
 
 _NAMES = {3: "Ends", 4: "Malformed", 5: "Deep", 6: "Extraneous", 7: "Unexpected", 8: "Duplicate", 9: "OutOfRange",
           10: "Unregistered", 11: "NotPrivate"}
-_NOT_LET_IN = dict(zip(range(20, 30), "TooDeep Unauthenticated NotClaims NoExpiration Expired NotYetValid IssuedLater TooOld Issuer Audience".split()))
-_RAISED = {coset.Absent: "Absent", coset.Empty: "Empty", coset.WrongType: "Type", coset.Misuse: "Misuse", coset.Refused: "Refused",
-           coset.NotAllowed: "NotAllowed", coset.Critical: "Critical", MemoryError: "Memory"}
+_NOT_LET_IN = dict(enumerate("TooDeep Unauthenticated NotClaims NoExpiration Expired NotYetValid IssuedLater TooOld Issuer "
+                             "Audience".split(), 20))
+_RAISED = {coset.Absent: "Absent", coset.Empty: "Empty", coset.WrongType: "Type", coset.Misuse: "Misuse",
+           coset.Refused: "Refused", coset.NotAllowed: "NotAllowed", coset.Critical: "Critical", MemoryError: "Memory"}
 
 
 def data(word):
@@ -24,30 +25,9 @@ def pairs(word):
     return [tuple(values[half[0]](half[1:]) for half in pair) for pair in halves]
 
 
-def made(name, kind, given, *words):
-    """Returns the result of a call that makes an item."""
-    if name == "put_int":
-        return coset.put(kind, given, int(words[1]), int(words[2]))
-    if name == "put_bytes":
-        return coset.put(kind, given, int(words[1]), data(words[2]))
-    if name == "put_text":
-        return coset.put(kind, given, int(words[1]), data(words[2]).decode())
-    if name == "put":
-        return coset.put_encoded(kind, given, int(words[1]), data(words[2]))
-    if name == "put_all":
-        return coset.put_all(kind, given, pairs(words[1]))
-    if name == "put_text_label":
-        return coset.put_encoded(kind, given, data(words[1]).decode(), data(words[2]))
-    if name == "structure_of":
-        signer, aad, content = map(data, words[1:])
-        return coset.structure_of(kind, given, content, signer, aad)
-    if name == "recipient_structure_of":
-        return coset.recipient_structure_of(kind, given, data(words[1]))
-    if name == "make":
-        return coset.make(kind, given, data(words[1]), None if words[2] == "0" else data(words[3]), data(words[4]))
-    if name == "add":
-        return coset.add(kind, given, data(words[1]))
-    return coset.write(kind, given) if name == "write" else coset.canonical_key(kind, given)
+def detached(has, content):
+    """Returns a payload, or None if `has` says that there is none."""
+    return None if has == "0" else data(content)
 
 
 def token(key_id, issuer, subject, audience, token_id, *words):
@@ -61,7 +41,7 @@ def token(key_id, issuer, subject, audience, token_id, *words):
 def told(kind, given, aad, has, content):
     """Returns the result of `sign1`: its texts one after another, and the numbers of the view that coset_sign1
     gives."""
-    m = coset.sign1(kind, given, data(aad), None if has == "0" else data(content))
+    m = coset.sign1(kind, given, data(aad), detached(has, content))
     texts = [m.signed, m.signature, m.payload, m.key_id]
     numbers = [m.algorithm or 0, m.algorithm_form, m.key_id_map or 0, int(m.has_critical), int(m.is_tagged), *map(len, texts)]
     return " ".join([b"".join(texts).hex(), *map(str, numbers)])
@@ -74,7 +54,7 @@ def integers(word):
 
 def message(kind, given, index, aad, has, content, known):
     """Returns the result of `message`, in the same form as `told`."""
-    m = coset.message(kind, given, int(index), integers(known), data(aad), None if has == "0" else data(content))
+    m = coset.message(kind, given, int(index), integers(known), data(aad), detached(has, content))
     texts = [m.input, m.proof, m.content, m.key_id]
     numbers = [m.algorithm or 0, m.algorithm_form, m.key_id_map or 0, m.critical, int(m.is_tagged), *map(len, texts)]
     return " ".join([b"".join(texts).hex(), *map(str, numbers)])
@@ -84,7 +64,7 @@ def safe(kind, given, index, aad, has, content, algorithms, known, *words):
     """Returns the result of `verify` or `decrypt`, as calls.c describes it."""
     is_asked = lambda q: [q.input, q.proof, q.key_id or b""] == list(map(data, words))
     plain = lambda q, iv: (iv or b"") + bytes(byte ^ 0x5A for byte in q.proof) if is_asked(q) else None
-    more = {"critical": integers(known), "external_aad": data(aad), "detached": None if has == "0" else data(content)}
+    more = {"critical": integers(known), "external_aad": data(aad), "detached": detached(has, content)}
     if kind & 0xFF == coset.ENCRYPT0:
         return coset.decrypt(kind, given, integers(algorithms), plain, **more).hex()
     return coset.verify(kind, given, integers(algorithms), is_asked, int(index), **more).hex()
@@ -116,66 +96,75 @@ def span(part):
     return f"{part.start} {part.stop - part.start}"
 
 
+def verification(given, *words):
+    """Returns the payload for the words of `verified`."""
+    is_asked = lambda q: [str(q.algorithm), (q.key_id or b"").hex(), q.input.hex(), q.proof.hex()] == list(words)
+    return verified(given, is_asked).hex()
+
+
+# Calls without a buffer for their result, and their results as texts.
+_WITHOUT_ROOM = {
+    "text": lambda status, _: f"{coset.version()}: {coset.status_text(status)}",
+    "check": lambda kind, given: coset.check(kind, given) or "",
+    "count": lambda kind, given: str(coset.count(kind, given)),
+    "integer": lambda _, given: str(coset.integer(given)),
+    "label_int": lambda kind, given, which, label: str(coset.label_int(kind, given, int(which), int(label))),
+    "member_span": lambda kind, given, index: span(coset.member_span(kind, given, int(index))),
+    "pair_spans": lambda kind, given, index: " ".join(map(span, coset.pair_spans(kind, given, int(index)))),
+    "label_span": lambda kind, given, which, label: span(coset.label_span(kind, given, int(which), int(label))),
+    "item_span": lambda _, given, at: span(coset.item_span(given, int(at))),
+    "string_span": lambda _, given: span(coset.string_span(given)),
+}
+# Calls with several results, as texts.
+_SEVERAL = {
+    "sign1": told,
+    "message": message,
+    "spans": message,
+    "safe": safe,
+    "token": lambda _, given, *words: judged(given, *words),
+    "verified": lambda _, given, *words: verification(given, *words),
+    "issued": lambda _, key_id, *words: token(key_id, *words),
+}
+# Calls that return bytes.
+_BYTES = {
+    "part": lambda kind, given, part: coset.part(kind, given, int(part)),
+    "member": lambda kind, given, index: coset.member(kind, given, int(index)),
+    "label": lambda kind, given, which, label: coset.label(kind, given, int(which), int(label)),
+    "label_bytes": lambda kind, given, which, label: coset.label_bytes(kind, given, int(which), int(label)),
+    "text_label": lambda kind, given, which, label: coset.label(kind, given, int(which), data(label).decode()),
+    "label_at": lambda kind, given, index: coset.label_at(kind, given, int(index)),
+    "value_at": lambda kind, given, index: coset.value_at(kind, given, int(index)),
+    "key_of": lambda _, given, key_id: coset.key_of(given, data(key_id)),
+    "structure": lambda kind, given, index, aad, *payload:
+        coset.structure(kind, given, int(index), data(aad), detached(*payload)),
+    "structure_of": lambda kind, given, signer, aad, content:
+        coset.structure_of(kind, given, data(content), data(signer), data(aad)),
+    "recipient_structure": lambda kind, given, aad: coset.recipient_structure(kind, given, data(aad)),
+    "recipient_structure_of": lambda kind, given, aad: coset.recipient_structure_of(kind, given, data(aad)),
+    "countersign_structure": lambda kind, given, label, signer, aad, *payload:
+        coset.countersign_structure(kind, given, int(label), data(signer), data(aad), detached(*payload)),
+    "put": lambda kind, given, label, value: coset.put_encoded(kind, given, int(label), data(value)),
+    "put_int": lambda kind, given, label, value: coset.put(kind, given, int(label), int(value)),
+    "put_bytes": lambda kind, given, label, value: coset.put(kind, given, int(label), data(value)),
+    "put_text": lambda kind, given, label, value: coset.put(kind, given, int(label), data(value).decode()),
+    "put_text_label": lambda kind, given, label, value: coset.put_encoded(kind, given, data(label).decode(), data(value)),
+    "put_all": lambda kind, given, word: coset.put_all(kind, given, pairs(word)),
+    "make": lambda kind, given, unprotected, has, content, proof:
+        coset.make(kind, given, data(unprotected), detached(has, content), data(proof)),
+    "add": lambda kind, given, member: coset.add(kind, given, data(member)),
+    "write": coset.write,
+    "canonical_key": coset.canonical_key,
+}
+
+
 def answer(name, kind, given="-", *words):
+    """Returns the result of a call. The first of `words` is the size of the buffer in C, if the call has one."""
     kind, given = int(kind), data(given)
-    if name == "text":
-        return f"{coset.version()}: {coset.status_text(kind)}"
-    if name in ("message", "spans"):
-        return message(kind, given, *words[1:])
-    if name == "token":
-        return judged(given, *words[1:])
-    if name == "safe":
-        return safe(kind, given, *words[1:])
-    if name == "issued":
-        return token(given, *words[1:])
-    if name == "check":
-        return coset.check(kind, given) or ""
-    if name == "count":
-        return str(coset.count(kind, given))
-    if name == "part":
-        return coset.part(kind, given, int(words[1])).hex()
-    if name == "member":
-        return coset.member(kind, given, int(words[1])).hex()
-    if name == "label":
-        return coset.label(kind, given, int(words[1]), int(words[2])).hex()
-    if name == "label_at":
-        return coset.label_at(kind, given, int(words[1])).hex()
-    if name == "value_at":
-        return coset.value_at(kind, given, int(words[1])).hex()
-    if name == "member_span":
-        return span(coset.member_span(kind, given, int(words[0])))
-    if name == "label_span":
-        return span(coset.label_span(kind, given, int(words[0]), int(words[1])))
-    if name == "item_span":
-        return span(coset.item_span(given, int(words[0])))
-    if name == "string_span":
-        return span(coset.string_span(given))
-    if name == "integer":
-        return str(coset.integer(given))
-    if name == "pair_spans":
-        return " ".join(map(span, coset.pair_spans(kind, given, int(words[0]))))
-    if name == "key_of":
-        return coset.key_of(given, data(words[1])).hex()
-    if name == "label_bytes":
-        return coset.label_bytes(kind, given, int(words[1]), int(words[2])).hex()
-    if name == "label_int":
-        return str(coset.label_int(kind, given, int(words[0]), int(words[1])))
-    if name == "text_label":
-        return coset.label(kind, given, int(words[1]), data(words[2]).decode()).hex()
-    if name == "structure":
-        detached = None if words[3] == "0" else data(words[4])
-        return coset.structure(kind, given, int(words[1]), data(words[2]), detached).hex()
-    if name == "recipient_structure":
-        return coset.recipient_structure(kind, given, data(words[1])).hex()
-    if name == "countersign_structure":
-        detached = None if words[4] == "0" else data(words[5])
-        return coset.countersign_structure(kind, given, int(words[1]), data(words[2]), data(words[3]), detached).hex()
-    if name == "sign1":
-        return told(kind, given, *words[1:])
-    if name == "verified":
-        is_asked = lambda q: [str(q.algorithm), (q.key_id or b"").hex(), q.input.hex(), q.proof.hex()] == list(words[1:])
-        return verified(given, is_asked).hex()
-    return made(name, kind, given, *words).hex()
+    if name in _WITHOUT_ROOM:
+        return _WITHOUT_ROOM[name](kind, given, *words)
+    if name in _SEVERAL:
+        return _SEVERAL[name](kind, given, *words[1:])
+    return _BYTES[name](kind, given, *words[1:]).hex()
 
 
 for line in sys.stdin:

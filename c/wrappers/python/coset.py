@@ -257,51 +257,61 @@ class _Layer(ctypes.Structure):
     ]
 
 
-def _declare():
+def _calls_with_kind():
+    """Returns the calls that begin with a kind and an input, with the types of their other arguments."""
     number, size, integer, at = ctypes.c_uint32, ctypes.c_size_t, ctypes.c_int64, ctypes.c_char_p
-    given, to = [number, at, size], [ctypes.c_void_p, size, ctypes.POINTER(size)]
-    calls = {
+    given, to, span = [at, size], [ctypes.c_void_p, size, ctypes.POINTER(size)], ctypes.POINTER(_Span)
+    return {
         "check": [ctypes.POINTER(size)],
         "count": [ctypes.POINTER(size)],
-        "part": [number] + to,
-        "member": [size] + to,
-        "member_span": [size, ctypes.POINTER(_Span)],
-        "pair_spans": [size, ctypes.POINTER(_Span), ctypes.POINTER(_Span)],
-        "label_span": [number, integer, ctypes.POINTER(_Span)],
-        "label": [number, integer] + to,
-        "label_bytes": [number, integer] + to,
+        "part": [number, *to],
+        "member": [size, *to],
+        "member_span": [size, span],
+        "pair_spans": [size, span, span],
+        "label_span": [number, integer, span],
+        "label": [number, integer, *to],
+        "label_bytes": [number, integer, *to],
         "label_int": [number, integer, ctypes.POINTER(integer)],
-        "text_label": [number, at, size] + to,
-        "label_at": [size] + to,
-        "value_at": [size] + to,
-        "structure": [size, at, size, number, at, size] + to,
-        "recipient_structure": [at, size] + to,
-        "countersign_structure": [integer, at, size, at, size, number, at, size] + to,
-        "message_spans": [size, at, size, number, at, size, ctypes.c_void_p, size, ctypes.c_void_p, size, ctypes.c_void_p, ctypes.c_void_p],
-        "put_all": [ctypes.POINTER(_Pair), size, at, size] + to,
-        "put": [integer, at, size] + to,
-        "put_bytes": [integer, at, size] + to,
-        "put_text": [integer, at, size] + to,
-        "put_int": [integer, integer] + to,
-        "put_text_label": [at, size, at, size] + to,
-        "structure_of": [at, size, at, size, at, size] + to,
-        "recipient_structure_of": [at, size] + to,
-        "make": [at, size, number, at, size, at, size] + to,
-        "add": [at, size] + to,
+        "text_label": [number, *given, *to],
+        "label_at": [size, *to],
+        "value_at": [size, *to],
+        "structure": [size, *given, number, *given, *to],
+        "recipient_structure": [*given, *to],
+        "countersign_structure": [integer, *given, *given, number, *given, *to],
+        "message_spans": [size, *given, number, *given, *[ctypes.c_void_p, size] * 2, ctypes.c_void_p, ctypes.c_void_p],
+        "put_all": [ctypes.POINTER(_Pair), size, *given, *to],
+        "put": [integer, *given, *to],
+        "put_bytes": [integer, *given, *to],
+        "put_text": [integer, *given, *to],
+        "put_int": [integer, integer, *to],
+        "put_text_label": [*given, *given, *to],
+        "structure_of": [*given, *given, *given, *to],
+        "recipient_structure_of": [*given, *to],
+        "make": [*given, number, *given, *given, *to],
+        "add": [*given, *to],
         "write": to,
         "canonical_key": to,
     }
+
+
+def _declare():
+    """Declares the types of the library's functions."""
+    size, integer, at = ctypes.c_size_t, ctypes.c_int64, ctypes.c_char_p
+    given, to, span = [at, size], [ctypes.c_void_p, size, ctypes.POINTER(size)], ctypes.POINTER(_Span)
+    calls = {name: [ctypes.c_uint32, *given, *others] for name, others in _calls_with_kind().items()}
+    calls |= {
+        "key_of": [*given, *given, *to],
+        "item_span": [*given, size, span],
+        "string_span": [*given, span],
+        "integer": [*given, ctypes.POINTER(integer)],
+        "token_claims": [
+            ctypes.POINTER(_Rules), *[ctypes.POINTER(integer), size] * 4, *given * 3, integer,
+            ctypes.POINTER(_Opened), size, *given, *to, ctypes.POINTER(_Layer),
+        ],
+    }
     for name, arguments in calls.items():
         call = getattr(_library, "coset_" + name)
-        call.argtypes, call.restype = given + arguments, ctypes.c_int32
-    for name, arguments in {"key_of": [at, size] + to, "item_span": [size, ctypes.POINTER(_Span)], "string_span": [ctypes.POINTER(_Span)],
-                            "integer": [ctypes.POINTER(integer)]}.items():
-        call = getattr(_library, "coset_" + name)
-        call.argtypes, call.restype = [at, size] + arguments, ctypes.c_int32
-    lists, names = [ctypes.POINTER(integer), size] * 4, [at, size] * 3
-    opened = [ctypes.POINTER(_Opened), size, at, size]
-    _library.coset_token_claims.argtypes = [ctypes.POINTER(_Rules), *lists, *names, integer, *opened, *to, ctypes.POINTER(_Layer)]
-    _library.coset_token_claims.restype = ctypes.c_int32
+        call.argtypes, call.restype = arguments, ctypes.c_int32
     _library.coset_version.argtypes, _library.coset_version.restype = [], at
     _library.coset_status_text.argtypes, _library.coset_status_text.restype = [ctypes.c_int32], at
 

@@ -3,23 +3,13 @@ c/include/ declare. The table of these functions is written from the headers, so
 import os
 import re
 import subprocess
-import sys
 
-import common
+from capi.building import HERE, run
+from capi.kinds import KINDS, TAGGED, number_of
 
-HERE = common.HERE
 SEED = 20_160_101
-STATUSES, KINDS = "COSET_OK", "COSET_SIGN1"  # the constant that an enum of the header begins with
-ROWS = "sign1 sign mac0 mac encrypt0 encrypt signature recipient header key keyset claims".split()
+FIRST_STATUS, FIRST_KIND = "COSET_OK", "COSET_SIGN1"  # the constant that an enum of the header begins with
 ANSWERS = ("size_t", "int64_t", "uint64_t", "int32_t", "uint32_t", "double")
-TAGGED = 0x100
-
-
-def run(command, **more):
-    ran = subprocess.run(command, capture_output=True, text=True, errors="replace", check=False, **more)
-    if ran.returncode:
-        sys.exit(f"{' '.join(command)}\n{ran.stdout[-3000:]}{ran.stderr[-3000:]}")
-    return ran.stdout
 
 
 def headers():
@@ -76,7 +66,7 @@ def functions(text):
 def table(text):
     """Returns the file calls.h, and the functions that it leaves out. It has each function with its classes, the kinds and
     the statuses."""
-    statuses, kinds = enum(text, STATUSES), enum(text, KINDS)
+    statuses, kinds = enum(text, FIRST_STATUS), enum(text, FIRST_KIND)
     numbers = dict(statuses)
     lines = [f"enum {{ STATUSES = {max(numbers.values()) + 1}, FORM = {TAGGED} }};"]
     lines += ["static const uint32_t kinds[] = {" + ", ".join(str(n) for _, n in kinds if n < TAGGED) + "};"]
@@ -100,8 +90,8 @@ def rows():
             words = line.split()
             tagged = words[:1] == ["tagged"]
             words = words[tagged:]
-            if len(words) >= 2 and words[0] in (*ROWS, "value") and re.fullmatch(r"([0-9a-f]{2}){1,8192}", words[1]):
-                number = ROWS.index(words[0]) + 1 if words[0] in ROWS else 9
+            if len(words) >= 2 and words[0] in (*KINDS, "value") and re.fullmatch(r"([0-9a-f]{2}){1,8192}", words[1]):
+                number = number_of(words[0]) if words[0] in KINDS else 9
                 yield number + TAGGED * tagged, bytes.fromhex(words[1])
 
 
@@ -120,7 +110,8 @@ def attack(folder, objects, calls):
     left = prepared(folder)
     flags = ["-std=c11", "-O2", "-Wall", "-Wextra", "-Werror", f"-I{HERE}/c/include", f"-I{folder}"]
     run(["cc", *flags, "-o", "attack", f"{HERE}/tools/attack.c", *objects, "-lpthread"], cwd=folder)
-    ran = subprocess.run([f"{folder}/attack", f"{folder}/rows", str(SEED), str(calls)], capture_output=True, text=True, check=False)
+    command = [f"{folder}/attack", f"{folder}/rows", str(SEED), str(calls)]
+    ran = subprocess.run(command, capture_output=True, text=True, check=False)
     told = ran.stdout.strip() or f"the attack says nothing: {ran.stderr.strip()[-500:]}"
     more = [f"not attacked: {', '.join(left)}"] if left else []
     return ran.returncode == 0, "; ".join([told, *more])
@@ -128,7 +119,7 @@ def attack(folder, objects, calls):
 
 def corpus(folder):
     """Writes each row as an input of libFuzzer: first the choices that attack.c reads, then the bytes."""
-    kinds = [number for _, number in enum(declarations(), KINDS) if number < TAGGED]
+    kinds = [number for _, number in enum(declarations(), FIRST_KIND) if number < TAGGED]
     os.makedirs(folder, exist_ok=True)
     for place, (number, data) in enumerate(rows()):
         first = bytes([place % 251, kinds.index(number % TAGGED), number // TAGGED])

@@ -14,15 +14,7 @@ import subprocess
 import sys
 import tempfile
 
-import common
-
-HERE = common.HERE
-PACKAGING = f"{HERE}/c/packaging"
-
-
-def read(path):
-    with open(f"{HERE}/{path}", encoding="utf-8") as file:
-        return file.read()
+from sources import HERE, read
 
 
 def version():
@@ -67,7 +59,7 @@ def public(text):
 
 def unlike():
     """Returns the names for which the type hints differ from the wrapper."""
-    hinted, there = (public(read(f"{folder}/coset.py{i}")) for folder, i in (("c/packaging/python", "i"), ("c/wrappers/python", "")))
+    hinted, there = (public(read(path)) for path in ("c/packaging/python/coset.pyi", "c/wrappers/python/coset.py"))
     return sorted(name for name in {*hinted, *there} if name not in hinted or name not in there or hinted[name] != there[name])
 
 
@@ -81,8 +73,8 @@ def texts(prefix, quick):
         found[f"lib/cmake/coset/{name}.cmake"] = fill(f"c/packaging/cmake/{name}.cmake")
     for name in ("pyproject.toml", "backend.py"):
         found[f"share/coset/python/{name}"] = fill(f"c/packaging/python/{name}")
-    found |= {f"share/coset/python/coset/{name}": text
-              for name, text in (("__init__.py", wrapper), ("__init__.pyi", read("c/packaging/python/coset.pyi")), ("py.typed", ""))}
+    for name, text in (("__init__.py", wrapper), ("__init__.pyi", read("c/packaging/python/coset.pyi")), ("py.typed", "")):
+        found[f"share/coset/python/coset/{name}"] = text
     for name in ("Cargo.toml", "build.rs"):
         found[f"share/coset/rust/{name}"] = fill(f"c/packaging/rust/{name}")
     found["share/coset/rust/src/lib.rs"] = read("c/wrappers/rust/coset.rs")

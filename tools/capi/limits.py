@@ -5,12 +5,14 @@ import os
 import subprocess
 import sys
 
-import common
+from capi.kinds import ABSENT, EITHER, MEMORY, MISUSE, OK, number_of
+from cbor import byte_string, head
+from sources import HERE
 
-sys.path.append(f"{common.HERE}/crates/tool_bench")
+sys.path.append(f"{HERE}/crates/tool_bench")
 import hostile  # noqa: E402
 
-SIGN1, SIGN, MAC, RECIPIENT, KEY_SET, EITHER = 1, 2, 4, 8, 11, 0x200
+SIGN1, SIGN, MAC, RECIPIENT, KEY_SET = map(number_of, ("sign1", "sign", "mac", "recipient", "keyset"))
 CALLS = {SIGN1: "check part label structure detached countersigned sign1 message spans token write",
          SIGN: "check count member structure countersigned message spans write",
          MAC: "check count member structure countersigned message spans write",
@@ -20,20 +22,22 @@ CALLS = {SIGN1: "check part label structure detached countersigned sign1 message
 
 def levels(count):
     """Returns a message whose unprotected header has a value of `count` nested arrays."""
-    return hostile.message(b"", hostile.head(5, 1) + hostile.head(0, 70) + hostile.head(4, 1) * (count - 1) + hostile.head(4, 0))
+    return hostile.message(b"", head(5, 1) + head(0, 70) + head(4, 1) * (count - 1) + head(4, 0))
 
 
 def headers(count):
-    """Returns a message with `count` nested headers. Each is the unprotected header of a counter signature in the one before."""
-    return hostile.message(b"", hostile.nested(count - 1, hostile.head(5, 0), itertools.cycle([7])))
+    """Returns a message with `count` nested headers.
+
+    Each is the unprotected header of a counter signature in the one before."""
+    return hostile.message(b"", hostile.nested(count - 1, head(5, 0), itertools.cycle([7])))
 
 
 def protected(count, around=0):
     """Returns a message with `count` nested protected headers, each inside `around` more unprotected headers."""
     content = b""
     for _ in range(count - 1):
-        content = hostile.nested(around, hostile.with_counter_signature(7, content, hostile.head(5, 0)), itertools.cycle([7]))
-    return hostile.message(content, hostile.head(5, 0))
+        content = hostile.nested(around, hostile.with_counter_signature(7, content, head(5, 0)), itertools.cycle([7]))
+    return hostile.message(content, head(5, 0))
 
 
 def recipients(count):
@@ -55,7 +59,8 @@ def nesting(program, token):
     counts = (2, 4, 8, 16)
     yield "protected headers, each in the innermost of 127 headers", counts, [(SIGN1, protected(n, 126)) for n in counts]
     yield "128 recipients, the innermost with such protected headers", [16], [(RECIPIENT, hostile.nests([7])["recipients"])]
-    yield "any of these, of so many levels as `coset_is_deeper` counts", *zip(*((most, shallow(program, most)) for most in (16, 32, 64)))
+    counts = (16, 32, 64)
+    yield "any of these, of so many levels as `coset_is_deeper` counts", counts, [shallow(program, most) for most in counts]
 
 
 def is_deeper(program, data, most):
@@ -70,27 +75,28 @@ def shallow(program, most):
     kinds += [(SIGN1, lambda count, around=around: protected(count, around)) for around in (1, 2, 4)]
     found = []
     for kind, make in kinds:
-        fits = [data for data in map(make, range(1, min(most, 17 if make is protected else most))) if not is_deeper(program, data, most)]
-        found.append((kind, fits[-1]))
+        inputs = map(make, range(1, min(most, 17 if make is protected else most)))
+        found.append((kind, [data for data in inputs if not is_deeper(program, data, most)][-1]))
     return found
 
 
 def list_of(start, member, count):
     """Returns `start`, followed by an array of `count` members."""
-    return start + hostile.head(4, count) + member * count
+    return start + head(4, count) + member * count
 
 
 def amounts(token):
     """Yields the rows of the table of memory: the name of the input, its kind, and its bytes."""
-    key = b"\xa3\x01\x04\x02" + hostile.byte_string(b"a key's id") + b"\x20" + hostile.byte_string(bytes(32))
-    payload = hostile.byte_string(bytes(10**6))
+    key = b"\xa3\x01\x04\x02" + byte_string(b"a key's id") + b"\x20" + byte_string(bytes(32))
+    payload = byte_string(bytes(10**6))
     signers, recipients_of = b"\x84\x40\xa0\xf6", b"\x85\x40\xa0\xf6\x40"
     signer, recipient, integers = b"\x83\x40\xa0\x40", b"\x83\x40\xa0\xf6", b"\xa1\x18\x46"
     yield "a signed token (RFC 8392, appendix A.3)", SIGN1 + EITHER, token
-    yield "a message with a payload of 1 MB", SIGN1, b"\x84\x43\xa1\x01\x26\xa0" + payload + hostile.byte_string(bytes(64))
-    yield "a set of 100 keys, each with an identifier and 32 bytes", KEY_SET, hostile.head(4, 100) + 100 * key
+    yield "a message with a payload of 1 MB", SIGN1, b"\x84\x43\xa1\x01\x26\xa0" + payload + byte_string(bytes(64))
+    yield "a set of 100 keys, each with an identifier and 32 bytes", KEY_SET, head(4, 100) + 100 * key
     for count in (10**4, 10**6):
-        yield f"an array of {count:,} small integers in a header", SIGN1, hostile.message(b"", list_of(integers, b"\x00", count))
+        header = list_of(integers, b"\x00", count)
+        yield f"an array of {count:,} small integers in a header", SIGN1, hostile.message(b"", header)
     yield "333,000 keys with nothing but their type", KEY_SET, list_of(b"", b"\xa1\x01\x04", 333_000)
     for count in (2_500, 250_000):
         yield f"{count:,} signers with nothing in them", SIGN, list_of(signers, signer, count)
@@ -118,10 +124,11 @@ def refusals(program, token, check):
     A call must then return COSET_MEMORY, or the same as with enough memory. The program itself checks that everything is
     freed. Returns the number of allocations."""
     ample = told(program, SIGN1 + EITHER, token)
-    check(all(it[0] in (0, 12, 13) and (it[3] or it[0]) for it in ample), f"over a heap of the program's own: {ample}")
+    check(all(it[0] in (OK, ABSENT, MISUSE) and (it[3] or it[0]) for it in ample), f"over a heap of the program's own: {ample}")
     for number in range(1, max(it[3] for it in ample) + 1):
         for now, then in zip(told(program, SIGN1 + EITHER, token, env={**os.environ, "REFUSE": str(number)}), ample):
-            check(now[0] in (2, then[0]) and (now[0] == 2) <= (then[3] >= number), f"over a heap of the program's own: {now} and {then}")
+            is_right = now[0] == then[0] or now[0] == MEMORY and then[3] >= number
+            check(is_right, f"over a heap of the program's own: {now} and {then}")
     return sum(it[3] for it in ample)
 
 

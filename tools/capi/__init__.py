@@ -1,0 +1,1 @@
+"""The parts of `tools/c`, which calls the C interface and compares the results."""

@@ -1,0 +1,164 @@
+"""Builds the library, proved or not, and the programs in C and Rust that call it."""
+import os
+import re
+import shutil
+import subprocess
+import sys
+import tempfile
+
+import common
+from capi import names
+from capi.install import soname
+
+HERE = common.HERE
+WRAPPERS = f"{HERE}/c/wrappers"
+FLAGS = ["-std=c11", "-O2", "-Wall", "-Wextra", "-Werror", "-fPIC", f"-I{HERE}/c/include"]
+# The tools with which the library is put together.
+TOOLS = ("cc", "ar", "ld", "objcopy")
+# The arguments with which a program calls an export, by type.
+CALLED_WITH = {"Global": "alloc", "u32": "0", "i32": "0", "i64": "0", "usize": "0", "&[u8]": 'b""', "&mut [u8]": "&mut out",
+               "&mut usize": "&mut len", "&mut i64": "&mut value", "&[i64]": "&[0]", "&Rules": "&rules", "&[Opened]": "&[]",
+               "&mut Layer": "&mut layer", "&mut View": "&mut view", "&mut Message": "&mut message", "&[Pair]": "&[pair]",
+               "&mut Spans": "&mut spans", "&mut Span": "&mut ffi_query::Span { at: 0, len: 0 }"}
+# The variables among them that are structs: the variable, the module and the struct.
+ZEROS = (("view", "sign1", "View"), ("message", "message", "Message"), ("pair", "pairs", "Pair"), ("spans", "spans", "Spans"),
+         ("rules", "token", "Rules"), ("layer", "token", "Layer"))
+
+
+def run(command, **more):
+    """Runs a command that is expected to succeed, and returns its output."""
+    ran = subprocess.run(command, capture_output=True, text=True, errors="replace", **more)
+    if ran.returncode:
+        sys.exit(f"{' '.join(command)}\n{ran.stdout[-3000:]}{ran.stderr[-3000:]}")
+    return ran.stdout
+
+
+# ---- the static library
+
+
+def built_over(folder):
+    """Proves and builds the static library over the libraries of this checkout, and returns its path."""
+    kit = os.path.dirname(run(["rt", "doc"]).strip())
+    every, own = common.below("ffi_c")[:-1], common.named()["ffi_c"]
+    rlib = lambda name: os.path.join(HERE, "crates", name, "out", "rlib")
+    words = [f"{kit}/bin/rattle", "build", "--crate-name", "ffi_c", "src/lib.rt", "--crate-type", "staticlib",
+             "--links", "ffi_c=", "--extern", f"std={kit}/rlibs/std.rlib", "-L", f"dependency={kit}/rlibs"]
+    words += [word for name in own for word in ("--extern", f"{name}={rlib(name)}/{name}.rlib")]
+    words += [word for name in every for word in ("-L", f"dependency={rlib(name)}")]
+    words += ["--antt-project", f"{kit}/rattle/logic/antt-project.json", "--logic-built", f"{kit}/logic_built",
+              "--toolchain", f"{kit}/toolchain", "--backend", "llvm", "-o", f"{folder}/libcoset_c.a"]
+    run(words, cwd=os.path.join(HERE, "crates", "ffi_c"))
+    return f"{folder}/libcoset_c.a"
+
+
+def archive(is_quick):
+    """Returns the path of the static library, which is built first if a source is newer."""
+    if is_quick:
+        return common.unproved("ffi_c", "libcoset_c_unproved.a", unproved)
+    return common.proved("ffi_c", os.path.join(HERE, "crates", "ffi_c", "out", "libcoset_c.a"), ["rt", "lib"])
+
+
+def calling_main():
+    """Returns a function `main` in Rattle that calls each export."""
+    zeros = []
+    for place, name, struct in ZEROS:
+        text = re.search(rf"pub struct {struct} \{{(.*?)\n\}}", names.source(name), re.S)[1]
+        fields = ", ".join(f"{field}: 0" for field in re.findall(r"pub (\w+): \w+,", text))
+        zeros.append(f"    let {'' if place == 'pair' else 'mut '}{place} = {name}::{struct} {{ {fields} }};")
+    calls = [f"    let _ = {path}({', '.join(CALLED_WITH[a] for a in arguments)});" for path, _, arguments in names.exports()]
+    start = ["fn main(rt: HostRuntime) {", "    let alloc = rt.alloc();",
+             "    let (mut out, mut len, mut value) = ([0; 1], 0usize, 0i64);"]
+    return "\n".join(["", *start, *zeros, *calls, "}", ""])
+
+
+def exported(text):
+    """Returns the LLVM IR of that program with each export under the name by which C calls it."""
+    text = re.sub(r"^define (.*@main\()", r"define internal \1", text, flags=re.M)
+    for path, name, _ in names.exports():
+        text = text.replace(f'@"ffi_c::{path}"', f"@{name}")
+        text = re.sub(rf"^define internal (.*@{name}\()", r"define \1", text, flags=re.M)
+    return text
+
+
+def unproved(to):
+    """Builds the static library without a proof.
+
+    `rt try` builds only programs. So the crate becomes a program that calls each export. In its module each export then gets
+    the name by which C calls it."""
+    with tempfile.TemporaryDirectory() as folder:
+        common.copy_crates(folder, "ffi_c")
+        source = f"{folder}/crates/ffi_c/src"
+        os.rename(f"{source}/lib.rt", f"{source}/main.rt")
+        with open(f"{source}/main.rt", "a", encoding="utf-8") as file:
+            file.write(calling_main())
+        common.module(f"{folder}/crates/ffi_c", f"{folder}/module.bc")
+        common.clang("-Xclang", "-disable-llvm-passes", "-S", "-emit-llvm", f"{folder}/module.bc", "-o", f"{folder}/module.ll")
+        with open(f"{folder}/module.ll", encoding="utf-8") as file:
+            text = exported(file.read())
+        with open(f"{folder}/module.ll", "w", encoding="utf-8") as file:
+            file.write(text)
+        common.clang("-c", f"{folder}/module.ll", "-o", f"{folder}/ffi_c.o")
+        run(["ar", "rcsD", to, f"{folder}/ffi_c.o"])
+        # tools/fuzz compiles it again.
+        shutil.move(f"{folder}/module.ll", f"{common.QUICK}/ffi_c.ll")
+
+
+# ---- the libraries for C, and the programs
+
+
+def compiled(folder, source, to, *defines):
+    """Compiles a file of c/wrappers/c to an object file in the folder, and returns its name."""
+    run(["cc", *FLAGS, *defines, "-c", f"{WRAPPERS}/c/{source}.c", "-o", to], cwd=folder)
+    return to
+
+
+def joined(folder, below, *objects):
+    """Makes libcoset.a in the folder's folder `below`, of the object file coset.o. In that, only the exports are global.
+
+    Returns the name of that object file."""
+    one = f"{below}/coset.o"
+    run(["ld", "-r", "-o", one, *objects], cwd=folder)
+    run(["objcopy", "--keep-global-symbols=exports", one], cwd=folder)
+    run(["ar", "rcsD", f"{below}/libcoset.a", one], cwd=folder)
+    return one
+
+
+def build(folder, library, is_quick, check):
+    """Makes libcoset.a, whose names are the exports alone, and libcoset.so from the static library.
+
+    Returns the names of its object files."""
+    there = os.listdir(folder)
+    run(["ar", "x", library], cwd=folder)
+    objects = sorted(set(os.listdir(folder)) - set(there))
+    declared = re.findall(r"\b(coset_\w+)\(", names.header())
+    with open(os.path.join(folder, "exports"), "w", encoding="utf-8") as file:
+        file.write("\n".join(declared) + "\n")
+    text = compiled(folder, "text", "text.o", *(["-DCOSET_UNPROVED"] if is_quick else []))
+    one = joined(folder, ".", *objects, compiled(folder, "heap", "heap.o"), text)
+    run(["cc", "-shared", "-o", "libcoset.so", one, f"-Wl,-z,relro,-z,now,-soname,{soname()}"], cwd=folder)
+    symbols = map(str.split, run(["nm", "-g", "--defined-only", "libcoset.a"], cwd=folder).splitlines())
+    given = {words[2] for words in symbols if len(words) == 3}
+    check(given == set(declared), f"libcoset.a gives {given}")
+    return objects
+
+
+def own_heap(folder, objects, check):
+    """Builds the program that measures calls, with own/libcoset.a, whose heap is the program's. Returns the program's path."""
+    os.makedirs(f"{folder}/own", exist_ok=True)
+    one = joined(folder, "own", *objects, compiled(folder, "heap", "own/heap.o", "-DCOSET_OWN_HEAP"), "text.o")
+    asks = {n.split()[-1] for n in run(["nm", "-u", one], cwd=folder).splitlines()}
+    allowed = {"coset_malloc", "coset_free", "memcpy", "memmove", "memset", "_GLOBAL_OFFSET_TABLE_"}
+    check({"coset_malloc", "coset_free"} <= asks <= allowed, f"over a heap of the program's own the library asks for {asks}")
+    run(["cc", *FLAGS, "-pthread", "-Wl,-z,now", "-o", "limits", f"{WRAPPERS}/c/limits.c", "own/libcoset.a"], cwd=folder)
+    return f"{folder}/limits"
+
+
+def build_callers(folder, objects):
+    """Builds the programs that make calls."""
+    sources = [f"{WRAPPERS}/c/{name}.c" for name in ("calls", "verify", "issue")]
+    run(["cc", *FLAGS, "-o", "calls_c", *sources, "text.o", *objects], cwd=folder)
+    if shutil.which("c++"):
+        run(["c++", "-Wall", "-Wextra", "-Werror", "-fsyntax-only", "-x", "c++", f"{HERE}/c/include/coset_verify.h"])
+    if shutil.which("rustc"):
+        words = ["--edition", "2024", "-O", "-D", "warnings", "-L", folder, "-l", "static=coset"]
+        run(["rustc", *words, "-o", "calls_rust", f"{WRAPPERS}/rust/calls.rs"], cwd=folder)

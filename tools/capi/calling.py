@@ -1,0 +1,155 @@
+"""Makes calls through the programs of c/wrappers, and compares their output with the right results."""
+import subprocess
+
+from capi.kinds import CRITICAL, MISUSE, NAMES, NOT_ALLOWED, OK, REFUSED, SHORT
+from capi.messages import Told
+from capi.tokens import Judged
+from capi.vectors import token
+from sources import read
+
+# Calls that return places.
+SPANS = ("member_span", "pair_spans", "label_span", "item_span", "string_span")
+# Calls without a buffer for their result.
+WITHOUT_ROOM = ("check", "count", "label_int", "integer", *SPANS)
+# Calls that return a view.
+WITH_VIEW = ("sign1", "message", "spans")
+LARGE = 1 << 16
+
+
+def word(value):
+    return (value.hex() or "-") if isinstance(value, bytes) else str(value)
+
+
+def line(call, number, data, words, cap):
+    """Returns the line that asks a program for a call with a buffer of `cap` bytes."""
+    return " ".join(map(word, [call, number, data, *([] if call in WITHOUT_ROOM else [cap]), *words]))
+
+
+def answers(command, lines, check, **more):
+    """Returns the program's results for the lines."""
+    ran = subprocess.run(command, input="\n".join(lines) + "\n", capture_output=True, text=True, **more)
+    check(ran.returncode == 0, f"{command[0]}: status {ran.returncode}: {ran.stderr[-2000:]}")
+    told = ran.stdout.splitlines()
+    check(len(told) == len(lines), f"{command[0]}: {len(told)} answers to {len(lines)} calls")
+    return told
+
+
+def agrees(got, want):
+    """Returns true if the words begin with the wanted ones. None stands for any word."""
+    return len(got) >= len(want) and all(w in (None, g) for g, w in zip(got, want))
+
+
+# ---- from C
+
+
+def untouched(cap):
+    return "ee" * (cap + 8)
+
+
+def view_told(call, status, answer, cap):
+    """Returns the numbers of the view, which are 0 if the call fails."""
+    if call not in WITH_VIEW:
+        return []
+    return list(map(str, answer.view)) if status == OK and len(answer) <= cap else ["0"] * 9
+
+
+def spans_told(status, answer, view):
+    """Returns the right output for `coset_message_spans`. Unknown flags are None."""
+    if status != OK:
+        return ["0", str(status), "0", *view]
+    flags = None if answer.flags is None else str(answer.flags)
+    return [flags, str(OK), str(len(answer)), *([answer.hex()] if answer else []), *view]
+
+
+def told_by_c(call, status, answer, cap):
+    """Returns the right output of calls.c: the status, the number and the buffer. Some calls add the numbers of the view."""
+    view = view_told(call, status, answer, cap)
+    if call == "check":
+        return [str(status)]
+    if call in SPANS:
+        return [str(status), *(answer.split() if status == OK else ["0"] * (4 if call == "pair_spans" else 2))]
+    if call == "deeper":
+        return ["levels", str(answer)]
+    if call == "token":
+        return [str(status), str(len(answer or b"")), *([answer.hex(), *answer.asked] if status == OK else [])]
+    if call == "spans":
+        return spans_told(status, answer, view)
+    if call == "safe":
+        return [str(status), str(len(answer or b""))] + ([answer.hex()] if answer else [])
+    if call in ("count", "label_int", "integer"):
+        return [str(status), str(answer or 0)]
+    if status == -1:
+        return ["-1"]
+    if status == OK and len(answer) > cap:
+        return [str(SHORT), str(len(answer)), untouched(cap), *view]
+    text = answer if status == OK else b""
+    return [str(status), str(len(text)), (text + b"\xee" * (cap + 8 - len(text))).hex(), *view]
+
+
+def rooms(call, answer):
+    """Returns the sizes of buffers for a call: just large enough, one byte too small, and larger."""
+    if call == "verified":
+        return [4096]
+    if call in ("safe", "spans", "token"):
+        return [LARGE]
+    size = len(answer) if isinstance(answer, bytes) else 0
+    return sorted({size, size + 5, max(size - 1, 0)})
+
+
+def lines_of(call, number, data, words, status, answer):
+    """Yields the lines that ask for a call with buffers of several sizes, each with the right output."""
+    for cap in rooms(call, answer):
+        yield line(call, number, data, words, cap), told_by_c(call, status, answer, cap)
+    if call == "safe" and status in (OK, NOT_ALLOWED, CRITICAL, REFUSED) or call == "token" and status == OK:
+        yield line(call, number, data, words, 0), [str(SHORT)]
+    if call == "verified" and status == OK:
+        whole = len(words[2])  # the structure that is signed; the other parts stay in the token
+        yield line(call, number, data, words, whole - 1), [str(SHORT), str(whole), untouched(whole - 1)]
+
+
+def from_c(program, calls, check):
+    """Makes the calls from C. Returns their lines, and the right output for each."""
+    lines, wanted = zip(*(it for call in calls for it in lines_of(*call)))
+    for asked, want, got in zip(lines, wanted, answers([program], lines, check)):
+        check(agrees(got.split(), want), f"C: {asked}: {got} and not {want}")
+    return lines, wanted
+
+
+def lengths(program, check):
+    """Checks that the calls of coset_verify.h refuse a length above PTRDIFF_MAX. Bytes of such a length exceed every depth."""
+    told = answers([program], [f"lengths 0 {token()[0].hex()} 4096"], check)
+    check(told == [f"{MISUSE} {MISUSE} {MISUSE} 1"], f"a length above PTRDIFF_MAX: {told}")
+
+
+# ---- from Rust and Python
+
+
+def told_by_wrapper(status, answer):
+    """Returns the right output of calls.rs and calls.py."""
+    if status == -1:
+        return "ok no"
+    if status != OK:
+        return NAMES[status]
+    spelled = "" if answer is None else answer.hex() if isinstance(answer, bytes) else str(answer)
+    more = answer.view if isinstance(answer, Told) else answer.asked if isinstance(answer, Judged) else []
+    return " ".join(["ok", spelled, *map(str, more)])
+
+
+def from_wrapper(name, command, calls, check, **more):
+    """Makes the calls through a wrapper."""
+    lines = [line(call, number, data, words, 0) for call, number, data, words, _, _ in calls]
+    for (*_, status, answer), asked, got in zip(calls, lines, answers(command, lines, check, **more)):
+        want = told_by_wrapper(status, answer)
+        check(got.strip() == want.strip(), f"{name}: {asked}: {got} and not {want}")
+
+
+def texts(is_quick, callers, check):
+    """Checks that the version and the texts of statuses are the same in all languages. Unknown statuses share one more text.
+
+    `callers` are the programs' commands, each with the arguments of its run."""
+    lines = [f"text {status}" for status in range(-1, 31)]
+    told = [[text.partition("ok ")[2] or text for text in answers(command, lines, check, **more)] for command, more in callers]
+    version = read("VERSION").strip() + (" (unproved)" if is_quick else "")
+    check(all(text.startswith(f"{version}: ") for text in told[0]), f"the library's version isn't {version}: {told[0][0]}")
+    check(len(set(told[0])) == 31 and told[0][0] == told[0][-1], "two statuses have one text")
+    check(all(it == told[0] for it in told), "the languages tell other texts")

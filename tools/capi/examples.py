@@ -1,0 +1,83 @@
+"""The calls of the verifiers and issuers of docs/C.md, with the examples of the RFCs."""
+import re
+
+from capi.kinds import CRITICAL, EITHER, NOT_ALLOWED, OK, REFUSED, bytes_at, pairs_of
+from capi.messages import message_calls, sign1_calls
+from capi.p256 import is_signed
+from capi.vectors import key_of_row, named, token
+from cbor import decode, encode
+from sources import read
+
+# A verifier or an issuer, with everything after it.
+FUNCTION = r"^(?:int32_t|coset_status|pub fn|def) (?:verified|issued)\([^)]*\)[^;\n]*\n[\s\S]*"
+SHOWN = ("c/verify.c", "rust/verify.rs", "python/verify.py", "c/issue.c", "rust/issue.rs", "python/issue.py")
+
+
+def compare_page(check):
+    """Checks that the page shows the verifiers and the issuers as they are."""
+    page = read("docs", "C.md")
+    for path in SHOWN:
+        text = read("c", "wrappers", *path.split("/"))
+        for part in re.findall(FUNCTION, text, re.M):
+            check(part.strip() in page, f"docs/C.md doesn't show what c/wrappers/{path} has")
+
+
+def verify_signatures(check):
+    """Verifies the token's signature with its key. Then verifies the countersignature of RFC 9338, appendix A.1.1, over the
+    structure of its row. Its key is from RFC 8152, appendix C.7.1."""
+    data, signed, _, key = token()
+    signature = decode(data)[0][2][1][3][1]
+    check(is_signed(key, signed, signature), "the token's signature")
+    check(not is_signed(key, signed + b"x", signature), "a signature of other bytes")
+    row, over = named("rfc9338-a.1.1")[2]
+    unprotected = dict(pairs_of(decode(bytes.fromhex(row[1]))[0][1][1]))
+    countersignature, key = bytes_at(unprotected[("int", 11)], 2), key_of_row("rfc8152-c.7.1", 2)[1]
+    check(is_signed(key, bytes.fromhex(over), countersignature), "the countersignature of RFC 9338")
+
+
+def verify_others(message, words):
+    """Yields the calls for the token's message with other headers."""
+    ids = message[1]
+    for protected, unprotected, status in ((bytes.fromhex("a201260281617a"), ids, CRITICAL),
+                                           (b"\xa1\1\x26", ("map", ids[1] + [("int", 2), ("array", [("int", 1)])]), CRITICAL),
+                                           (b"", ids, NOT_ALLOWED), (bytes.fromhex("a1016178"), ids, NOT_ALLOWED),
+                                           (b"\xa1\1\x26", ("map", []), REFUSED)):
+        other = ("array", [(2, protected), unprotected] + message[2:])
+        yield ("verified", 0, encode(other), words, status, None)
+        yield from sign1_calls(1, encode(other), other, False, (b"",))
+        yield from message_calls("sign1", 1, encode(other), other, False)
+    identified = bytes.fromhex("a20126044101")
+    other = ("array", [(2, identified)] + message[1:])
+    signed = encode(("array", [(3, b"Signature1"), (2, identified), (2, b""), message[2]]))
+    yield ("verified", 0, encode(other), ["-7", b"\1", signed, message[3][1]], OK, message[2][1])
+    yield from sign1_calls(1 + EITHER, encode(other), other, False, (b"",))
+
+
+def verifications():
+    """Yields the calls that verify the token in each language, by comparing its structure."""
+    data, signed, key_id, _ = token()
+    message = decode(data)[0][2][1]
+    words = ["-7", key_id, signed, message[3][1]]
+    yield ("verified", 0, data, words, OK, message[2][1])
+    yield ("verified", 0, data[1:], words, OK, message[2][1])
+    yield ("verified", 0, data[:-1], words, 3, None)
+    yield ("verified", 0, data + b"\0", words, 6, None)
+    yield ("verified", 0, data, words[:3] + [b"\1"], REFUSED, None)
+    yield from verify_others(message, words)
+
+
+def issuings():
+    """Yields the calls that make the same token from its claims and its signature."""
+    data, signed, key_id, _ = token()
+    message = decode(data)[0][2][1]
+    claims = dict(pairs_of(decode(message[2][1])[0]))
+    says = [claims[("int", label)][1] for label in (1, 2, 3, 7, 4, 5, 6)]
+    yield ("issued", 0, key_id, says + [signed, message[3][1]], OK, data)
+    yield ("issued", 0, key_id, says + [signed + b"x", message[3][1]], -1, None)
+
+
+def calls(check):
+    """Yields all calls of this file. Before, the signatures are verified here."""
+    verify_signatures(check)
+    yield from verifications()
+    yield from issuings()

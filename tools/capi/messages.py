@@ -1,0 +1,117 @@
+"""The calls that take a message apart for its verifier: `coset_sign1`, `coset_message`, and those of coset_verify.h.
+
+A call is a tuple, here and in the other files. It has the call's name, the kind's number, the input, the other arguments, and the
+right status and result."""
+import itertools
+
+from capi.kinds import ABSENT, CRITICAL, EITHER, MISUSE, NOT_ALLOWED, OK, PARTS, REFUSED, TAGS, bytes_at, headers_of
+from cbor import encode
+
+CONTEXTS = {"sign1": b"Signature1", "sign": b"Signature", "mac0": b"MAC0", "mac": b"MAC", "encrypt0": b"Encrypt0",
+            "encrypt": b"Encrypt"}
+DETACHED = (None, b"", b"elsewhere")
+
+
+class Told(bytes):
+    """The texts that a call writes, one after another. `view` has the numbers that it returns."""
+
+
+def critical_told(headers, known):
+    """Returns 0 if the headers have no crit (RFC 8152, section 3.1), 1 if crit is protected and names only known labels,
+    otherwise 2."""
+    named = [header.get(("int", 2)) for header in headers]
+    if named == [None, None]:
+        return 0
+    return 1 if named[1] is None and all(label[0] == "int" and label[1] in known for label in named[0][1]) else 2
+
+
+def message_told(kind, item, index, tagged, aad, detached, known):
+    """Returns the right status and results of `coset_message` for a message (RFC 8152, sections 3.1, 4.4, 5.3 and 6.3)."""
+    is_encrypted, protected, carried = kind.startswith("encrypt"), bytes_at(item, 0), bytes_at(item, 2)
+    if not is_encrypted and detached is not None and carried is not None:
+        return MISUSE, None
+    signers = item[1][3][1] if kind == "sign" else [item]
+    index = index if kind == "sign" else 0
+    if index >= len(signers) or not is_encrypted and carried is None and detached is None:
+        return ABSENT, None
+    bearer, named = signers[index], "signature" if kind == "sign" else kind
+    content = [] if is_encrypted else [carried if detached is None else detached]
+    own = [bytes_at(bearer, 0)] if kind == "sign" else []
+    signed = encode(("array", [(3, CONTEXTS[kind])] + [(2, part) for part in [protected, *own, aad, *content]]))
+    headers = headers_of(named, bearer)
+    algorithm, key_ids = headers[0].get(("int", 1)), [header.get(("int", 4)) for header in headers]
+    form = 0 if algorithm is None else 1 if algorithm[0] == "int" else 2
+    place = 1 if key_ids[0] else 2 if key_ids[1] else 0
+    texts = [signed, bytes_at(bearer, PARTS[4].get(named)) or b"", carried or b"", key_ids[place - 1][1] if place else b""]
+    told = Told(b"".join(texts))
+    critical = max(critical_told(h, known) for h in {"sign": [headers, headers_of(kind, item)]}.get(kind, [headers]))
+    told.view = [algorithm[1] if form == 1 else 0, form, place, critical, int(tagged), *map(len, texts)]
+    return OK, told
+
+
+def sign1_calls(number, data, item, tagged, aads):
+    """Yields the calls of `coset_sign1` for a message, with a detached payload and without one."""
+    for aad in aads:
+        for detached in DETACHED:
+            status, told = message_told("sign1", item, 0, tagged, aad, detached, [])
+            if told is not None:
+                told.view[3] = min(told.view[3], 1)
+            yield ("sign1", number, data, [aad, int(detached is not None), detached or b""], status, told)
+
+
+def with_flags(kind, data, item, tagged, told):
+    """Returns the same, with the number of texts (of three) that `coset_message_spans` finds in the input, if that is known.
+
+    It finds all of them if the message has no list of signatures, has the shortest encoding, and names no critical labels. All
+    strings then have definite lengths."""
+    found = Told(told)
+    ids = [v for header in headers_of(kind, item) for k, v in header.items() if k == ("int", 4)]
+    lent = kind != "sign" and not told.view[3] and all(v[0] == 2 for v in ids)
+    is_shortest = encode(("tag", TAGS[kind], item) if tagged else item) == data
+    found.view, found.flags = told.view, 3 * lent if is_shortest or not lent else None
+    return found
+
+
+def message_calls(kind, number, data, item, tagged):
+    """Yields the calls of `coset_message` for a message."""
+    named = [label[1] for h in headers_of(kind, item) for label in h.get(("int", 2), (0, []))[1] if label[0] == "int"]
+    signers = range(len(item[1][3][1]) + 1) if kind == "sign" else (0,)
+    for index, detached, known in itertools.product(signers, DETACHED, ([], [*named, -70000, 4])):
+        status, told = message_told(kind, item, index, tagged, b"aad", detached, known)
+        words = [index, b"aad", int(detached is not None), detached or b"", ",".join(map(str, known)) or "-"]
+        yield ("message", number, data, words, status, told)
+        yield ("spans", number, data, words, status, told and with_flags(kind, data, item, tagged, told))
+        yield from safe_calls(kind, number, data, item, words, status, told, detached)
+
+
+def safe_calls(kind, number, data, item, words, status, told, detached):
+    """Yields the calls of coset_verify.h, and the same calls of the wrappers. In one the verifier gets the right structure and
+    accepts; others are refused."""
+    if kind in ("mac", "encrypt"):
+        return
+    carried, crypted = bytes_at(item, 2), kind == "encrypt0"
+    if status == OK and crypted and (carried is None) == (detached is None):
+        status, told = ABSENT if detached is None else MISUSE, None
+    if told is None:
+        yield ("safe", number, data, words[:4] + ["-7", words[4], b"", b"", b""], status, None)
+        return
+    view, texts = told.view, []
+    for length in view[5:]:
+        texts.append(told[len(b"".join(texts)):][:length])
+    content = carried if detached is None else detached
+    ivs = [header[("int", 5)][1] for header in headers_of(kind, item) if ("int", 5) in header] if crypted else []
+    proof, answer = (content, b"".join(ivs[:1]) + bytes(byte ^ 0x5a for byte in content)) if crypted else (texts[1], content)
+    asked = [texts[0], proof, texts[3]]
+    for allowed, said in ([view[0], True], [view[0], False], [view[0] + 1, True]):
+        status = CRITICAL if view[3] == 2 else NOT_ALLOWED if view[1] != 1 or allowed != view[0] else OK if said else REFUSED
+        given = words[:4] + [f"{allowed},-99999", words[4]] + (asked if said else [texts[0] + b"x", *asked[1:]])
+        yield ("safe", number, data, given, status, answer if status == OK else None)
+
+
+def calls(kind, number, data, item, tagged):
+    """Yields all calls of this file for an item of that kind. There are none if it is no message."""
+    if kind == "sign1":
+        yield from sign1_calls(number, data, item, tagged, (b"", b"aad"))
+        yield from sign1_calls(1 + EITHER, data, item, tagged, (b"",))
+    if kind in TAGS:
+        yield from message_calls(kind, number, data, item, tagged)

@@ -1,0 +1,140 @@
+"""The names, arguments and constants of the interface, which the header, the exports and the two wrappers must share."""
+import re
+
+from sources import read
+
+CONSTANT = r"\b(COSET_[A-Z0-9_]+)\s*(?::\s*\w+)?\s*=\s*(0x[0-9a-f]+|\d+)"
+# The modules of ffi_c with exports or structs.
+SOURCES = ("lib", "countersign", "elements", "making", "message", "numbers", "pairs", "replies", "sign1", "spans", "token")
+# The types of C as the exports write them.
+WORDS = {"uint32_t": "u32", "int32_t": "i32", "int64_t": "i64", "size_t": "usize", "const uint8_t *": "&[u8]",
+         "uint8_t *": "&mut [u8]", "const coset_opened *": "&[Opened]", "const coset_rules *": "&Rules",
+         "const coset_pair *": "&[Pair]", "coset_layer *": "&mut Layer", "size_t *": "&mut usize", "int64_t *": "&mut i64",
+         "const int64_t *": "&[i64]", "coset_sign1_view *": "&mut View", "coset_message_view *": "&mut Message",
+         "coset_message_spans_view *": "&mut Spans", "coset_span *": "&mut Span"}
+# The types among them that the next argument, a length, belongs to.
+SLICES = ("[u8]", "[i64]", "[Opened]", "[Pair]")
+PROTOTYPE = r"(COSET_CALL\(([\d, ]+)\)\s*)?coset_status (coset_\w+)\(([^)]*)\);"
+# The types of the Rust wrapper as C writes them.
+POINTERS = {"*const u8": "const uint8_t *", "*mut u8": "uint8_t *", "*mut usize": "size_t *", "*mut i64": "int64_t *",
+            "*const i64": "const int64_t *", "*const Opened": "const coset_opened *", "*const Rules": "const coset_rules *",
+            "*mut Layer": "coset_layer *", "*mut View": "coset_sign1_view *", "*mut Message": "coset_message_view *",
+            "*const Pair": "const coset_pair *", "*mut Spans": "coset_message_spans_view *", "*mut Span": "coset_span *"}
+# The structs by their names in the sources and in the Rust wrapper, in C, and in the Python wrapper if that has them.
+STRUCTS = (("View", "coset_sign1_view", None), ("Message", "coset_message_view", None), ("Span", "coset_span", "_Span"),
+           ("Pair", "coset_pair", "_Pair"), ("Spans", "coset_message_spans_view", "_Spans"), ("Rules", "coset_rules", "_Rules"),
+           ("Opened", "coset_opened", "_Opened"), ("Layer", "coset_layer", "_Layer"))
+
+
+# ---- what each of them has
+
+
+def source(name):
+    return read("crates", "ffi_c", "src", f"{name}.rt")
+
+
+def header():
+    """Returns coset.h without its comments."""
+    return re.sub(r"/\*.*?\*/", "", read("c", "include", "coset.h"), flags=re.S)
+
+
+def c_arguments(text):
+    """Returns the types of a prototype's arguments as Rust writes them. A pointer and the length after it are a slice."""
+    found, has_length = [], True
+    for argument in text.split(","):
+        type_ = re.sub(r"\w+$", "", argument.strip()).strip()
+        if type_ == "size_t" and not has_length:
+            has_length = True
+        else:
+            found.append(WORDS[type_])
+            has_length = not found[-1].endswith(SLICES)
+    return found
+
+
+def exports():
+    """Yields each function that the source exports: its path in the crate, its name and its arguments' types."""
+    for file in SOURCES:
+        for name, arguments in re.findall(r'extern "C" fn (coset_\w+)\(([^)]*)\)\s*-> i32', source(file)):
+            path = name if file == "lib" else f"{file}::{name}"
+            yield path, name, [a.split(":")[1].strip() for a in arguments.strip().rstrip(",").split(",")]
+
+
+def prototypes():
+    """Yields each function of the header: its name, its arguments, and the numbers that COSET_CALL names before it."""
+    for _, needed, name, arguments in re.findall(PROTOTYPE, header()):
+        yield name, arguments, needed
+
+
+def fields_in(pattern, before, text):
+    """Returns the pairs that the pattern finds in a struct, whose fields begin after `before`."""
+    return re.findall(pattern, re.search(rf"(?:{before})(.*?)\n *[}}\]]", text, re.S)[1])
+
+
+# ---- comparing them
+
+
+def compare_constants(sources, check):
+    declared, there = (dict(re.findall(CONSTANT, text)) for text in (header(), sources))
+    check(declared == there, "the header's constants aren't those of the source")
+    check(f'#define COSET_VERSION "{read("VERSION").strip()}"' in header(), "the header's version isn't that of VERSION")
+
+
+def is_never_null(argument):
+    """Returns true for a pointer to a result or to rules. The buffer `out` and other input may be NULL."""
+    return "*" in argument and ("const" not in argument or "coset_rules" in argument) and not argument.endswith("*out")
+
+
+def compare_functions(sources, check):
+    """Compares the header's functions with the exports and with the Rust wrapper."""
+    for name, arguments, needed in prototypes():
+        never_null = [place for place, it in enumerate(arguments.split(","), 1) if is_never_null(it.strip())]
+        said = list(map(int, needed.split(", ")))
+        check(said == never_null, f"the header's {name} says which arguments are never NULL: {needed}")
+    declared = {name: c_arguments(arguments) for name, arguments, _ in prototypes()}
+    exported = {name: [a for a in arguments if a != "Global"] for _, name, arguments in exports()}
+    check(len(declared) == sources.count("#[unsafe(no_mangle)]"), "a function isn't declared, or not exported")
+    check(declared == exported, f"the header's functions aren't those of the source: {declared} {exported}")
+    back = POINTERS | {rust: c for c, rust in WORDS.items() if "*" not in c}
+    for name, arguments in re.findall(r"pub fn (coset_\w+)\(([^)]*)\) -> i32;", read("c", "wrappers", "rust", "coset.rs")):
+        types = [a.split(":")[1].strip() for a in arguments.split(",")]
+        check(c_arguments(", ".join(f"{back[t]} x" for t in types)) == declared.pop(name, None), f"the Rust wrapper's {name}")
+    check(not declared, f"the Rust wrapper has no {', '.join(declared)}")
+
+
+def compare_python(check):
+    """Compares the constants of the Python wrapper with the header's."""
+    numbers = {n: int(v, 0) for n, v in re.findall(CONSTANT, header())}
+    python = read("c", "wrappers", "python", "coset.py")
+    for names, first in re.findall(r"^([A-Z0-9_, ]+) = (?:map\(Kind, )?range\((\w+), \w+\)", python, re.M):
+        for place, name in enumerate(names.strip().split(", ")):
+            parts = [name] if "COSET_" + name in numbers else name.rsplit("_", 1)
+            number = sum(numbers.get("COSET_" + part, 0) for part in parts)
+            check(number == int(first, 0) + place, f"the Python wrapper's {name}")
+
+
+def compare_structs(sources, check):
+    """Compares the fields of the header's structs with those of the sources and of the wrappers."""
+    sources += read("crates", "ffi_token", "src", "opened.rt") + read("crates", "ffi_query", "src", "elements.rt")
+    rust = read("c", "wrappers", "rust", "coset.rs").partition("mod c {")[2]
+    python = read("c", "wrappers", "python", "coset.py")
+    types = {"int64": "i64", "uint32": "u32", "uint64": "u64", "size_t": "usize"}
+    for struct, in_c, in_python in STRUCTS:
+        fields = [(name, {**WORDS, "uint64_t": "u64"}[type_]) for type_, name in
+                  re.findall(r"(\w+) (\w+);", re.search(rf"typedef struct {in_c} \{{(.*?)\}}", header(), re.S)[1])]
+        there = {"source": fields_in(r"pub (\w+): (\w+),", rf"struct {struct} \{{", sources),
+                 "Rust wrapper": fields_in(r"pub (\w+): (\w+),", rf"struct {struct} \{{", rust)}
+        if in_python:
+            before = rf"class {in_python}\(.*?_fields_ = \["
+            there["Python wrapper"] = fields_in(r'\("(\w+)", ctypes\.c_(\w+)\)', before, python)
+        for name, found in there.items():
+            found = [(field, types.get(type_, type_)) for field, type_ in found]
+            check(fields == found, f"the {name}'s {struct}: {found} and not {fields}")
+
+
+def compare(check):
+    """Compares the header with the exports and the wrappers."""
+    sources = "".join(map(source, SOURCES))
+    compare_constants(sources, check)
+    compare_functions(sources, check)
+    compare_python(check)
+    compare_structs(sources, check)

@@ -1,0 +1,124 @@
+"""What `tools/c` does with the built library, by its options.
+
+Each function gets the arguments of the command, the folder of the library, its object files, and a list of what is wrong. It
+returns the lines to print."""
+import os
+import shutil
+import subprocess
+import sys
+import tempfile
+
+from capi import attack, calling, depths, examples, install, limits, memory, misuses, rows, tokens
+from capi.building import HERE, WRAPPERS, build_callers, own_heap, run
+from capi.vectors import token
+from cbor import decode
+from sources import read
+
+ATTACKS = 2_000_000
+
+
+def kept(given, folder, objects, wrong):
+    """Leaves the library in the folder of --keep. Returns the paths of its files."""
+    os.makedirs(given.keep, exist_ok=True)
+    name = "coset_unproved" if given.quick else "coset"
+    if given.own_heap:
+        own_heap(folder, objects, wrong.check)
+        return [shutil.copy(f"{folder}/own/libcoset.a", os.path.join(given.keep, f"lib{name}.a")), *wrong]
+    paths = [shutil.copy(f"{folder}/libcoset.{it}", os.path.join(given.keep, f"lib{name}.{it}")) for it in ("a", "so")]
+    # The name by which a program finds the shared library when it starts.
+    shared = os.path.join(given.keep, install.soname())
+    if os.path.lexists(shared):
+        os.remove(shared)
+    os.symlink(f"lib{name}.so", shared)
+    return [*paths, shared, *wrong]
+
+
+def installed(given, folder, _, wrong):
+    """Installs the library below the folder of --install."""
+    return [*install.install(folder, given.install, given.quick, os.environ.get("DESTDIR", "")), *wrong]
+
+
+def attacked(given, folder, objects, wrong):
+    """Attacks the library by so many calls as --attack says."""
+    is_right, report = attack.attack(folder, objects, given.attack)
+    wrong.check(is_right, report)
+    return [*([report] if is_right else []), *wrong]
+
+
+def timed(_, folder, __, wrong):
+    """Times the verifier and the issuer in C with the token of RFC 8392, appendix A.3."""
+    sources = [f"{WRAPPERS}/c/{name}.c" for name in ("time", "verify", "issue")]
+    run(["cc", "-std=c11", "-O2", f"-I{HERE}/c/include", "-o", "time", *sources, "libcoset.a"], cwd=folder)
+    return [*run([f"{folder}/time", token()[0].hex()]).splitlines(), *wrong]
+
+
+def measured(_, folder, objects, wrong):
+    """Measures the stack and the memory of calls, and compares the tables with docs/C.md."""
+    lines = list(limits.tables(own_heap(folder, objects, wrong.check), token()[0]))
+    lacking = [line for line in lines if line not in read("docs", "C.md")]
+    wrong.check(not lacking, "\n".join(["docs/C.md doesn't have", *lacking]))
+    return [*lines, *wrong]
+
+
+# ---- all calls
+
+
+def of_library(given, folder, objects, wrong):
+    """Attacks the library, installs it, and tries it over a heap of the program's own. Returns the numbers of calls."""
+    is_right, report = attack.attack(folder, objects, ATTACKS)
+    wrong.check(is_right, report)
+    data, check = token()[0], wrong.check
+    payload = decode(data)[0][2][1][2][1]
+    return [report, *install.tried(folder, given.quick, data, payload, check),
+            f"over a heap of the program's own {limits.refusals(own_heap(folder, objects, check), data, check)}"]
+
+
+def with_memory(given, folder, lines, wanted, wrong):
+    """Makes some calls from C with refused allocations, with little stack and under valgrind. Returns the numbers of calls."""
+    program, few = f"{folder}/calls_c", slice(None, None, max(1, len(lines) // 400))
+    told = [f"refused {memory.refusals(program, lines[few], wanted[few], wrong.check)}"]
+    if not given.quick:
+        with tempfile.TemporaryDirectory() as hostile:
+            told.append(f"within 1 MB of stack {memory.within_stack(program, hostile, wrong.check)}")
+    if shutil.which("valgrind"):
+        some = lines[:: max(1, len(lines) // 300)]
+        told.append(f"under valgrind {memory.under_valgrind(program, some, wrong.check)}")
+    return told
+
+
+def by_wrappers(given, folder, calls, wrong):
+    """Makes the calls from Rust and Python. Returns the numbers of calls."""
+    rust, python = [f"{folder}/calls_rust"], [sys.executable, f"{WRAPPERS}/python/calls.py"]
+    library = {"env": {**os.environ, "COSET_LIBRARY": f"{folder}/libcoset.so", "PYTHONDONTWRITEBYTECODE": "1"}}
+    programs = {"Rust": (rust, {})} if shutil.which("rustc") else {}
+    programs["Python"] = (python, library)
+    for name, (command, more) in programs.items():
+        calling.from_wrapper(name, command, calls, wrong.check, **more)
+    memory.wiped(folder, wrong.check)
+    ran = subprocess.run([sys.executable, f"{WRAPPERS}/python/tests.py"], capture_output=True, text=True, **library)
+    wrong.check(ran.returncode == 0, f"c/wrappers/python/tests.py: {ran.stderr[-1000:]}")
+    calling.texts(given.quick, [([f"{folder}/calls_c"], {}), *programs.values()], wrong.check)
+    return [f"from {name} {len(calls)}" for name in programs]
+
+
+def called(given, folder, objects, wrong):
+    """Makes all calls. Returns the first faults, and a line with the numbers of calls."""
+    build_callers(folder, objects)
+    calls = [*rows.calls(wrong.check), *examples.calls(wrong.check), *tokens.calls()]
+    every = [*calls, *misuses.calls(), *depths.calls(calls)]
+    lines, wanted = calling.from_c(f"{folder}/calls_c", every, wrong.check)
+    calling.lengths(f"{folder}/calls_c", wrong.check)
+    told = [f"calls {len(calls)}", f"from C {len(lines)}"]
+    told += of_library(given, folder, objects, wrong)
+    told += with_memory(given, folder, lines, wanted, wrong)
+    told += by_wrappers(given, folder, calls, wrong)
+    return [*(text[:1000] for text in wrong[:20]), ", ".join([*told, f"wrong {len(wrong)}"])]
+
+
+# Each way by the option that chooses it.
+WAYS = {"keep": kept, "install": installed, "attack": attacked, "time": timed, "limits": measured}
+
+
+def chosen(given):
+    """Returns the way that the options choose."""
+    return next((way for option, way in WAYS.items() if getattr(given, option)), called)
