@@ -69,7 +69,7 @@ abbrev pub check_status : Result (Unit {0}) CoseError → ℤ
 check_status (Ok x) = pos 0
 check_status (Err e) = pos (status_number (refusal_status (refused.Cose e)))
 
--- The offset at which the bytes stop being one item. It is the greatest number if they are of the kind or the offset
+-- The offset at which the bytes stop being one item. It is the greatest number if they are one item or the offset
 -- isn't known.
 abbrev pub RepliesOffset : List ℕ → Result (Unit {0}) CoseError → ℕ → Type 0
 RepliesOffset b (Ok x) n = n ≡ 2 ^ 64 - 1

@@ -1,5 +1,6 @@
-//! Functions that read array elements and map pairs by index, as places or as copies. Others read
-//! the content of a string, an integer, and a key of a set by its identifier.
+//! Functions that return places in the input: of array elements, map pairs, label values, string
+//! contents, and the item at an offset. Others read an integer, copy the label or the value of a
+//! pair by index, or copy a key of a set by its identifier.
 
 ghost use Rattle.std.specs.Prelude.{◌≡◌, MatchOption, pos};
 ghost use Rattle.ffi_query.specs.declared.kind.Kind.TheVariants.{Any, KeySet};

@@ -1,4 +1,4 @@
-//! `ffi_query`, `ffi_make` and `ffi_token` for C: the functions that `include/coset.h` declares.
+//! `ffi_query`, `ffi_make` and `ffi_token` for C: the functions that `c/include/coset.h` declares.
 //!
 //! Arguments are numbers, slices (in C a pointer and a length), structs of numbers, and places for
 //! a number or for such a struct. Nothing is kept between calls. `docs/C.md` says how to call the

@@ -20,7 +20,7 @@ const COSET_UNDERSTOOD: u32 = 1;
 /// There are critical labels, and one isn't understood or isn't protected.
 const COSET_NOT_UNDERSTOOD: u32 = 2;
 
-/// The numbers that `coset_message` returns: `coset_message_view` of `include/coset.h`.
+/// The numbers that `coset_message` returns: `coset_message_view` of `c/include/coset.h`.
 #[repr(C)]
 #[derive(Clone, Copy)]
 pub struct Message {
@@ -112,7 +112,7 @@ fn reply_message(answer: Result<MessageView, Refusal>, len: &mut usize, view: &m
     reply(texts_len(answer), len)
 }
 
-/// Writes everything that verifying or decrypting the input takes, and sets `view` to the rest.
+/// Writes the texts that verifying or decrypting the input takes, and sets `view` to the rest.
 ///
 /// Four texts are written, one after another:
 /// - the structure that is signed, authenticated, or goes with the ciphertext,

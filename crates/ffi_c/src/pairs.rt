@@ -23,7 +23,7 @@ const COSET_BYTES: u32 = 3;
 /// The value is any item, as its encoding.
 const COSET_ENCODED: u32 = 4;
 
-/// A label and a value: `coset_pair` of `include/coset.h`. Texts, byte strings and encodings are
+/// A label and a value: `coset_pair` of `c/include/coset.h`. Texts, byte strings and encodings are
 /// ranges of other bytes.
 #[repr(C)]
 #[derive(Clone, Copy)]

@@ -33,7 +33,7 @@ const COSET_UNREGISTERED: i32 = 10;
 const COSET_NOT_PRIVATE: i32 = 11;
 /// The requested part isn't there.
 pub(crate) const COSET_ABSENT: i32 = 12;
-/// A number names no kind, part or map; or a payload is given that has no place.
+/// An argument isn't valid, or a payload is given as detached and the message carries one too.
 pub(crate) const COSET_MISUSE: i32 = 13;
 /// The requested value is of another type.
 pub(crate) const COSET_TYPE: i32 = 14;

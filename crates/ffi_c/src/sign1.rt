@@ -14,14 +14,14 @@ use crate::replies::{misused, reply};
 use ffi_query::{Algorithm, KeyIdPlace, MessageView, Refusal, message_view};
 use std::alloc::Global;
 
-/// No algorithm is named, or no header has a key identifier.
+/// No algorithm is named, no header has a key identifier, or no header has `crit`.
 pub(crate) const COSET_NONE: u32 = 0;
 /// An integer names the algorithm.
 pub(crate) const COSET_INT: u32 = 1;
 /// A text names the algorithm.
 pub(crate) const COSET_TEXT: u32 = 2;
 
-/// The numbers that `coset_sign1` returns: `coset_sign1_view` of `include/coset.h`.
+/// The numbers that `coset_sign1` returns: `coset_sign1_view` of `c/include/coset.h`.
 #[repr(C)]
 #[derive(Clone, Copy)]
 pub struct View {
@@ -141,7 +141,7 @@ fn reply_view(answer: Result<MessageView, Refusal>, len: &mut usize, view: &mut 
     reply(texts_len(answer), len)
 }
 
-/// Writes everything that verifying the input takes, and sets `view` to the rest.
+/// Writes the texts that verifying the input takes, and sets `view` to the rest.
 ///
 /// Four texts are written, one after another: the structure that is signed, the signature, the
 /// payload that the input carries, and the key identifier. `detached` is the payload if

@@ -1,5 +1,5 @@
-//! Everything that verifying or decrypting a message takes, in one call, without a copy of the
-//! message's own texts.
+//! Everything that verifying or decrypting a message takes, in one call. The message's own texts
+//! are given by their places, and copied only if they can't be borrowed.
 
 ghost use Rattle.std.specs.Prelude.{◌≡◌, MatchOption};
 ghost use Rattle.ffi_query.specs.Results.{ReturnsWith};
@@ -17,7 +17,8 @@ use crate::sign1::{COSET_NONE, algorithm_numbers, number_of_bool, number_of_map}
 use ffi_query::{MessageSpans, Refusal, message_spans};
 use std::alloc::Global;
 
-/// The numbers that `coset_message_spans` returns: `coset_message_spans_view` of `include/coset.h`.
+/// The numbers that `coset_message_spans` returns: `coset_message_spans_view` of
+/// `c/include/coset.h`.
 #[repr(C)]
 #[derive(Clone, Copy)]
 pub struct Spans {

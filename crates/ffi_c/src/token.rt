@@ -54,7 +54,7 @@ const COSET_ISSUER: i32 = 28;
 const COSET_AUDIENCE: i32 = 29;
 
 /// A verifier's requirements for a token, besides lists and names: `coset_rules` of
-/// `include/coset.h`.
+/// `c/include/coset.h`.
 ///
 /// With zeros in all fields but `size`, the times `exp`, `nbf` and `iat` are checked without
 /// leeway. Issuer, audience and age aren't checked.
@@ -87,7 +87,7 @@ pub struct Rules {
     pub has_audience: u32,
 }
 
-/// The view of a layer that waits: `coset_layer` of `include/coset.h`.
+/// The view of a layer that waits: `coset_layer` of `c/include/coset.h`.
 #[repr(C)]
 #[derive(Clone, Copy)]
 pub struct Layer {

@@ -15,7 +15,7 @@ use Rattle.ffi_make.specs.StructuresMade.{recipient_structure_made, structure_ma
 abbrev pub inside : kinds.Kind → Item → Item
 inside k w = without_tag (tag_of k) w
 
--- x is the payload that is signed or authenticated: the content c that the message carries, or d if that is detached.
+-- x is the signed or authenticated payload: the content c that the message carries, or d if the payload is detached.
 -- The structure of a ciphertext has no payload. A message with signers is left out, because each of its signers signs.
 abbrev pub IsOver : kinds.Kind → Option (List ℕ) → Option (List ℕ) → List ℕ → Type 0
 IsOver (Sign f) c d x = ⊥

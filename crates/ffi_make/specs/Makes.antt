@@ -39,7 +39,8 @@ abbrev pub RefusesInputs : (CoseError → Type 0) → List ℕ → List ℕ → 
 RefusesInputs faults old new (Err (Cose e)) = UnlessMemory e faults × (new ≡ old)
 RefusesInputs faults old new r = ⊥
 
--- The result of a call that makes an item of kind k from its arguments. It is that of the new item, or a fault in them.
+-- The result of a call that makes an item of kind k from its arguments. It is the result for the new item, or a fault
+-- in the arguments.
 abbrev pub MakesOf :
     {A : Type 0} → kinds.Kind → (A → Type 0) → (CoseError → Type 0) → (A → Option Item) → List ℕ → List ℕ → Result ℕ refusals.Refusal → Type 0
 MakesOf {A} k AreInputs faults made old new r = ((x : A) × AreInputs x × Makes k (made x) old new r) ⊎ RefusesInputs faults old new r

@@ -24,8 +24,8 @@ in_last f no_items = None
 in_last f (item v no_items) = f v
 in_last f (item v (item w ws)) = option_map (item v) (in_last f (item w ws))
 
--- The elements of an item of kind k with one more member. A set of keys is the list itself, and so is any array. Of
--- other items the list is the last element (RFC 8152, sections 4.1, 5.1, 6.1 and 7).
+-- The elements of an item of kind k with one more member. A set of keys is the list itself, and so is any array. In
+-- other items, the list is the last element (RFC 8152, sections 4.1, 5.1, 6.1 and 7).
 abbrev pub places_with : kinds.Kind → Item → Items → Option Items
 places_with KeySet m vs = Some (and_item vs m)
 places_with Any m vs = Some (and_item vs m)

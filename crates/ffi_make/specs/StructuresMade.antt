@@ -43,8 +43,8 @@ beside_ciphertext context p q aad c = without q (without c (Some (structure cont
 abbrev pub of_signer : List ℕ → List ℕ → List ℕ → List ℕ → Option Item
 of_signer p q aad c = Some (structure (codes "Signature") (p ∷ q ∷ aad ∷ c ∷ []))
 
--- The structure of a message of kind k with the protected header p. The signer's protected header is q. It is over
--- external_aad and the content c.
+-- The structure of a message of kind k with the protected header p. The signer's protected header is q. The structure
+-- is over external_aad and the content c.
 abbrev pub structure_made : kinds.Kind → List ℕ → List ℕ → List ℕ → List ℕ → Option Item
 structure_made (Sign1 f) p q aad c = over_content (codes "Signature1") p q aad c
 structure_made (Sign f) p q aad c = of_signer p q aad c

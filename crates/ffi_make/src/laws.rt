@@ -7,7 +7,8 @@ ghost use Rattle.ffi_make.specs.Laws.{MadeUnsigned, RecipientStructureKept, Reci
 /// [`structure_of`](crate::structure_of) returned for its parts.
 ///
 /// The structure is what is signed, authenticated, or goes with the ciphertext.
-/// `ffi_query::structure_of` returns it for the message.
+/// `ffi_query::structure_of` returns it for the message. For messages with signers,
+/// [`structures_of_signers`] has the law.
 pub fn structure_of_made()
     ensures { StructureOfMade }
 {}

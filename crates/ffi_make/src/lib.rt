@@ -1,17 +1,17 @@
 //! Makes items of COSE from their parts, in one call each.
 //!
 //! Headers, keys and claims sets are made pair by pair. Messages, signatures and recipients are
-//! made from their headers, their content, and a signature or a tag. Other calls write what is
-//! signed, what is authenticated, or what goes with a ciphertext, for a message that isn't made
-//! yet.
+//! made from their headers, their content, and a signature or a tag. Other calls write the
+//! structure that is signed, authenticated, or goes with a ciphertext, for a message that isn't
+//! made yet.
 //!
 //! Like the calls of `ffi_query`, each call is a function of the bytes that it is given. So signing
-//! takes two steps, without a callback and without any state in between. [`structure_of`] returns
+//! takes two steps, without a callback and without any state in between. [`structure_of`] writes
 //! the bytes to sign. Then [`make`] makes the message from the same parts and the signature.
 //! [`laws`] says that the two agree.
 //!
-//! Before a call returns an item, it writes it and reads it as an item of the kind. So an item that
-//! isn't of the kind is refused for the fault that a reader would name.
+//! A call that makes an item encodes it, and checks the bytes as an item of the kind. So an item
+//! that isn't of the kind is refused for the fault that a reader would name.
 #![tactic(auto)]
 
 mod given;

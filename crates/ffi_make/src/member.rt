@@ -61,8 +61,8 @@ fn member_in(
     }
 }
 
-/// Returns the elements with `member` added to the list that is their last. If `begins` is true,
-/// that list may be missing.
+/// Returns the elements, with `member` added to the list that is the last element. If `begins` is
+/// true, that list may be missing.
 ///
 /// # Errors
 /// `OutOfMemory` if an allocation fails.

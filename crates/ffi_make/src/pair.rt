@@ -32,8 +32,8 @@ pub(crate) fn with_pair(map: Value, key: Value, value: Value) -> Result<Option<V
     }
 }
 
-/// Adds a pair to a header, a key or a claims set, writes it to the front of `out`, and returns its
-/// length.
+/// Adds a pair to a header, a key or a claims set, writes the new map to the front of `out`, and
+/// returns its length.
 ///
 /// The pair follows those that the map has. The map is written in its shortest encoding. If `map`
 /// is empty, it is a new map. A new key must begin with its type, label 1, because a key without a

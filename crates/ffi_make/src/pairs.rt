@@ -59,8 +59,8 @@ fn with_all(alloc: Global, map: Value, pairs: &[(Label<'_>, Entry<'_>)]) -> Resu
     Ok(made)
 }
 
-/// Adds pairs to a header, a key or a claims set, writes it to the front of `out`, and returns its
-/// length.
+/// Adds pairs to a header, a key or a claims set, writes the new map to the front of `out`, and
+/// returns its length.
 ///
 /// The result is that of [`put`](crate::put) called for each pair in this order. But the bytes are
 /// read once, and the new map is checked and written once, with all pairs. The pairs follow those

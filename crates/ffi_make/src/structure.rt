@@ -24,8 +24,8 @@ fn check_header(alloc: Global, bytes: &[u8]) -> Result<()>
     check(alloc, Kind::Header, bytes)
 }
 
-/// Encodes a structure over a content. Returns `None` if a signer's header is given, because it has
-/// no place for one.
+/// Encodes a structure over a content. Returns `None` if a signer's header is given, because the
+/// structure has no place for one.
 ///
 /// # Errors
 /// `OutOfMemory` if an allocation fails.
@@ -49,7 +49,7 @@ fn over_content(
 }
 
 /// Encodes a structure that goes with a ciphertext. Returns `None` if a signer's header or a
-/// content is given, because it has no place for these.
+/// content is given, because the structure has no place for these.
 ///
 /// # Errors
 /// `OutOfMemory` if an allocation fails.

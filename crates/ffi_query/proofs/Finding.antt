@@ -1,4 +1,4 @@
--- What is known of bytes that are an item of a kind.
+-- Facts about bytes that are an item of a kind.
 use Rattle.std.proofs.Common.{◌≡◌, ◌∙◌, ℕ, List, Option, ap}
 use Rattle.std.specs.Prelude.{IfSome}
 use Rattle.coset.specs.Results.{IsOnlyItem}

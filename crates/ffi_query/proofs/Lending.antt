@@ -1,4 +1,4 @@
--- What is borrowed from the input b to verify or decrypt a message.
+-- The parts borrowed from the input b to verify or decrypt a message.
 use Rattle.std.proofs.Common.{◌≡◌, ◌∙◌, ◌++◌, ◌+◌, ℕ, ℤ, List, [], length, Option, Some}
 use Rattle.std.proofs.Common.{None, Bor, true, false, ap, sym, subst, refl, inl, inr, arith}
 use Rattle.std.proofs.lemmas.List.{length-append}

@@ -1,4 +1,4 @@
--- What is borrowed from the input b to verify or decrypt a message.
+-- The parts borrowed from the input b to verify or decrypt a message.
 use Rattle.std.specs.Prelude.{◌≡◌, ◌⊎◌, ◌++◌, ℕ, ℤ, List, [], Option, Some, None, Bool, IfSome, codes, ⊤, if◌then◌else◌}
 use Rattle.std.specs.Option.{option_copied}
 use Rattle.coset.specs.Results.{IsOnlyItem}
@@ -67,7 +67,7 @@ KnowsAlgorithm v named.Absent = (w : Item) → IsProtected alg_label (bytes_in 0
 KnowsAlgorithm v (named.Number n) = (w : Item) × IsProtected alg_label (bytes_in 0 v) w × IsNumber w n
 KnowsAlgorithm v named.Text = (w : Item) × IsProtected alg_label (bytes_in 0 v) w × ((n : ℤ) → IsNumber w n → ⊥)
 
--- The header of the item v that has the key identifier. t is its content.
+-- The header of the item v that has the key identifier. t is the identifier's content.
 abbrev pub KnowsKeyId : Item → places.KeyIdPlace → List ℕ → Type 0
 KnowsKeyId v found.Absent t = ((w : Item) → IsProtected kid_label (bytes_in 0 v) w → ⊥) × (unprotected_value kid_label v ≡ None) × (t ≡ [])
 KnowsKeyId v found.Protected t = (w : Item) × IsProtected kid_label (bytes_in 0 v) w × (as_bytes w ≡ Some t)

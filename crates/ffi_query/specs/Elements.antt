@@ -75,8 +75,8 @@ abbrev pub HasNoInteger : Item → refusals.Refusal → Type 0
 HasNoInteger v WrongType = (n : ℤ) → IsNumber v n → ⊥
 HasNoInteger v r = ⊥
 
--- The reason why there is no element, or no pair. `Absent`: the index is too large, or the item v isn't an array, or a
--- map.
+-- The reason why there is no element, or no pair. `Absent`: the index is too large, or the item v has no such list, or
+-- isn't a map.
 abbrev pub HasNoMember : kinds.Kind → ℕ → Item → refusals.Refusal → Type 0
 HasNoMember k i v Absent = member_at k i v ≡ None
 HasNoMember k i v r = ⊥

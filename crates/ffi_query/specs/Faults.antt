@@ -1,4 +1,4 @@
--- Where bytes stop being one data item of CBOR.
+-- The offset at which bytes stop being one data item of CBOR.
 use Rattle.std.specs.Prelude.{◌≡◌, ◌⊎◌, ◌<◌, ℕ, List, length, take, Option, Some, None}
 use Rattle.coset.specs.Item.{Item}
 use Rattle.coset.specs.Grammar.{IsItem}

@@ -1,4 +1,4 @@
--- What is known of an item once its kind was found.
+-- Facts about an item once its kind was found.
 use Rattle.std.specs.Prelude.{◌≡◌, ℕ, Some, Bool, IsTrue}
 use Rattle.coset.specs.Headers.{HeaderView, ProtectedView, header, protected}
 use Rattle.coset.specs.Item.{Item, Items}

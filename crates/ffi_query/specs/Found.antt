@@ -1,4 +1,4 @@
--- What is known of bytes that are an item of a kind.
+-- Facts about bytes that are an item of a kind.
 use Rattle.std.specs.Prelude.{ℕ, List, IfSome}
 use Rattle.ffi_query.specs.declared.found.Found as declared
 use Rattle.ffi_query.specs.declared.kind.Kind as kinds
@@ -6,8 +6,8 @@ use Rattle.ffi_query.specs.Kinds.{IsItemOf, TellsTagOf, tag_of}
 use Rattle.ffi_query.specs.Located.{IsLocated, located_item}
 use Rattle.ffi_query.specs.Three.{AreThreeIn, IsThree}
 
--- The bytes b are that item of kind k. It is known whether they are under its tag, and which elements the item begins
--- with.
+-- x has the item of kind k that the bytes b encode, and says whether they are under its tag. If x has three elements,
+-- the item begins with them.
 pub record IsFound (k : kinds.Kind) (b : List ℕ) (x : declared.Found) : Type 0 where
   pub is_item : IsItemOf k b (located_item x.item)
   pub is_tagged : TellsTagOf (tag_of k) b x.is_tagged

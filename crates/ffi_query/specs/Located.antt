@@ -1,4 +1,4 @@
--- Parts of the input. Each comes with the bytes from its first one to the end of the input.
+-- Parts of the input. Each comes with the bytes from its first byte to the end of the input.
 use Rattle.std.specs.Prelude.{◌≡◌, ◌⊎◌, ◌==◌, ◌%◌, ℕ, List, [], ◌∷◌, ◌++◌, Some, None, Bool, false, true, if◌then◌else◌}
 use Rattle.std.specs.Borrow.{Bor}
 use Rattle.coset.specs.Elements.{items_bytes, items_left, pairs_bytes, pairs_left}

@@ -45,8 +45,8 @@ HasAlgorithm k v named.Text = (w : Item) × IsUnder k of.Protected alg_label v w
 abbrev pub HasNoKeyId : kinds.Kind → maps.Map → Item → Type 0
 HasNoKeyId k m v = (t : List ℕ) → IsStringOf k m kid_label v t → ⊥
 
--- The header that has the key identifier. t is its content: from the protected header, else from the unprotected
--- header, else empty.
+-- The header that has the key identifier. t is the identifier's content: from the protected header, else from the
+-- unprotected header, else empty.
 abbrev pub IsKeyId : kinds.Kind → Item → places.KeyIdPlace → List ℕ → Type 0
 IsKeyId k v found.Absent t = HasNoKeyId k of.Protected v × HasNoKeyId k of.Unprotected v × (t ≡ [])
 IsKeyId k v found.Protected t = IsStringOf k of.Protected kid_label v t
@@ -81,8 +81,8 @@ IsContent k v t = IsPart k (content_part k) v t ⊎ (((s : List ℕ) → IsPart 
 
 -- n is the view of the item v, of kind k. t has its four texts, one after another. ns are the labels that the caller
 -- understands.
--- - What is signed by the signer at index i, authenticated, or goes with the ciphertext. It is over aad, and over d if
---   the payload is detached.
+-- - The structure that is signed by the signer at index i, authenticated, or goes with the ciphertext. It is over aad,
+--   and over d if the payload is detached.
 -- - The signature or the tag.
 -- - The content that the item carries.
 -- - The key identifier.

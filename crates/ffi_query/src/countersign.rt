@@ -325,14 +325,14 @@ fn find_countersigned(
 ///
 /// `bytes` are a message, a signature or a recipient of the kind. The structure is written as the
 /// shortest encoding of `Countersign_structure` (RFC 9338, section 3.3). For a counter signature of
-/// RFC 8152 that is the `Sig_structure` of its section 4.4. It has the bytes of the item's
+/// RFC 8152, the structure is the `Sig_structure` of section 4.4. It has the bytes of the item's
 /// protected header as they were received.
 ///
 /// `signer` is the content of the byte string that holds the countersignature's own protected
 /// header. It is empty for an abbreviated countersignature, which has no such header.
 ///
 /// The structure's payload is the item's payload or ciphertext, or the signature of a
-/// [`Kind::Signature`]. If that field is `nil`, `detached` is the payload; else `detached` is
+/// [`Kind::Signature`]. If that field is `nil`, `detached` is the payload; else `detached` must be
 /// `None`. Version 2 also covers the signature of a [`Kind::Sign1`], and the tag of a
 /// [`Kind::Mac0`] or a [`Kind::Mac`].
 ///

@@ -1,5 +1,5 @@
 //! Places in the input: of array elements, map pairs, values of integer labels, and contents of
-//! strings. Nothing is copied.
+//! strings. The bytes at these places aren't copied.
 
 ghost use Rattle.std.specs.Prelude.{◌≡◌, List, ℕ, IfSome, MatchResult, length, option_map};
 ghost use Rattle.coset.specs.LabelData.{number};
@@ -26,7 +26,7 @@ use coset::CoseError;
 use coset::cbor::de::Pull;
 use std::alloc::Global;
 
-/// A range of the input's bytes: `coset_span` of `include/coset.h`.
+/// A range of the input's bytes: `coset_span` of `c/include/coset.h`.
 #[repr(C)]
 #[derive(Clone, Copy, Debug, PartialEq, Eq)]
 pub struct Span {

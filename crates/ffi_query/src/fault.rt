@@ -1,4 +1,4 @@
-//! Where bytes stop being one data item of CBOR.
+//! The offset at which bytes stop being one data item of CBOR.
 
 ghost use Rattle.ffi_query.specs.Faults.{IsOffset};
 
@@ -12,7 +12,7 @@ use coset::cbor::de::{Error, Pull};
 /// - the end of the bytes, if they end too early,
 /// - the first byte after the item, if bytes follow it.
 ///
-/// `None` means that the bytes are one item, or that it nests too deep. Allocates nothing.
+/// `None` means that the bytes are one item, or that they nest too deep. Allocates nothing.
 pub fn fault_offset(bytes: &[u8]) -> Option<usize>
     ensures { IsOffset bytes.now result }
 {

@@ -157,7 +157,7 @@ fn without_proof<'a>(
 /// Returns the first three elements of a message, if the item is found to be one of this kind.
 ///
 /// The messages found here are `COSE_Sign1`, `COSE_Mac0` and `COSE_Encrypt0`. `item` is without the
-/// message's tag, and `is_tagged` says whether it was under it. The headers are decoded, and the
+/// message's tag, and `is_tagged` says whether the message had it. The headers are decoded, and the
 /// content isn't copied. If the result is `None`, the item may be a message all the same.
 pub(crate) fn fits<'a>(
     alloc: Global,

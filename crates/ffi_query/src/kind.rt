@@ -118,8 +118,8 @@ fn check_message<T: CborSerializable + TaggedCborSerializable + Drop>(
 /// Checks that the bytes are an item of this kind.
 ///
 /// # Errors
-/// - The reason why they are none. If there are several, it is the one that decoding the type
-///   returns.
+/// - The reason why the bytes aren't of the kind. If there are several, it is the one that decoding
+///   the type returns.
 /// - `OutOfMemory` if an allocation fails.
 pub fn check(alloc: Global, kind: Kind, bytes: &[u8]) -> Result<()>
     ensures { Checks kind bytes.now result }

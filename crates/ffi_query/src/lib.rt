@@ -1,12 +1,12 @@
 //! Questions about bytes that may be an item of COSE, each answered by one call.
 //!
 //! The calls tell whether bytes are an item of a kind. They find its parts and the values of its
-//! labels. They write what is signed, what is authenticated, and what goes with a ciphertext. One
+//! labels. They write the structures that are signed, authenticated, or go with a ciphertext. One
 //! call finds everything that verifying or decrypting a message takes.
 //!
 //! Each call is a function of its input's bytes, and keeps nothing. It writes its result into the
-//! caller's memory. That is unchanged if the result doesn't fit, or if there is none. So programs
-//! in other languages can make these calls (`ffi_c`), and have nothing to free.
+//! caller's memory. The memory is unchanged if the result doesn't fit, or if there is none. So
+//! programs in other languages can make these calls (`ffi_c`), and have nothing to free.
 //!
 //! A call passes over its input a fixed number of times. It first decodes the input as the kind
 //! that the caller names, so other input is refused for its own fault. Then it looks up the

@@ -1,4 +1,4 @@
-//! Borrowed parts of the input. Each comes with the bytes from its first one to the end of the
+//! Borrowed parts of the input. Each comes with the bytes from its first byte to the end of the
 //! input, so its place is known.
 
 ghost use Rattle.std.specs.Ordering.{int_eq};
@@ -18,7 +18,7 @@ use crate::kind::Kind;
 use coset::cbor::de::{Items, Pairs, Pull};
 use coset::cbor::value::Integer;
 
-/// A borrowed item, and the bytes from its first one to the end of the input.
+/// A borrowed item, and the bytes from its first byte to the end of the input.
 #[derive(Clone, Copy)]
 pub(crate) struct Located<'a> {
     pub(crate) item: Pull<'a>,
@@ -35,7 +35,7 @@ pub(crate) fn alone(item: Pull<'_>) -> Located<'_>
     }
 }
 
-/// The content of a borrowed string, and the bytes from its first one to the end of the input.
+/// The content of a borrowed string, and the bytes from its first byte to the end of the input.
 #[derive(Clone, Copy)]
 pub(crate) struct Text<'a> {
     pub(crate) bytes: &'a [u8],

@@ -55,8 +55,8 @@ fn put_view(lent: &Borrowed<'_>, out: &mut [u8]) -> Result<MessageView, Refusal>
     }
 }
 
-/// Writes everything that verifying or decrypting a message takes to the front of `out`, and
-/// returns the message's view.
+/// Writes the texts that verifying or decrypting a message takes to the front of `out`, and returns
+/// the message's view.
 ///
 /// Four texts are written, one after another:
 /// - the bytes that are signed, authenticated, or go with the ciphertext, as

@@ -13,8 +13,8 @@ pub enum Refusal {
     Short(usize),
     /// The bytes are of the kind, and don't have the requested part.
     Absent,
-    /// The bytes have the requested value, but it isn't a string, or isn't an integer in the range
-    /// of `i64`.
+    /// The requested value isn't a string, or isn't an integer in the range of `i64`. Or a string
+    /// that must have definite length is in chunks.
     WrongType,
     /// The counted list is empty.
     Empty,

@@ -1,5 +1,5 @@
-//! Everything that verifying or decrypting a message takes, without a copy of the message's own
-//! texts. These are given by their places.
+//! Everything that verifying or decrypting a message takes. The message's own texts are given by
+//! their places in the input, or are copied if they can't be borrowed.
 
 ghost use Rattle.std.specs.Prelude.{◌≡◌, ◌++◌, length, true};
 ghost use Rattle.std.specs.Option.{option_copied};
@@ -139,8 +139,7 @@ fn copied(answer: Result<MessageView, Refusal>) -> Result<MessageSpans, Refusal>
 ///
 /// The view is that of [`message_view`](crate::message_view). The structure is what is signed,
 /// authenticated, or goes with the ciphertext. The signature or tag, the content and the key
-/// identifier aren't copied, but given by their places. They are in `bytes`, or after the structure
-/// in `out`.
+/// identifier are given by their places. They are in `bytes`, or after the structure in `out`.
 ///
 /// They are in `bytes` if the message has no list of signatures and no critical labels, and its
 /// strings have definite lengths (RFC 8949, section 3.2.3).

@@ -16,8 +16,8 @@ use std::alloc::{AllocError, Global};
 pub struct LayerView {
     /// The form. It says whether to verify a signature, verify a MAC, or decrypt a ciphertext.
     pub form: Form,
-    /// The number of the algorithm in the protected header, which is one of the rules'. `None` if a
-    /// text names the algorithm.
+    /// The number of the algorithm in the protected header, which the rules allow. `None` if a text
+    /// names the algorithm.
     pub algorithm: Option<i64>,
     /// The header that has the key identifier.
     pub key_id_place: KeyIdPlace,

@@ -44,7 +44,8 @@ pub enum Reason {
 pub enum Refusal {
     /// The layer waits to be opened. Its texts are in the caller's memory.
     Layer(LayerView),
-    /// The result doesn't fit, the bytes of a layer aren't one, or an allocation failed.
+    /// The result doesn't fit, the bytes of a layer aren't a message, the claims have a label
+    /// twice, or an allocation failed.
     Answer(ffi_query::Refusal),
     /// The content of the innermost layer isn't a claims set.
     NotClaims(CoseError),

@@ -77,9 +77,9 @@ fn answer(
 /// - the partial initialization vector.
 ///
 /// The last three are from the protected header, else from the unprotected one. The caller verifies
-/// the signature or the MAC over the structure. For a ciphertext, it decrypts it with the structure
-/// as additional authenticated data. It uses a key that it trusts, adds the layer to `opened`, and
-/// calls again.
+/// the signature or the MAC over the structure, or decrypts the ciphertext with the structure as
+/// additional authenticated data. The caller uses a key that it trusts, adds the layer to `opened`,
+/// and calls again.
 ///
 /// # Errors
 /// The first [`Refusal`] that applies to the token, layer by layer from the outermost in, in the
