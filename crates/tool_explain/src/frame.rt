@@ -4,7 +4,7 @@
 use crate::cover::{Cover, of_next};
 use crate::faults::Fault;
 use crate::head::{argument, integer};
-use crate::role::{Part, Role, label_of, place, value_of};
+use crate::role::{Bucket, Part, Role, label_of, place, value_of};
 use coset::cbor::head::{Head, MajorType};
 
 /// The most levels of arrays, maps and tags in one item.
@@ -143,7 +143,7 @@ impl Frame {
     /// Returns the frame of a protected header, the content of a byte string in this one.
     pub(crate) fn protected(&self, is_read: bool, behind: usize, width: u8) -> Frame {
         let part = Part {
-            role: Role::Header(true),
+            role: Role::Header(Bucket::Protected),
             name: "",
             is_read,
         };

@@ -8,9 +8,10 @@ use coset::cbor::de::{Error, Pull};
 use coset::cbor::head::{Head, MajorType};
 use coset::cbor::value::Integer;
 use coset::iana::{EnumI64, HeaderParameter};
-use coset::{CborSerializable, CoseError, CoseSignature, Header};
+use coset::{CborSerializable, CoseError, CoseSignature};
 use std::alloc::{AllocError, Global};
 use std::collections::BTreeMap;
+use tool_fault::has_header_fault;
 
 /// The fault that is searched for.
 #[derive(Clone, Copy, Debug)]
@@ -83,7 +84,7 @@ fn fits(frame: &Frame, role: Role, head: &Head) -> bool {
         | Role::ContentFormat
         | Role::KeyType
         | Role::Operation
-        | Role::HeaderLabel(_)
+        | Role::HeaderLabel
         | Role::KeyLabel(_)
         | Role::ClaimName => is_integer(head) || head.major_type == MajorType::Text,
         _ => true,
@@ -237,7 +238,7 @@ fn is_bounded(role: Role) -> bool {
             | Role::ContentFormat
             | Role::KeyType
             | Role::Operation
-            | Role::HeaderLabel(_)
+            | Role::HeaderLabel
             | Role::KeyLabel(_)
             | Role::ClaimName
             | Role::Expiry
@@ -308,22 +309,6 @@ fn content_of(alloc: Global, bytes: &[u8]) -> Result<Vec<u8>, AllocError> {
     }
 }
 
-/// Returns true if the content isn't empty, and decoding it as a header gives this error (RFC 8152,
-/// section 3).
-fn is_no_header_for(alloc: Global, content: &[u8], error: &CoseError) -> Result<bool, AllocError> {
-    if content.is_empty() {
-        return Ok(false);
-    }
-    match Header::from_slice(alloc, content) {
-        Ok(_) => Ok(false),
-        Err(CoseError::OutOfMemory) => Err(AllocError),
-        Err(found) => {
-            let (found, error) = (format!(in alloc; "{found}")?, format!(in alloc; "{error}")?);
-            Ok(found == error)
-        }
-    }
-}
-
 /// Returns true if the number has no name in the registry of its role, and isn't for private use.
 /// `has_private` selects the registries with a private range, otherwise those without one.
 fn is_unregistered(role: Role, head: &Head, has_private: bool) -> bool {
@@ -388,8 +373,25 @@ impl<'e> Hunt<'e> {
         if role == Role::Protected && head.major_type == MajorType::Bytes && head.is_indefinite() {
             return self.in_chunks(alloc, bytes);
         }
-        let found = match self.sought {
-            Sought::Nothing => false,
+        if role == Role::Protected && frame.layers == 0 && matches!(self.sought, Sought::Depth) {
+            return Ok(Some(Fault::Layers));
+        }
+        let is_faulty = self.is_shape_fault(alloc, frame, role, head, bytes)?;
+        Ok(if is_faulty { Some(Fault::Shape) } else { None })
+    }
+
+    /// Returns true if the item with this head, at the front of the bytes, has the fault that is
+    /// searched for.
+    fn is_shape_fault(
+        &mut self,
+        alloc: Global,
+        frame: &Frame,
+        role: Role,
+        head: &Head,
+        bytes: &[u8],
+    ) -> Result<bool, AllocError> {
+        Ok(match self.sought {
+            Sought::Nothing | Sought::Depth => false,
             Sought::Unexpected(got, want) => {
                 asks(role, want) && unexpected(frame, role, head, bytes) == Some(got)
             }
@@ -399,29 +401,22 @@ impl<'e> Hunt<'e> {
             }
             Sought::Repeated => frame.is_at_key() && self.repeats(alloc, frame, head, bytes)?,
             Sought::BothIvs => {
-                matches!(role, Role::HeaderLabel(_)) && self.is_other_iv(alloc, frame, head)?
+                role == Role::HeaderLabel && self.is_other_iv(alloc, frame, head)?
             }
             Sought::MediaType(is_spaced) => {
                 role == Role::ContentFormat && is_no_media_type(alloc, bytes, is_spaced)?
             }
-            Sought::Depth => {
-                if role == Role::Protected && frame.layers == 0 {
-                    return Ok(Some(Fault::Layers));
-                }
-                false
-            }
             Sought::OutOfRange => is_out_of_range(role, head),
             Sought::Unregistered => is_unregistered(role, head, false),
             Sought::UnregisteredNonPrivate => is_unregistered(role, head, true),
-        };
-        Ok(if found { Some(Fault::Shape) } else { None })
+        })
     }
 
     /// Returns the fault that is searched for, if it is in this protected header in chunks, which
     /// isn't opened.
     fn in_chunks(&self, alloc: Global, bytes: &[u8]) -> Result<Option<Fault>, AllocError> {
         match self.error {
-            Some(error) if is_no_header_for(alloc, &content_of(alloc, bytes)?, error)? => {
+            Some(error) if has_header_fault(alloc, error, &content_of(alloc, bytes)?)? => {
                 Ok(Some(Fault::Shape))
             }
             _ => Ok(None),
@@ -439,7 +434,7 @@ impl<'e> Hunt<'e> {
         match self.error {
             Some(error @ (CoseError::DecodeFailed(_) | CoseError::ExtraneousData))
                 if part.is_read && part.role == Role::Protected => {
-                is_no_header_for(alloc, content, error)
+                has_header_fault(alloc, error, content)
             }
             _ => Ok(false),
         }

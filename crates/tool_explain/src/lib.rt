@@ -29,6 +29,6 @@ pub use cover::Cover;
 pub use faults::Fault;
 pub use guess::fitting;
 pub use kind::Kind;
-pub use print::{annotated, colored, notation};
+pub use print::{annotated, colored, notation, push_comment};
 pub use structures::{annotated_structures, structure, structure_notes};
 pub use tool_fault::Step;

@@ -3,10 +3,11 @@
 use crate::cover::of_element;
 use crate::frame::Frame;
 use crate::head::{argument, integer, is_shortest};
-use crate::role::{Part, Role, is_private, is_registered, name_of, title};
+use crate::role::{Bucket, Part, Role, is_private, is_registered, name_of, title};
 use crate::text::float;
 use coset::cbor::head::{Head, MajorType};
 use coset::cwt::Timestamp;
+use coset::iana::{Algorithm, EnumI64};
 use std::alloc::AllocError;
 
 /// The note of a line, to which remarks are added.
@@ -75,12 +76,28 @@ fn name(role: Role, number: i64) -> &'static str {
     }
 }
 
+/// Returns true if a recipient with the algorithm of this head has an empty protected header.
+///
+/// The algorithms are the direct use of a key, and AES Key Wrap (RFC 8152, sections 12.1.1 and
+/// 12.2.1).
+fn forbids_protected(head: &Head) -> bool {
+    let Some(number) = integer(head) else {
+        return false;
+    };
+    matches!(
+        Algorithm::from_i64(number),
+        Some(Algorithm::Direct | Algorithm::A128KW | Algorithm::A192KW | Algorithm::A256KW)
+    )
+}
+
 /// Returns a remark on a value of an unprotected header, which no signature covers (RFC 8152,
 /// section 3; on `alg` and `crit`, section 3.1). It may be empty.
-fn unprotected(frame: &Frame, role: Role) -> &'static str {
+fn unprotected(frame: &Frame, role: Role, head: &Head) -> &'static str {
     match (frame.role, role) {
-        (Role::Header(false), Role::Algorithm) => "the algorithm isn't protected",
-        (Role::Header(false), Role::Labels) => "critical labels have to be protected",
+        (Role::Header(Bucket::Protected), _) => "",
+        (Role::Header(Bucket::OfRecipient), Role::Algorithm) if forbids_protected(head) => "",
+        (Role::Header(_), Role::Algorithm) => "the algorithm isn't protected",
+        (Role::Header(_), Role::Labels) => "critical labels have to be protected",
         _ => "",
     }
 }
@@ -122,6 +139,36 @@ fn add_certificate(notes: &mut Notes<'_>, head: &Head) -> Result<(), AllocError>
     }
 }
 
+/// Adds the name of a number with this role, and the date of a timestamp.
+fn add_number(
+    notes: &mut Notes<'_>,
+    role: Role,
+    head: &Head,
+    now: Option<i64>,
+) -> Result<(), AllocError> {
+    if let Some(number) = integer(head) {
+        notes.add(name(role, number))?;
+        return notes.add_date(role, &Timestamp::WholeSeconds(number), now);
+    }
+    if head.is_float() {
+        return notes.add_date(role, &Timestamp::FractionalSeconds(float(head)), now);
+    }
+    Ok(())
+}
+
+/// Adds the standard's name of an array or a map with this role, or a remark on a byte string.
+fn add_title(notes: &mut Notes<'_>, role: Role, head: &Head) -> Result<(), AllocError> {
+    match head.major_type {
+        MajorType::Map if role == Role::Submodule => notes.add(title(Role::Claims)),
+        MajorType::Array | MajorType::Map => notes.add(title(role)),
+        MajorType::Bytes if role == Role::Protected && head.is_indefinite() => {
+            notes.add("in chunks, and not opened")
+        }
+        MajorType::Bytes if role == Role::Certificates => add_certificate(notes, head),
+        _ => Ok(()),
+    }
+}
+
 /// Adds all remarks on the item with this head, which is this part.
 ///
 /// # Errors
@@ -141,26 +188,9 @@ pub(crate) fn push(
     notes.add(part.name)?;
     notes.add(coverage(frame))?;
     notes.add(detached(frame, head))?;
-    if let Some(number) = integer(head) {
-        notes.add(name(part.role, number))?;
-        notes.add_date(part.role, &Timestamp::WholeSeconds(number), now)?;
-    }
-    if head.is_float() {
-        notes.add_date(part.role, &Timestamp::FractionalSeconds(float(head)), now)?;
-    }
-    notes.add(unprotected(frame, part.role))?;
-    if head.major_type == MajorType::Array || head.major_type == MajorType::Map {
-        notes.add(title(part.role))?;
-    }
-    if part.role == Role::Submodule && head.major_type == MajorType::Map {
-        notes.add(title(Role::Claims))?;
-    }
-    if part.role == Role::Protected && head.major_type == MajorType::Bytes && head.is_indefinite() {
-        notes.add("in chunks, and not opened")?;
-    }
-    if part.role == Role::Certificates && head.major_type == MajorType::Bytes {
-        add_certificate(&mut notes, head)?;
-    }
+    add_number(&mut notes, part.role, head, now)?;
+    notes.add(unprotected(frame, part.role, head))?;
+    add_title(&mut notes, part.role, head)?;
     add_bits(&mut notes, head)?;
     if !head.is_float() && !is_shortest(head) {
         notes.add("not the shortest head")?;

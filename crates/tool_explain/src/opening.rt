@@ -1,6 +1,7 @@
 //! The frames that items with parts open, and the text that opens them in diagnostic notation.
 
 use crate::frame::{Container, Frame, begins_break, content};
+use crate::guess::has_registered_claim;
 use crate::head::{argument, behind, tag};
 use crate::kind::Kind;
 use crate::role::{Part, Role, under_tag};
@@ -176,12 +177,11 @@ fn is_of(alloc: Global, kind: Kind, bytes: &[u8]) -> Result<bool, AllocError> {
     }
 }
 
-/// Returns true if the bytes begin a map with pairs, and are read as claims or refused for a name
-/// that isn't registered.
+/// Returns true if the bytes are a map with a registered claim, and are read as claims or refused
+/// for a name that isn't registered.
 fn holds_claims(alloc: Global, bytes: &[u8]) -> Result<bool, AllocError> {
-    match bytes.first() {
-        Some(first) if *first / 32 == 5 && *first != 0xa0 => {}
-        _ => return Ok(false),
+    if !has_registered_claim(bytes) {
+        return Ok(false);
     }
     match Kind::Claims.refusal(alloc, bytes) {
         None | Some(CoseError::UnregisteredIanaNonPrivateValue) => Ok(true),

@@ -18,14 +18,14 @@ fn push_indentation(text: &mut String, depth: usize) -> Result<(), AllocError> {
     Ok(())
 }
 
-/// Adds the note of a line as a comment (RFC 8610, appendix G.6). A slash in the note is doubled:
-/// it ends one comment and begins another.
-fn push_note(text: &mut String, note: &str) -> Result<(), AllocError> {
-    if note.is_empty() {
-        return Ok(());
-    }
-    text.push_str(" / ")?;
-    for c in note.chars() {
+/// Adds a comment (RFC 8610, appendix G.6). A slash in the comment is doubled: it ends one comment
+/// and begins another.
+///
+/// # Errors
+/// `AllocError` if an allocation fails.
+pub fn push_comment(text: &mut String, comment: &str) -> Result<(), AllocError> {
+    text.push_str("/ ")?;
+    for c in comment.chars() {
         text.push(c)?;
         if c == '/' {
             text.push(c)?;
@@ -34,13 +34,22 @@ fn push_note(text: &mut String, note: &str) -> Result<(), AllocError> {
     text.push_str(" /")
 }
 
+/// Adds the note of a line as a comment, unless it is empty.
+fn push_note(text: &mut String, note: &str) -> Result<(), AllocError> {
+    if note.is_empty() {
+        return Ok(());
+    }
+    text.push(' ')?;
+    push_comment(text, note)
+}
+
 /// Adds a comment as a line without bytes.
 ///
 /// # Errors
 /// `AllocError` if an allocation fails.
-pub(crate) fn push_comment(text: &mut String, comment: &str) -> Result<(), AllocError> {
-    write!(text, "{:32} ", "")?;
-    push_note(text, comment)?;
+pub(crate) fn push_comment_line(text: &mut String, comment: &str) -> Result<(), AllocError> {
+    write!(text, "{:32}  ", "")?;
+    push_comment(text, comment)?;
     text.push('\n')
 }
 

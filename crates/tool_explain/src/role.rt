@@ -18,6 +18,16 @@ pub(crate) enum Message {
     Encrypt,
 }
 
+/// The bucket of a header (RFC 8152, section 3).
+#[derive(Clone, Copy, Debug, PartialEq, Eq)]
+pub(crate) enum Bucket {
+    Protected,
+    /// The unprotected bucket of a message, a signature or a countersignature.
+    Unprotected,
+    /// The unprotected bucket of a recipient.
+    OfRecipient,
+}
+
 /// The role of an item.
 #[derive(Clone, Copy, Debug, PartialEq, Eq)]
 pub(crate) enum Role {
@@ -38,8 +48,7 @@ pub(crate) enum Role {
     Recipients,
     /// A protected header in its byte string (RFC 8152, section 3).
     Protected,
-    /// A header, and whether it is protected.
-    Header(bool),
+    Header(Bucket),
     /// A payload, and whether it is claims.
     Payload(bool),
     Bytes,
@@ -71,8 +80,7 @@ pub(crate) enum Role {
     Length,
     /// A byte string or null.
     MaybeBytes,
-    /// A label of a header, and whether the header is protected.
-    HeaderLabel(bool),
+    HeaderLabel,
     /// A label of a key of this type, if the type is known.
     KeyLabel(Option<i64>),
     ClaimName,
@@ -140,7 +148,7 @@ pub(crate) fn under_tag(role: Role, number: u64) -> Role {
 fn message_place(message: Message, claims: bool, index: u64) -> Part {
     match (index, message) {
         (0, _) => Part::read(Role::Protected, "protected"),
-        (1, _) => Part::read(Role::Header(false), "unprotected"),
+        (1, _) => Part::read(Role::Header(Bucket::Unprotected), "unprotected"),
         (2, Message::Encrypt0 | Message::Encrypt) => Part::read(Role::MaybeBytes, "ciphertext"),
         (2, _) => Part::read(Role::Payload(claims), "payload"),
         (3, Message::Sign1) => Part::read(Role::Bytes, "signature"),
@@ -168,7 +176,8 @@ pub(crate) fn place(role: Role, index: u64) -> Part {
         (Role::Message(message, claims), _) => message_place(message, claims, index),
         (Role::Context, _) => context_place(index),
         (Role::Signature | Role::Recipient, 0) => Part::read(Role::Protected, "protected"),
-        (Role::Signature | Role::Recipient, 1) => Part::read(Role::Header(false), "unprotected"),
+        (Role::Signature, 1) => Part::read(Role::Header(Bucket::Unprotected), "unprotected"),
+        (Role::Recipient, 1) => Part::read(Role::Header(Bucket::OfRecipient), "unprotected"),
         (Role::Signature, 2) => Part::read(Role::Bytes, "signature"),
         (Role::Recipient, 2) => Part::read(Role::MaybeBytes, "ciphertext"),
         (Role::Recipient, 3) => Part::read(Role::Recipients, "recipients"),
@@ -193,7 +202,7 @@ pub(crate) fn place(role: Role, index: u64) -> Part {
 /// known.
 pub(crate) fn label_of(role: Role, key_type: Option<i64>) -> Part {
     match role {
-        Role::Header(protected) => Part::read(Role::HeaderLabel(protected), ""),
+        Role::Header(_) => Part::read(Role::HeaderLabel, ""),
         Role::Key => Part::read(Role::KeyLabel(key_type), ""),
         Role::Claims => Part::read(Role::ClaimName, ""),
         Role::Confirmation => Part::named(Role::ConfirmationLabel, ""),
@@ -299,7 +308,7 @@ pub(crate) fn title(role: Role) -> &'static str {
 /// Returns the name that a number with this role has in its registry.
 pub(crate) fn name_of(role: Role, number: i64) -> Option<&'static str> {
     match role {
-        Role::HeaderLabel(_) | Role::CriticalLabel => names::header_label(number),
+        Role::HeaderLabel | Role::CriticalLabel => names::header_label(number),
         Role::KeyLabel(key_type) => names::key_label(key_type, number),
         Role::ClaimName => names::registered::<CwtClaimName>(number),
         Role::ConfirmationLabel => confirmation(number),
@@ -326,7 +335,7 @@ fn confirmation(number: i64) -> Option<&'static str> {
 pub(crate) fn is_registered(role: Role) -> bool {
     matches!(
         role,
-        Role::HeaderLabel(_)
+        Role::HeaderLabel
             | Role::CriticalLabel
             | Role::KeyLabel(Some(_))
             | Role::ClaimName
@@ -341,7 +350,7 @@ pub(crate) fn is_registered(role: Role) -> bool {
 /// Returns true if a number with this role is for private use.
 pub(crate) fn is_private(role: Role, number: i64) -> bool {
     match role {
-        Role::HeaderLabel(_) | Role::CriticalLabel => HeaderParameter::is_private(number),
+        Role::HeaderLabel | Role::CriticalLabel => HeaderParameter::is_private(number),
         Role::ClaimName => CwtClaimName::is_private(number),
         Role::Algorithm => Algorithm::is_private(number),
         Role::Curve => EllipticCurve::is_private(number),

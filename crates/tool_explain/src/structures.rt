@@ -13,7 +13,7 @@ ghost use Rattle.coset.specs.Sign1.{sign1, sign1_structure};
 ghost use Rattle.tool_explain.specs.Structure.{IsOver, IsStructure, IsStructureOfNamed, over_payload};
 
 use crate::kind::Kind;
-use crate::print::push_comment;
+use crate::print::push_comment_line;
 use coset::{
     CoseEncrypt, CoseEncrypt0, CoseError, CoseMac, CoseMac0, CoseSign, CoseSign1,
     TaggedCborSerializable,
@@ -218,7 +218,7 @@ pub fn annotated_structures(
 ) -> Result<String, AllocError> {
     let mut text = String::new(alloc);
     for note in &structure_notes(alloc, kind, bytes, external_aad)? {
-        push_comment(&mut text, note.as_str())?;
+        push_comment_line(&mut text, note.as_str())?;
     }
     Ok(text)
 }

@@ -2,7 +2,8 @@
 use Rattle.std.proofs.Common.{ℕ, List, Result, Ok, Err, Bool}
 use Rattle.std.specs.Prelude.{IfOk, IsTrue}
 use Rattle.coset.specs.Item.{Item}
-use Rattle.tool_fault.specs.Places.{IsAtFront, StandTogether}
+use Rattle.tool_fault.specs.Places.{StandTogether}
+use Rattle.tool_fault.specs.Steps.{IsAtFront}
 
 -- A true result that implies P also implies Q, if P implies Q.
 pub where_ok : {E : Type 0} {P Q : Type 0} (r : Result Bool E) → IfOk r (λ b. IsTrue b → P) → (P → Q) → IfOk r (λ b. IsTrue b → Q)

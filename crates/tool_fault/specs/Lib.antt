@@ -1,4 +1,6 @@
+pub mod Alike
 pub mod Called
+pub mod Headers
 pub mod Places
 pub mod Registries
 pub mod Steps

@@ -2,16 +2,13 @@
 use Rattle.std.specs.Prelude.{◌≡◌, ◌⊎◌, ◌<◌, ◌<ℤ◌, ◌≤◌, ◌*◌, ◌++◌, ◌-◌, ℕ, ℤ, pos, List, [], ◌∷◌, length, codes, Option, Some, true, false, FitsSigned}
 use Rattle.std.specs.Int.{w64}
 use Rattle.std.specs.List.{slice_get}
-use Rattle.coset.specs.Results.{DescribesNothing}
 use Rattle.coset.specs.CoseError.{CoseError}
 use Rattle.coset.specs.CoseError.TheVariants.{DecodeFailed, DuplicateMapKey, EncodeFailed, ExtraneousData, OutOfRangeIntegerValue, UnexpectedItem}
 use Rattle.coset.specs.CoseError.TheVariants.{UnregisteredIanaValue, UnregisteredIanaNonPrivateValue, OutOfMemory}
 use Rattle.coset.specs.EndOfFile.{EndOfFile}
 use Rattle.coset.specs.Error as decoding
 use Rattle.coset.specs.Faults.{Ends, SyntaxAt, NoChunk, IsNotSupported, Nests}
-use Rattle.coset.specs.Grammar.{IsItem}
 use Rattle.coset.specs.Head.{Head}
-use Rattle.coset.specs.Headers.{header}
 use Rattle.coset.specs.Heads.{major_type_number}
 use Rattle.coset.specs.Item.{Item}
 use Rattle.coset.specs.Label.{Label}
@@ -21,17 +18,11 @@ use Rattle.coset.specs.Parts.{as_bytes, as_integer}
 use Rattle.coset.specs.ReadHeads.{head_number}
 use Rattle.coset_label.specs.Views.{label_view}
 use Rattle.tool_fault.specs.Called.{IsCalled}
+use Rattle.tool_fault.specs.Headers.{HeaderFaultIsAt}
 use Rattle.tool_fault.specs.Registries.{IsUnassigned, IsUnassignedAndNotPrivate}
-use Rattle.tool_fault.specs.Steps.{StepTo, PathTo, layers, levels}
+use Rattle.tool_fault.specs.Steps.{IsAtFront, IsEncodedAtFront, StepTo, PathTo, layers, levels}
 use Rattle.tool_fault.specs.declared.step.Step.{Step}
 use Rattle.tool_fault.specs.declared.step.Step.TheVariants.{Element, Key, ByteChunk, TextChunk, After}
-
--- An item is at the front of t, and P holds of its bytes and of it.
-abbrev pub IsEncodedAtFront : (List ℕ → Item → Type 0) → List ℕ → Type 0
-IsEncodedAtFront P t = (b : List ℕ) × (rest : List ℕ) × (v : Item) × (t ≡ b ++ rest) × IsItem b v × P b v
-
-abbrev pub IsAtFront : (Item → Type 0) → List ℕ → Type 0
-IsAtFront P t = IsEncodedAtFront (λ b v. P v) t
 
 -- ---- faults of CBOR
 
@@ -135,10 +126,6 @@ IsUnexpected got b steps t =
     BeginsCalled got t
     ⊎ (((got ≡ codes "repeated array entry") × Repeats SameLabel b steps) ⊎ ((got ≡ codes "IV and partial-IV specified") × Repeats BothIvs b steps))
 
--- An indefinite-length byte string whose content is no header.
-abbrev pub HasNoHeader : List ℕ → Type 0
-HasNoHeader t = (rest : List ℕ) × (t ≡ 0x5F ∷ rest) × IsAtFront (λ v. (s : List ℕ) × (as_bytes v ≡ Some s) × DescribesNothing header s) t
-
 -- ---- places
 
 -- The fault that the error names is at the front of t. The steps lead there from the front of b.
@@ -153,6 +140,7 @@ FaultIsAt UnregisteredIanaNonPrivateValue b steps t = IsAtFront IsUnassignedAndN
 FaultIsAt EncodeFailed b steps t = ⊥
 FaultIsAt OutOfMemory b steps t = ⊥
 
--- The steps lead n bytes on from the front of b. The error's fault is there, or a byte string as in `HasNoHeader`.
+-- The steps lead n bytes on from the front of b. The error's fault is there, or a protected header in an
+-- indefinite-length byte string has it.
 abbrev pub IsPlace : CoseError → List ℕ → List Step → ℕ → Type 0
-IsPlace e b steps n = (t : List ℕ) × PathTo steps b n t × (FaultIsAt e b steps t ⊎ HasNoHeader t)
+IsPlace e b steps n = (t : List ℕ) × PathTo steps b n t × (FaultIsAt e b steps t ⊎ HeaderFaultIsAt e b steps t)

@@ -8,6 +8,13 @@ use Rattle.coset.specs.ReadHeads.{head_number}
 use Rattle.tool_fault.specs.declared.step.Step.{Step}
 use Rattle.tool_fault.specs.declared.step.Step.TheVariants.{Element, Key, Value, TagContent, ByteChunk, TextChunk, Content, After}
 
+-- An item is at the front of t, and P holds of its bytes and of it.
+abbrev pub IsEncodedAtFront : (List ℕ → Item → Type 0) → List ℕ → Type 0
+IsEncodedAtFront P t = (b : List ℕ) × (rest : List ℕ) × (v : Item) × (t ≡ b ++ rest) × IsItem b v × P b v
+
+abbrev pub IsAtFront : (Item → Type 0) → List ℕ → Type 0
+IsAtFront P t = IsEncodedAtFront (λ b v. P v) t
+
 -- `count` items are at the front of b, followed by s.
 pub record BeginsWithItems (b : List ℕ) (count : ℕ) (s : List ℕ) : Type 0 where
   pub items : Items

@@ -3,7 +3,8 @@
 ghost use Rattle.std.specs.Prelude.{IfOk, IfSome, IsTrue, pos};
 ghost use Rattle.coset.specs.Labels.{label};
 ghost use Rattle.coset.specs.LabelData.{number};
-ghost use Rattle.tool_fault.specs.Places.{BothIvs, IsLabel, SameLabel, IsAtFront, StandTogether, label_is};
+ghost use Rattle.tool_fault.specs.Places.{BothIvs, IsLabel, SameLabel, StandTogether, label_is};
+ghost use Rattle.tool_fault.specs.Steps.{IsAtFront};
 
 use coset::cbor::de::Pull;
 use coset::{CborSerializable, CoseError, Label};

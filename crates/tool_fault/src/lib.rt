@@ -2,6 +2,7 @@
 //! there.
 #![tactic(auto)]
 
+mod header;
 mod label;
 mod malformed;
 mod named_fault;
@@ -11,5 +12,6 @@ mod repeats;
 mod step;
 mod unexpected;
 
+pub use header::has_header_fault;
 pub use place::fault_at;
 pub use step::{Step, follow};

@@ -2,8 +2,8 @@
 
 ghost use Rattle.std.specs.Prelude.{◌≡◌, IsTrue, []};
 ghost use Rattle.coset.specs.Faults.{Ends, IsNotSupported, Nests, NoChunk, SyntaxAt};
-ghost use Rattle.tool_fault.specs.Places.{AnnouncesMore, BeginsNoChunk, IsByteString, IsMalformed, IsSyntaxFault, IsTooDeep, IsAtFront, last_step};
-ghost use Rattle.tool_fault.specs.Steps.{layers, levels};
+ghost use Rattle.tool_fault.specs.Places.{AnnouncesMore, BeginsNoChunk, IsByteString, IsMalformed, IsSyntaxFault, IsTooDeep, last_step};
+ghost use Rattle.tool_fault.specs.Steps.{IsAtFront, layers, levels};
 
 use crate::step::Step;
 use coset::EndOfFile;

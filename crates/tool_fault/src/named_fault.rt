@@ -1,15 +1,14 @@
 //! Checks whether the fault that an error names is at a place.
 
 ghost use Rattle.std.specs.Prelude.{◌≡◌, IfOk, IsTrue, Some};
-ghost use Rattle.tool_fault.specs.Places.{HasNoHeader, IsUnexpected, FaultIsAt, last_step};
+ghost use Rattle.tool_fault.specs.Places.{IsUnexpected, FaultIsAt, last_step};
 
 use crate::malformed::{is_malformed, last_step};
 use crate::registry::{is_out_of_range, is_unassigned, is_unassigned_and_not_private};
 use crate::repeats::{has_both_ivs, repeats_label};
 use crate::step::Step;
-use crate::unexpected::{describe_none, is_called};
-use coset::cbor::de::Pull;
-use coset::{CoseError, Header};
+use crate::unexpected::is_called;
+use coset::CoseError;
 use std::alloc::{AllocError, Global};
 
 /// Returns true if the item that an error calls `got` is at the front of `bytes`.
@@ -58,26 +57,5 @@ pub(crate) fn fault_is_at(
         CoseError::UnregisteredIanaValue => Ok(is_unassigned(bytes)),
         CoseError::UnregisteredIanaNonPrivateValue => Ok(is_unassigned_and_not_private(bytes)),
         CoseError::EncodeFailed | CoseError::OutOfMemory => Ok(false),
-    }
-}
-
-/// Returns true if an indefinite-length byte string is at the front, and its content is no header
-/// (RFC 8152, section 3).
-pub(crate) fn has_no_header(alloc: Global, bytes: &[u8]) -> Result<bool, AllocError>
-    ensures { IfOk result (λ b. IsTrue b → HasNoHeader bytes.now) }
-{
-    let Some((first, _)) = bytes.split_first() else {
-        return Ok(false);
-    };
-    if *first != 0x5f {
-        return Ok(false);
-    }
-    let Ok((item, _)) = Pull::new(bytes) else {
-        return Ok(false);
-    };
-    match item.to_bytes(alloc) {
-        Ok(Some(content)) => describe_none::<Header>(alloc, &content),
-        Ok(None) => Ok(false),
-        Err(_) => Err(AllocError),
     }
 }

@@ -3,7 +3,8 @@
 ghost use Rattle.std.specs.Prelude.{◌≤◌, IfOk, IfSome, length};
 ghost use Rattle.tool_fault.specs.Places.{IsPlace};
 
-use crate::named_fault::{fault_is_at, has_no_header};
+use crate::header::header_fault_is_at;
+use crate::named_fault::fault_is_at;
 use crate::step::{Step, follow};
 use coset::CoseError;
 use std::alloc::{AllocError, Global};
@@ -22,8 +23,8 @@ use std::alloc::{AllocError, Global};
 /// - One level too many.
 /// - Bytes after an item.
 ///
-/// The content of an indefinite-length byte string has no offset of its own. If that content is no
-/// header, the place is the byte string itself.
+/// The content of an indefinite-length byte string has no offset of its own. If a protected header
+/// in such a byte string has the fault, the place is the byte string itself.
 ///
 /// # Errors
 /// `AllocError` if an allocation fails.
@@ -42,7 +43,9 @@ pub fn fault_at(
     let Some((offset, rest)) = follow(bytes, steps) else {
         return Ok(None);
     };
-    if fault_is_at(alloc, error, bytes, steps, earlier, rest)? || has_no_header(alloc, rest)? {
+    if fault_is_at(alloc, error, bytes, steps, earlier, rest)?
+        || header_fault_is_at(alloc, error, bytes, steps, rest)?
+    {
         Ok(Some(offset))
     } else {
         Ok(None)

@@ -2,8 +2,9 @@
 
 ghost use Rattle.std.specs.Prelude.{◌≡◌, IfSome, IsTrue, Some};
 ghost use Rattle.coset.specs.Parts.{as_integer};
-ghost use Rattle.tool_fault.specs.Places.{IsOutOfRange, IsAtFront};
-ghost use Rattle.tool_fault.specs.Registries.{HasNoName, IsUnassigned, IsUnassignedAndNotPrivate};
+ghost use Rattle.tool_fault.specs.Places.{IsOutOfRange};
+ghost use Rattle.tool_fault.specs.Registries.{HasNoName, IsOutside, IsUnassigned, IsUnassignedAndNotPrivate};
+ghost use Rattle.tool_fault.specs.Steps.{IsAtFront};
 
 use coset::cbor::de::Pull;
 use coset::cbor::value::Integer;
@@ -26,7 +27,7 @@ pub(crate) fn is_out_of_range(bytes: &[u8]) -> bool
 }
 
 /// Returns the integer at the front, or `None` if there is none.
-fn integer_at(bytes: &[u8]) -> Option<Integer>
+pub(crate) fn integer_at(bytes: &[u8]) -> Option<Integer>
     ensures { IfSome result (λ z. IsAtFront (λ v. as_integer v ≡ Some z) bytes.now) }
 {
     match Pull::new(bytes) {
@@ -72,8 +73,16 @@ pub(crate) fn is_unassigned(bytes: &[u8]) -> bool
     has_no_name::<KeyOperation>(number)
 }
 
+/// Returns true if no value of the registry has this number, and it is outside the registry's
+/// private range.
+fn is_outside<T: EnumI64 + WithPrivateRange + Drop>(number: i64) -> bool
+    ensures { IsTrue result → IsOutside T.value_of T.is_private number }
+{
+    !T::is_private(number) && has_no_name::<T>(number)
+}
+
 /// Returns true if the integer at the front has no name in one of the registries with a private
-/// range, and is outside that range.
+/// range, and is outside that registry's range.
 ///
 /// These are the registries of algorithms, of header parameters, and of claims.
 pub(crate) fn is_unassigned_and_not_private(bytes: &[u8]) -> bool
@@ -82,14 +91,11 @@ pub(crate) fn is_unassigned_and_not_private(bytes: &[u8]) -> bool
     let Some(number) = number_at(bytes) else {
         return false;
     };
-    if Algorithm::is_private(number) {
-        return false;
-    }
-    if has_no_name::<Algorithm>(number) {
+    if is_outside::<Algorithm>(number) {
         return true;
     }
-    if has_no_name::<HeaderParameter>(number) {
+    if is_outside::<HeaderParameter>(number) {
         return true;
     }
-    has_no_name::<CwtClaimName>(number)
+    is_outside::<CwtClaimName>(number)
 }

@@ -1,8 +1,7 @@
 //! Unexpected items, by the names that errors give them.
 
 ghost use Rattle.std.specs.Prelude.{◌≡◌, IfOk, IfSome, IsTrue, Some, [], length, filter, ◌==◌};
-ghost use Rattle.coset.specs.Results.{DescribesNothing};
-ghost use Rattle.coset.specs.Errors.{UnlessMemory};
+ghost use Rattle.coset.specs.Results.{DescribesNothing, IsRefused};
 ghost use Rattle.coset.specs.Fields.{IsMediaType};
 ghost use Rattle.coset.specs.Item.{no_items};
 ghost use Rattle.coset.specs.Kinds.{kind};
@@ -17,8 +16,8 @@ use coset_codec::util::pull_type_error;
 use std::alloc::{AllocError, Global};
 
 /// Returns the error of decoding the bytes as this type, or `None` if they describe a value.
-fn refusal<T: CborSerializable + Drop>(alloc: Global, bytes: &[u8]) -> Option<CoseError>
-    ensures { IfSome result (λ e. UnlessMemory e (λ _. DescribesNothing T.shape bytes.now)) }
+pub(crate) fn refusal<T: CborSerializable + Drop>(alloc: Global, bytes: &[u8]) -> Option<CoseError>
+    ensures { IfSome result (λ e. IsRefused T.shape bytes.now e) }
 {
     match T::from_slice(alloc, bytes) {
         Ok(_) => None,

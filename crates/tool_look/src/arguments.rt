@@ -9,6 +9,8 @@ use tool_view::{Asked, Form};
 pub struct Arguments {
     /// How the next input is shown.
     pub asked: Asked,
+    /// Whether the input's bytes are written in hexadecimal, and nothing else.
+    pub is_hexadecimal: bool,
     /// Whether lines are in colours if no argument says it.
     is_terminal: bool,
 }
@@ -19,7 +21,11 @@ impl Arguments {
     pub fn new(alloc: Global, is_terminal: bool) -> Arguments {
         let mut asked = Asked::new(alloc);
         asked.is_colored = is_terminal;
-        Arguments { asked, is_terminal }
+        Arguments {
+            asked,
+            is_hexadecimal: false,
+            is_terminal,
+        }
     }
 
     /// Takes the form of the output, and returns true if it is allowed. A page allows no other
@@ -30,6 +36,12 @@ impl Arguments {
         }
         self.asked.form = form;
         true
+    }
+
+    /// Takes that bytes are written in hexadecimal, and returns true if it is allowed: not in a page.
+    fn takes_hexadecimal(&mut self) -> bool {
+        self.is_hexadecimal = self.asked.form != Form::Page;
+        self.is_hexadecimal
     }
 
     /// Takes when there are colours, and returns true if the word is known.
@@ -71,6 +83,7 @@ impl Arguments {
             "--edn" => self.takes_form(Form::Plain),
             "--where" => self.takes_form(Form::Where),
             "--html" => self.takes_form(Form::Page),
+            "--to=hex" => self.takes_hexadecimal(),
             _ => false,
         })
     }

@@ -13,7 +13,8 @@ use arguments::Arguments;
 use std::io::{ErrorKind, IsTerminal, Read};
 use std::process::ExitCode;
 use std::{env, fs, io};
-use tool_view::{Asked, END, FRONT, Form, Shown, UNANSWERED, look};
+use tool_explain::push_comment;
+use tool_view::{END, FRONT, Form, Shown, UNANSWERED, hexadecimal, look};
 
 /// The text for an argument that isn't understood.
 const USAGE: &str = "usage: tool_look [OPTION..] [KIND] [FILE]..
@@ -21,9 +22,10 @@ A file, or standard input where none is named, holds bytes as they are; or hexad
 or as h'..'; or base64 or base64url, also as b64'..' or behind Bearer.
 KIND is auto (what its tag says, or else what it can be), cwt (a web token, with claims as its payload), value, sign1, sign, mac,
 mac0, encrypt, encrypt0, countersignature, key, keyset, claims or kdf.
-With --edn diagnostic notation alone is written; with --where only the offset of the fault, the path there, and the fault, or
-that the input is accepted; with --html a page. --now=SECONDS since 1970 began is when a token is looked at, and
---external-aad=HEX is what goes with messages. --color=auto, always or never: auto is in a terminal, without NO_COLOR.
+With --to=hex the bytes alone are written, in hexadecimal; with --edn diagnostic notation alone; with --where only the offset of
+the fault, the path there, and the fault, or that the input is accepted; with --html a page. --now=SECONDS since 1970 began is
+when a token is looked at, and --external-aad=HEX is what goes with messages. --color=auto, always or never: auto is in a
+terminal, without NO_COLOR.
 ";
 
 /// Returns true if standard output is a terminal that may have colours.
@@ -35,25 +37,37 @@ fn is_terminal(rt: &HostRuntime) -> bool {
     !is_without && rt.stdout().is_terminal()
 }
 
+/// Writes the name of an input as a comment on a line of its own.
+fn print_name(rt: &HostRuntime, name: &str) -> io::Result<()> {
+    let mut comment = String::new(rt.alloc());
+    push_comment(&mut comment, name)?;
+    println!(rt; "{comment}")
+}
+
 /// Shows an input of that name, and returns the status.
-fn show(rt: &HostRuntime, asked: &Asked, input: &[u8], name: &str) -> io::Result<u8> {
-    let Shown { said, text, status } = look(rt.alloc(), asked, input, name)?;
+fn show(rt: &HostRuntime, arguments: &Arguments, input: &[u8], name: &str) -> io::Result<u8> {
+    let asked = &arguments.asked;
+    let Shown { said, text, status } = if arguments.is_hexadecimal {
+        hexadecimal(rt.alloc(), input)?
+    } else {
+        look(rt.alloc(), asked, input, name)?
+    };
     if name.is_empty() {
         eprintln!(rt; "{said}")?;
     } else {
         eprintln!(rt; "{name}: {said}")?;
     }
-    if !name.is_empty() && asked.form != Form::Page {
-        println!(rt; "# {name}")?;
+    if !name.is_empty() && asked.form != Form::Page && !arguments.is_hexadecimal {
+        print_name(rt, name)?;
     }
     print!(rt; "{text}")?;
     Ok(status)
 }
 
 /// Shows a file, and returns the status.
-fn show_file(rt: &HostRuntime, asked: &Asked, name: &str) -> io::Result<u8> {
+fn show_file(rt: &HostRuntime, arguments: &Arguments, name: &str) -> io::Result<u8> {
     match fs::read(rt, name) {
-        Ok(input) => show(rt, asked, &input, name),
+        Ok(input) => show(rt, arguments, &input, name),
         Err(error) if error.kind() == ErrorKind::OutOfMemory => Err(error),
         Err(error) => {
             eprintln!(rt; "error: {name}: {error}; nor is it a KIND")?;
@@ -63,10 +77,10 @@ fn show_file(rt: &HostRuntime, asked: &Asked, name: &str) -> io::Result<u8> {
 }
 
 /// Shows standard input, and returns the status.
-fn show_input(rt: &HostRuntime, asked: &Asked) -> io::Result<u8> {
+fn show_input(rt: &HostRuntime, arguments: &Arguments) -> io::Result<u8> {
     let mut input = Vec::new(rt.alloc());
     rt.stdin().read_to_end(&mut input)?;
-    show(rt, asked, &input, "")
+    show(rt, arguments, &input, "")
 }
 
 /// Shows all files that the arguments name, or standard input, and returns the greatest status.
@@ -81,16 +95,16 @@ fn answer(rt: &HostRuntime, mut arguments: Arguments) -> io::Result<u8> {
             eprint!(rt; "error: {argument} isn't understood\n{USAGE}")?;
             return Ok(UNANSWERED);
         }
-        let shown = show_file(rt, &arguments.asked, argument)?;
+        let shown = show_file(rt, &arguments, argument)?;
         status = Some(shown.max(status.unwrap_or(0)));
     }
     match status {
         Some(status) => Ok(status),
-        None => show_input(rt, &arguments.asked),
+        None => show_input(rt, &arguments),
     }
 }
 
-/// Does the same, inside a page if the arguments ask for one.
+/// Shows all inputs as [`answer`] does, inside a page if the arguments ask for one.
 fn answer_all(rt: &HostRuntime) -> io::Result<u8> {
     let mut arguments = Arguments::new(rt.alloc(), is_terminal(rt));
     if !env::args(rt)?

@@ -4,9 +4,11 @@
 
 mod asked;
 mod page;
+mod respelled;
 mod rows;
 mod shown;
 
 pub use asked::{Asked, Form};
 pub use page::{END, FRONT};
+pub use respelled::hexadecimal;
 pub use shown::{Shown, UNANSWERED, look};

@@ -11,16 +11,16 @@ use crate::rows::rows;
 use coset::CoseError;
 use std::alloc::{AllocError, Global};
 use tool_explain::{
-    Kind, Line, annotated, annotated_structures, colored, explain, explain_whole, fault, fitting,
-    notation, structure_notes,
+    Cover, Kind, Line, annotated, annotated_structures, colored, explain, explain_whole, fault,
+    fitting, notation, structure_notes,
 };
 use tool_spelled::{Spelling, line_and_column, text_of};
 
 /// The status of an input that has its kind.
-const TAKEN: u8 = 0;
+pub(crate) const TAKEN: u8 = 0;
 
 /// The status of an input that was refused.
-const REFUSED: u8 = 1;
+pub(crate) const REFUSED: u8 = 1;
 
 /// The status if a file can't be read, an argument isn't understood, or an allocation fails.
 pub const UNANSWERED: u8 = 2;
@@ -81,8 +81,18 @@ fn hint(spelling: Spelling, c: char) -> &'static str {
     }
 }
 
+/// Returns the text that the input was read as so many bytes.
+pub(crate) fn read_as(
+    alloc: Global,
+    spelling: Spelling,
+    count: usize,
+) -> Result<String, AllocError> {
+    let spelling = spelling_name(spelling);
+    format!(in alloc; "read as {spelling}, {count} bytes")
+}
+
 /// Returns the text that the input is misspelled at this offset.
-fn misspelled(
+pub(crate) fn misspelled(
     alloc: Global,
     spelling: Spelling,
     input: &[u8],
@@ -112,7 +122,7 @@ fn begins_with_tag(bytes: &[u8]) -> bool {
 /// Adds that the bytes are shown as the first of these kinds, and which other kinds read them.
 fn push_fitting(said: &mut String, kinds: &[Kind]) -> Result<(), AllocError> {
     let Some((first, others)) = kinds.split_first() else {
-        return said.push_str("; it has no tag, and is shown as CBOR: no other KIND reads it");
+        return said.push_str("; it has no tag, and is shown as CBOR: no other KIND fits it");
     };
     let name = first.name();
     write!(said, "; it has no tag, and is shown as {name}")?;
@@ -126,7 +136,7 @@ fn push_fitting(said: &mut String, kinds: &[Kind]) -> Result<(), AllocError> {
 }
 
 /// Returns the kind by which the bytes are shown. If neither `asked` nor a tag says it, this is the
-/// first kind that reads them, and `said` tells which.
+/// first kind that reads them, otherwise `Auto`. If the bytes are one item, `said` tells which.
 fn kind_of(
     alloc: Global,
     asked: &Asked,
@@ -216,16 +226,30 @@ fn lines_of(
     Ok((text, status))
 }
 
-/// Returns diagnostic notation alone, and the status.
+/// Adds where and why the input was refused, as the last line notes it, if it was refused.
+fn push_refusal(said: &mut String, lines: &[Line<'_>]) -> Result<(), AllocError> {
+    match lines.last() {
+        Some(line) if line.cover == Cover::Refused => {
+            said.push_str("; ")?;
+            said.push_str(line.note.as_str())
+        }
+        _ => Ok(()),
+    }
+}
+
+/// Returns diagnostic notation alone, and the status. If the input is refused, the notation ends
+/// before the fault, and `said` tells where and why.
 fn notation_of(
     alloc: Global,
     asked: &Asked,
     kind: Kind,
     bytes: &[u8],
+    said: &mut String,
 ) -> Result<(String, u8), AllocError>
     ensures { IfOk result (λ r. r.1 ≡ 0 → JudgesAs kind bytes.now None) }
 {
     let explained = explain(alloc, kind, bytes, asked.now)?;
+    push_refusal(said, &explained.lines)?;
     let status = status_of(explained.error.is_some());
     Ok((notation(alloc, &explained.lines)?, status))
 }
@@ -246,7 +270,7 @@ fn look_at(
         Form::Annotated | Form::Page | Form::Rows => {
             lines_of(alloc, asked, kind, bytes, said.as_str(), name)?
         }
-        Form::Plain => notation_of(alloc, asked, kind, bytes)?,
+        Form::Plain => notation_of(alloc, asked, kind, bytes, &mut said)?,
         Form::Where => fault_line(alloc, kind, bytes)?,
     };
     Ok(Shown { said, text, status })
@@ -265,8 +289,7 @@ pub fn look(alloc: Global, asked: &Asked, input: &[u8], name: &str) -> Result<Sh
     let spelled = text_of(input);
     match spelled.bytes(alloc)? {
         Ok(bytes) => {
-            let (spelling, count) = (spelling_name(spelled.spelling), bytes.len());
-            let said = format!(in alloc; "read as {spelling}, {count} bytes")?;
+            let said = read_as(alloc, spelled.spelling, bytes.len())?;
             look_at(alloc, asked, &bytes, said, name)
         }
         Err(place) => {

@@ -1,14 +1,14 @@
 use Rattle.std.proofs.Common.{◌≡◌, ◌∙◌, ℕ, List, ◌∷◌, rules, ap, subst, sym}
-use Rattle.coset.specs.Results.{DescribesNothing}
-use Rattle.coset.specs.Headers.{header}
 use Rattle.coset.specs.Pulls.{pull_bytes, pull_item}
+use Rattle.tool_fault.specs.Headers.{HasHeaderFault}
 use Rattle.tool_fault.proofs.Standing.{where_ok}
-use Rattle.tool_fault.proofs.named_fault.has_no_header.Goals as goal
+use Rattle.tool_fault.proofs.header.header_fault_is_at.Goals as goal
 
 pub returns-in-Ok-Some : goal.returns-in-Ok-Some
 returns-in-Ok-Some c =
     let split : c.args.bytes.now ≡ c.in-Some.first.now ∷ c.in-Some.field-0-1.now = search rules in
-    where_ok c.describe_none.result c.describe_none.ensures (λ nothing. (
+    where_ok c.has_header_fault.result c.has_header_fault.ensures (λ fault. (
+      c.is_header_place.ensures (search rules),
       c.in-Some.field-0-1.now,
       split ∙ ap (λ (x : ℕ). x ∷ c.in-Some.field-0-1.now) c.if-first-ne95.false,
       (
@@ -20,7 +20,7 @@ returns-in-Ok-Some c =
         (
           c.in-Ok-Some.content.items,
           sym c.in-Ok-Some.ensures ∙ search rules,
-          subst (λ (b : List ℕ). DescribesNothing header b) c.deref.ensures.value nothing,
+          subst (λ (b : List ℕ). HasHeaderFault c.args.error.now b) c.deref.ensures.value fault,
         ),
       ),
     ))
