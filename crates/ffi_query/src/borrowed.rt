@@ -431,6 +431,20 @@ fn texts_of<'a>(kind: Kind, found: &Found<'a>, detached: Option<&'a [u8]>) -> Op
     })
 }
 
+/// Returns the length of the structure, and that of all four texts, if both fit in a `usize`.
+fn lengths_of(structure: &Structure<'_>, texts: &Texts<'_>) -> Option<(usize, usize)>
+    ensures structure { IfSome result (λ n.
+        n.0 ≡ length structure.now.front.items + length structure.now.end.now) }
+    ensures all { IfSome result (λ n. n.1 ≡ n.0 + (length texts.now.proof.bytes.now
+        + (length texts.now.content.bytes.now + length texts.now.key_id.text.bytes.now))) }
+{
+    let structure_len = length_of(&structure.front, structure.end)?;
+    let (proof_len, content_len) = (texts.proof.bytes.len(), texts.content.bytes.len());
+    let key_id_len = texts.key_id.text.bytes.len();
+    let len = sum_of(structure_len, proof_len, content_len, key_id_len)?;
+    Some((structure_len, len))
+}
+
 /// Returns everything that verifying or decrypting the item takes, if it can be borrowed from the
 /// input.
 ///
@@ -456,12 +470,7 @@ pub(crate) fn find_borrowed<'a>(
     let Some(structure) = structure else {
         return Ok(None);
     };
-    let Some(structure_len) = length_of(&structure.front, structure.end) else {
-        return Ok(None);
-    };
-    let (proof_len, content_len) = (texts.proof.bytes.len(), texts.content.bytes.len());
-    let key_id_len = texts.key_id.text.bytes.len();
-    let Some(len) = sum_of(structure_len, proof_len, content_len, key_id_len) else {
+    let Some((structure_len, len)) = lengths_of(&structure, &texts) else {
         return Ok(None);
     };
     let view = MessageView {
@@ -471,9 +480,9 @@ pub(crate) fn find_borrowed<'a>(
         is_understood: true,
         is_tagged: found.is_tagged,
         structure_len,
-        proof_len,
-        content_len,
-        key_id_len,
+        proof_len: texts.proof.bytes.len(),
+        content_len: texts.content.bytes.len(),
+        key_id_len: texts.key_id.text.bytes.len(),
         len,
     };
     Ok(Some(Borrowed {

@@ -181,27 +181,7 @@ fn with_closure<M: Message>(
 where
     M::Made: CborSerializable,
 {
-    let mut rest = words.after_name();
-    let says_yes = if shape.may_refuse() {
-        says_yes(rest.next_word())?
-    } else {
-        true
-    };
-    let mut message: M::Made = spelled::read(alloc, rest.next_word())?;
-    let mut beside = M::beside(alloc, name, &mut rest)?;
-    let content = next_bytes(alloc, shape.content, &mut rest)?;
-    let aad = bytes(alloc, rest.next_word())?;
-    let mut asked = not_asked(alloc, shape, says_yes, &mut rest)?;
-    M::change(&mut message, rest.next_word())?;
-    M::change_beside(&mut message, &mut beside, &mut rest)?;
-    let given = Given {
-        alloc,
-        name,
-        says_yes,
-        beside,
-        content,
-        aad,
-    };
+    let (message, given, mut asked) = arguments::<M>(alloc, name, shape, words)?;
     let mut missed = 0u32;
     let answer = if shape.creates() {
         M::create(message, given, &mut asked)
@@ -215,6 +195,41 @@ where
         "verify_payload_tag" | "decrypt_ciphertext" => and_missing(alloc, text, missed),
         _ => Ok(text),
     }
+}
+
+/// Reads the arguments of a call, in the order of [`Shape`]. Returns the message, the other
+/// arguments, and the state of the closure.
+fn arguments<'a, M: Message>(
+    alloc: Global,
+    name: &'a str,
+    shape: Shape,
+    words: &Words<'_>,
+) -> Result<(M::Made, Given<'a, M::Beside>, Asked)>
+where
+    M::Made: CborSerializable,
+{
+    let mut rest = words.after_name();
+    let says_yes = if shape.may_refuse() {
+        says_yes(rest.next_word())?
+    } else {
+        true
+    };
+    let mut message: M::Made = spelled::read(alloc, rest.next_word())?;
+    let mut beside = M::beside(alloc, name, &mut rest)?;
+    let content = next_bytes(alloc, shape.content, &mut rest)?;
+    let aad = bytes(alloc, rest.next_word())?;
+    let asked = not_asked(alloc, shape, says_yes, &mut rest)?;
+    M::change(&mut message, rest.next_word())?;
+    M::change_beside(&mut message, &mut beside, &mut rest)?;
+    let given = Given {
+        alloc,
+        name,
+        says_yes,
+        beside,
+        content,
+        aad,
+    };
+    Ok((message, given, asked))
 }
 
 /// Returns the bytes that the next word spells if the call gets them, otherwise none.

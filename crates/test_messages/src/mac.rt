@@ -111,41 +111,67 @@ impl Message for MacCalls {
         given: Given<'_, ()>,
         asked: &mut Asked,
     ) -> Result<Answer<CoseMac>> {
-        let (alloc, content, aad) = (given.alloc, &given.content, &given.aad);
-        let (builder, payload, _) = taken(alloc, message)?;
-        mark::begin(alloc);
-        Ok(match given.name {
-            "create_tag" => {
-                let builder = builder.payload(payload.ok_or(no_payload())?);
-                Answer::Made(built(builder.create_tag(alloc, aad, move |tbm| asked.make(&[], tbm))))
-            }
-            "try_create_tag" => {
-                let builder = builder.payload(payload.ok_or(no_payload())?);
-                Answer::Tried(built(builder.try_create_tag(
-                    alloc,
-                    aad,
-                    move |tbm| asked.try_make(&[], tbm),
-                )))
-            }
-            "create_detached_tag" => {
-                let builder = with_payload(builder, payload);
-                Answer::Made(built(builder.create_detached_tag(
-                    alloc,
-                    content,
-                    aad,
-                    move |tbm| asked.make(&[], tbm),
-                )))
-            }
-            "try_create_detached_tag" => {
-                let builder = with_payload(builder, payload);
-                Answer::Tried(built(builder.try_create_detached_tag(
-                    alloc,
-                    content,
-                    aad,
-                    move |tbm| asked.try_make(&[], tbm),
-                )))
-            }
-            _ => return Err(unknown::<MacCalls>()),
-        })
+        let (builder, payload, _) = taken(given.alloc, message)?;
+        mark::begin(given.alloc);
+        if given.name.contains("_detached_") {
+            create_detached(with_payload(builder, payload), &given, asked)
+        } else {
+            create_attached(builder, payload, &given, asked)
+        }
     }
+}
+
+/// Makes the builder's call of that name, which authenticates the message's own payload.
+///
+/// # Errors
+/// A fault if the name isn't known, or there is no payload.
+fn create_attached(
+    builder: CoseMacBuilder,
+    payload: Option<Vec<u8>>,
+    given: &Given<'_, ()>,
+    asked: &mut Asked,
+) -> Result<Answer<CoseMac>> {
+    let (alloc, aad) = (given.alloc, &given.aad);
+    Ok(match given.name {
+        "create_tag" => {
+            let builder = builder.payload(payload.ok_or(no_payload())?);
+            Answer::Made(built(builder.create_tag(alloc, aad, move |tbm| asked.make(&[], tbm))))
+        }
+        "try_create_tag" => {
+            let builder = builder.payload(payload.ok_or(no_payload())?);
+            Answer::Tried(built(builder.try_create_tag(
+                alloc,
+                aad,
+                move |tbm| asked.try_make(&[], tbm),
+            )))
+        }
+        _ => return Err(unknown::<MacCalls>()),
+    })
+}
+
+/// Makes the builder's call of that name, which authenticates a detached payload.
+///
+/// # Errors
+/// A fault if the name isn't known.
+fn create_detached(
+    builder: CoseMacBuilder,
+    given: &Given<'_, ()>,
+    asked: &mut Asked,
+) -> Result<Answer<CoseMac>> {
+    let (alloc, content, aad) = (given.alloc, &given.content, &given.aad);
+    Ok(match given.name {
+        "create_detached_tag" => Answer::Made(built(builder.create_detached_tag(
+            alloc,
+            content,
+            aad,
+            move |tbm| asked.make(&[], tbm),
+        ))),
+        "try_create_detached_tag" => Answer::Tried(built(builder.try_create_detached_tag(
+            alloc,
+            content,
+            aad,
+            move |tbm| asked.try_make(&[], tbm),
+        ))),
+        _ => return Err(unknown::<MacCalls>()),
+    })
 }

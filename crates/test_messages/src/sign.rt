@@ -129,50 +129,16 @@ impl Message for SignCalls {
     }
 
     fn ask(
-        mut message: CoseSign,
+        message: CoseSign,
         given: Given<'_, Signer>,
         asked: &mut Asked,
         _missed: &mut u32,
     ) -> Result<Answer<CoseSign>> {
-        let Given {
-            alloc,
-            name,
-            says_yes,
-            beside,
-            content,
-            aad,
-        } = given;
-        let judge = move |signature: &[u8], tbs: &[u8]| asked.judge(signature, tbs, says_yes);
-        Ok(match name {
-            "verify_signature" => {
-                let which = beside.place()?;
-                if which >= message.signatures.len() {
-                    return Err(no_signature());
-                }
-                Answer::Judged(message.verify_signature(alloc, which, &aad, judge))
-            }
-            "verify_detached_signature" => {
-                let which = beside.place()?;
-                if which >= message.signatures.len() {
-                    return Err(no_signature());
-                }
-                message.payload = None;
-                Answer::Judged(message.verify_detached_signature(
-                    alloc, which, &content, &aad, judge,
-                ))
-            }
-            "tbs_data" => Answer::Bytes(message.tbs_data(alloc, &aad, &beside.signature()?)),
-            "tbs_detached_data" => {
-                message.payload = None;
-                Answer::Bytes(message.tbs_detached_data(
-                    alloc,
-                    &content,
-                    &aad,
-                    &beside.signature()?,
-                ))
-            }
-            _ => return Err(unknown::<SignCalls>()),
-        })
+        if given.name.starts_with("verify_") {
+            verify(message, &given, asked)
+        } else {
+            structure(message, given)
+        }
     }
 
     fn create(
@@ -180,58 +146,73 @@ impl Message for SignCalls {
         given: Given<'_, Signer>,
         asked: &mut Asked,
     ) -> Result<Answer<CoseSign>> {
-        let (alloc, name) = (given.alloc, given.name);
-        let signature = given.beside.signature()?;
-        if name.contains("_created_") {
-            let builder = filled(alloc, message)?;
-            mark::begin(alloc);
-            return created(alloc, name, builder, signature, &given.aad, asked);
+        if given.name.contains("_detached_") {
+            add_detached(message, given, asked)
+        } else {
+            add_created(message, given, asked)
         }
-        let CoseSign {
-            protected,
-            unprotected,
-            payload: _,
-            signatures: _,
-        } = message;
-        let builder = CoseSignBuilder::new(alloc)
-            .protected(protected.header)
-            .unprotected(unprotected);
-        let (content, aad) = (&given.content, &given.aad);
-        mark::begin(alloc);
-        Ok(match name {
-            "add_detached_signature" => Answer::Made(built(builder.add_detached_signature(
-                alloc,
-                signature,
-                content,
-                aad,
-                move |tbs| asked.make(&[], tbs),
-            ))),
-            "try_add_detached_signature" => Answer::Tried(built(
-                builder.try_add_detached_signature(
-                    alloc,
-                    signature,
-                    content,
-                    aad,
-                    move |tbs| asked.try_make(&[], tbs),
-                ),
-            )),
-            _ => return Err(unknown::<SignCalls>()),
-        })
     }
 }
 
-/// Makes the builder's call of that name, which signs the builder's payload.
+/// Makes the message's call of that name, which verifies the signature at an index.
 ///
 /// # Errors
-/// A fault if the name isn't known.
-fn created(
-    alloc: Global,
-    name: &str,
-    builder: CoseSignBuilder,
-    signature: CoseSignature,
-    aad: &[u8],
+/// A fault if the name isn't known, or the message has no such signature.
+fn verify(
+    mut message: CoseSign,
+    given: &Given<'_, Signer>,
     asked: &mut Asked,
 ) -> Result<Answer<CoseSign>> {
+    let (alloc, says_yes) = (given.alloc, given.says_yes);
+    let (content, aad) = (&given.content, &given.aad);
+    let which = given.beside.place()?;
+    if which >= message.signatures.len() {
+        return Err(no_signature());
+    }
+    let judge = move |signature: &[u8], tbs: &[u8]| asked.judge(signature, tbs, says_yes);
+    Ok(match given.name {
+        "verify_signature" => Answer::Judged(message.verify_signature(alloc, which, aad, judge)),
+        "verify_detached_signature" => {
+            message.payload = None;
+            Answer::Judged(message.verify_detached_signature(alloc, which, content, aad, judge))
+        }
+        _ => return Err(unknown::<SignCalls>()),
+    })
+}
+
+/// Makes the message's call of that name, which returns the bytes for a separate signature.
+///
+/// # Errors
+/// A fault if the name isn't known, or there is no separate signature.
+fn structure(mut message: CoseSign, given: Given<'_, Signer>) -> Result<Answer<CoseSign>> {
+    let (alloc, name) = (given.alloc, given.name);
+    let signature = given.beside.signature()?;
+    let (content, aad) = (&given.content, &given.aad);
+    Ok(match name {
+        "tbs_data" => Answer::Bytes(message.tbs_data(alloc, aad, &signature)),
+        "tbs_detached_data" => {
+            message.payload = None;
+            Answer::Bytes(message.tbs_detached_data(alloc, content, aad, &signature))
+        }
+        _ => return Err(unknown::<SignCalls>()),
+    })
+}
+
+/// Makes the builder's call of that name, which signs the message's own payload.
+///
+/// # Errors
+/// - A fault if the name isn't known, or there is no separate signature.
+/// - `OutOfMemory` if an allocation fails.
+fn add_created(
+    message: CoseSign,
+    given: Given<'_, Signer>,
+    asked: &mut Asked,
+) -> Result<Answer<CoseSign>> {
+    let (alloc, name) = (given.alloc, given.name);
+    let signature = given.beside.signature()?;
+    let aad = &given.aad;
+    let builder = filled(alloc, message)?;
+    mark::begin(alloc);
     Ok(match name {
         "add_created_signature" => Answer::Made(built(builder.add_created_signature(
             alloc,
@@ -242,6 +223,48 @@ fn created(
         "try_add_created_signature" => Answer::Tried(built(builder.try_add_created_signature(
             alloc,
             signature,
+            aad,
+            move |tbs| asked.try_make(&[], tbs),
+        ))),
+        _ => return Err(unknown::<SignCalls>()),
+    })
+}
+
+/// Makes the builder's call of that name, which signs a detached payload. The builder gets only the
+/// message's headers.
+///
+/// # Errors
+/// A fault if the name isn't known, or there is no separate signature.
+fn add_detached(
+    message: CoseSign,
+    given: Given<'_, Signer>,
+    asked: &mut Asked,
+) -> Result<Answer<CoseSign>> {
+    let (alloc, name) = (given.alloc, given.name);
+    let signature = given.beside.signature()?;
+    let (content, aad) = (&given.content, &given.aad);
+    let CoseSign {
+        protected,
+        unprotected,
+        payload: _,
+        signatures: _,
+    } = message;
+    let builder = CoseSignBuilder::new(alloc)
+        .protected(protected.header)
+        .unprotected(unprotected);
+    mark::begin(alloc);
+    Ok(match name {
+        "add_detached_signature" => Answer::Made(built(builder.add_detached_signature(
+            alloc,
+            signature,
+            content,
+            aad,
+            move |tbs| asked.make(&[], tbs),
+        ))),
+        "try_add_detached_signature" => Answer::Tried(built(builder.try_add_detached_signature(
+            alloc,
+            signature,
+            content,
             aad,
             move |tbs| asked.try_make(&[], tbs),
         ))),

@@ -75,57 +75,88 @@ impl Message for Sign1Calls {
         given: Given<'_, ()>,
         asked: &mut Asked,
     ) -> Result<Answer<CoseSign1>> {
-        let (alloc, content, aad) = (given.alloc, &given.content, &given.aad);
-        let CoseSign1 {
-            protected,
-            unprotected,
-            payload,
-            signature: _,
-        } = message;
-        let builder = CoseSign1Builder::new(alloc)
-            .protected(protected.header)
-            .unprotected(unprotected);
-        mark::begin(alloc);
-        Ok(match given.name {
-            "create_signature" => {
-                let builder = with_payload(builder, payload);
-                Answer::Made(built(builder.create_signature(
-                    alloc,
-                    aad,
-                    move |tbs| asked.make(&[], tbs),
-                )))
-            }
-            "try_create_signature" => {
-                let builder = with_payload(builder, payload);
-                Answer::Tried(built(builder.try_create_signature(
-                    alloc,
-                    aad,
-                    move |tbs| asked.try_make(&[], tbs),
-                )))
-            }
-            "create_detached_signature" => Answer::Made(built(builder.create_detached_signature(
-                alloc,
-                content,
-                aad,
-                move |tbs| asked.make(&[], tbs),
-            ))),
-            "try_create_detached_signature" => Answer::Tried(built(
-                builder.try_create_detached_signature(
-                    alloc,
-                    content,
-                    aad,
-                    move |tbs| asked.try_make(&[], tbs),
-                ),
-            )),
-            _ => return Err(unknown::<Sign1Calls>()),
-        })
+        if given.name.contains("_detached_") {
+            create_detached(message, &given, asked)
+        } else {
+            create_attached(message, &given, asked)
+        }
     }
 }
 
-/// Sets the payload, if there is one.
-fn with_payload(builder: CoseSign1Builder, payload: Option<Vec<u8>>) -> CoseSign1Builder {
-    match payload {
+/// Makes the builder's call of that name, which signs the message's own payload.
+///
+/// # Errors
+/// A fault if the name isn't known.
+fn create_attached(
+    message: CoseSign1,
+    given: &Given<'_, ()>,
+    asked: &mut Asked,
+) -> Result<Answer<CoseSign1>> {
+    let (alloc, aad) = (given.alloc, &given.aad);
+    let CoseSign1 {
+        protected,
+        unprotected,
+        payload,
+        signature: _,
+    } = message;
+    let builder = CoseSign1Builder::new(alloc)
+        .protected(protected.header)
+        .unprotected(unprotected);
+    let builder = match payload {
         Some(payload) => builder.payload(payload),
         None => builder,
-    }
+    };
+    mark::begin(alloc);
+    Ok(match given.name {
+        "create_signature" => Answer::Made(built(builder.create_signature(
+            alloc,
+            aad,
+            move |tbs| asked.make(&[], tbs),
+        ))),
+        "try_create_signature" => Answer::Tried(built(builder.try_create_signature(
+            alloc,
+            aad,
+            move |tbs| asked.try_make(&[], tbs),
+        ))),
+        _ => return Err(unknown::<Sign1Calls>()),
+    })
+}
+
+/// Makes the builder's call of that name, which signs a detached payload.
+///
+/// # Errors
+/// A fault if the name isn't known.
+fn create_detached(
+    message: CoseSign1,
+    given: &Given<'_, ()>,
+    asked: &mut Asked,
+) -> Result<Answer<CoseSign1>> {
+    let (alloc, content, aad) = (given.alloc, &given.content, &given.aad);
+    let CoseSign1 {
+        protected,
+        unprotected,
+        payload: _,
+        signature: _,
+    } = message;
+    let builder = CoseSign1Builder::new(alloc)
+        .protected(protected.header)
+        .unprotected(unprotected);
+    mark::begin(alloc);
+    Ok(match given.name {
+        "create_detached_signature" => Answer::Made(built(builder.create_detached_signature(
+            alloc,
+            content,
+            aad,
+            move |tbs| asked.make(&[], tbs),
+        ))),
+        "try_create_detached_signature" => Answer::Tried(built(
+            builder.try_create_detached_signature(
+                alloc,
+                content,
+                aad,
+                move |tbs| asked.try_make(&[], tbs),
+            ),
+        )),
+        _ => return Err(unknown::<Sign1Calls>()),
+    })
 }

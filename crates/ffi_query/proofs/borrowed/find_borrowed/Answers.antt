@@ -1,4 +1,4 @@
-use Rattle.std.proofs.Common.{◌∙◌, ◌++◌, ◌+◌, length, ap, refl, sym}
+use Rattle.std.proofs.Common.{◌∙◌, ◌++◌, refl, sym}
 use Rattle.std.proofs.lemmas.List.{length-append}
 use Rattle.std.specs.Option.{option_copied}
 use Rattle.ffi_query.specs.Located.{located_item}
@@ -17,12 +17,12 @@ returns-clause-lent c =
     let end = c.in-Some-structure.structure.end.now in
     let s = front ++ end in
     let found = rw c.in-Some-structure.is at c.in_ok-structure.ensures.found in
-    let long = c.in-Some-length_of.ensures ∙ (ap (λ y. length y + length end) c.deref.ensures.value ∙ sym (length-append front end)) in record {
+    let long = c.in-Some-lengths_of.ensures.structure ∙ sym (length-append front end) in record {
       item = v;
       is_item = f.is_item;
       lent = record {
         says =
-            says_of b aad s i d ns v _ x texts.is_algorithm refl refl refl long refl refl refl c.in-Some-sum_of.ensures c.args.kind
+            says_of b aad s i d ns v _ x texts.is_algorithm refl refl refl long refl refl refl c.in-Some-lengths_of.ensures.all c.args.kind
             texts found;
         proof_in_b = texts.proof_in_b;
         content_in_b = texts.content_in_b;
