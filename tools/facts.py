@@ -21,6 +21,7 @@ def pages():
     """Returns the paths of all pages."""
     found = [*sorted(it for it in os.listdir(HERE) if it.endswith(".md")), *files("docs")]
     return [*found, *(f"crates/{it}/README.md" for it in sorted(os.listdir(f"{HERE}/crates")) if os.path.exists(f"{HERE}/crates/{it}/README.md"))]
+CONTRACT = re.compile(r"^In \[[^\]\n]*\]\(\.\./(crates/\w+/src/\w+\.rt)\), with its contract:\n\n```rust\n(.*?)^```", re.M | re.S)
 
 
 # ---- links and paths
@@ -49,11 +50,15 @@ def astray(page):
 
 
 def unlike():
-    """Yields the programs of pages that aren't their files without contracts. A line `In [path](../path):` is above each."""
+    """Yields the programs of pages that aren't their files without contracts. A line `In [path](../path):` is above each. Under
+    a line `In [path](../path), with its contract:` is a part of the file as it is."""
     for page in pages():
         for path, program in PROGRAM.findall(read(page)):
             if program != shown(text_of(path) or "", [], []):
                 yield f"{page}: the program isn't that of {path}"
+        for path, part in CONTRACT.findall(read(page)):
+            if part not in (text_of(path) or ""):
+                yield f"{page}: the part isn't in {path}"
 
 
 # ---- promises

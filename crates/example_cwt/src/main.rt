@@ -93,7 +93,7 @@ fn issued(
         .protected(protected)
         .unprotected(unprotected)
         .payload(claims.clone()?.to_vec(alloc)?)
-        .try_create_signature(alloc, AAD, |tbs| signer.sign(alloc, tbs))?
+        .try_create_signature(alloc, AAD, move |tbs| signer.sign(alloc, tbs))?
         .build();
     Ok(sign1.to_vec(alloc)?)
 }
@@ -107,7 +107,7 @@ fn main(rt: HostRuntime) -> Result<()> {
     // The receiving end. Real code finds a key by the identifier in the headers, and checks that it
     // is a key for the algorithm there.
     let sign1 = CoseSign1::from_slice(alloc, &sign1_data)?;
-    let result = sign1.verify_signature(alloc, AAD, |sig, tbs| key.verify(alloc, sig, tbs));
+    let result = sign1.verify_signature(alloc, AAD, move |sig, tbs| key.verify(alloc, sig, tbs));
     println!(rt; "Signature verified: {result:?}.")?;
     ensure!(result.is_ok());
 

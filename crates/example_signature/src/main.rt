@@ -60,7 +60,7 @@ fn signed(alloc: Global, signer: &FakeKey) -> Result<Vec<u8>, CallError<AllocErr
     let sign1 = CoseSign1Builder::new(alloc)
         .protected(protected)
         .payload_from(alloc, CONTENT)?
-        .try_create_signature(alloc, AAD, |tbs| signer.sign(alloc, tbs))?
+        .try_create_signature(alloc, AAD, move |tbs| signer.sign(alloc, tbs))?
         .build();
     Ok(sign1.to_vec(alloc)?)
 }
@@ -75,7 +75,7 @@ fn verified(
     sign1.verify_signature(
         alloc,
         aad,
-        |signature, tbs| verifier.verify(alloc, signature, tbs),
+        move |signature, tbs| verifier.verify(alloc, signature, tbs),
     )
 }
 

@@ -1,5 +1,5 @@
 -- Encrypted messages, and the key that is wrapped for their recipient.
-use Rattle.std.proofs.Common.{◌≡◌, ◌∙◌, ℕ, ℤ, List, [], Option, Some, None, Result, Ok, Err, Vec, ap, inl, inr, refl, subst}
+use Rattle.std.proofs.Common.{◌≡◌, ◌∙◌, ℕ, ℤ, List, [], false, Option, Some, None, Result, Ok, Err, Vec, ap, inl, inr, refl, subst}
 use Rattle.std.specs.Fn.{FnOnceReturnsAtPair}
 use Rattle.std.specs.Global.{Global}
 use Rattle.coset_value.specs.Item.{Item}
@@ -20,7 +20,7 @@ use Rattle.coset_recipient.specs.RecipientViews.{recipient_view}
 use Rattle.coset_recipient.specs.Structures.{EncryptsAll, RecipientEncrypts}
 use Rattle.coset_recipient.specs.declared.recipient.CoseRecipient.{CoseRecipient}
 use Rattle.example_uses.specs.Asked.{Asker, AskerOfThree}
-use Rattle.example_uses.specs.Recipients.{DecryptsFor, EncryptsFor, GivesKey, WrapsFor, is_to, message_to, recipient_by}
+use Rattle.example_uses.specs.Recipients.{DecryptsFor, EncryptsFor, GivesKey, WrapsFor, is_to, message_to, misuses_key_wrap, recipient_by}
 use Rattle.example_uses.specs.Recipients.{wrap_structure, wrapping}
 use Rattle.example_uses.proofs.Calls.{NotSaid}
 use Rattle.example_uses.proofs.Signing.{of_found}
@@ -84,11 +84,11 @@ not_sealed g f n iv r x p empty is (Caller e) asked = (asked.0, subst (λ m. IsS
 -- The result for the first recipient that names the key and has the ciphertext w.
 pub key_given :
     {F E : Type 0} (g : Asker F (Vec ℕ Global) E) (f : F) (absent : E) (key_id : List ℕ) (m : EncryptView) (r : RecipientView) (w : List ℕ)
-    (answer : Result (Vec ℕ Global) (CallError E)) → recipient_by key_id m.recipients ≡ Some r → r.ciphertext ≡ Some w
+    (answer : Result (Vec ℕ Global) (CallError E)) → recipient_by key_id m.recipients ≡ Some r → r.ciphertext ≡ Some w → misuses_key_wrap r ≡ false
     → CallsWith g f w (wrap_structure r) answer → GivesKey g f key_id absent m answer
-key_given g f absent key_id m r w (Ok key) found carried h = (r, w, found, carried, h)
-key_given g f absent key_id m r w (Err (Coset e)) found carried h = (r, found, h)
-key_given g f absent key_id m r w (Err (Caller e)) found carried h = inr (r, w, found, carried, h)
+key_given g f absent key_id m r w (Ok key) found carried used h = (r, w, found, carried, used, h)
+key_given g f absent key_id m r w (Err (Coset e)) found carried used h = (r, found, h)
+key_given g f absent key_id m r w (Err (Caller e)) found carried used h = inr (r, w, found, carried, used, h)
 
 -- ---- decrypting
 

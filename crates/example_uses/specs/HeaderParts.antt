@@ -1,5 +1,5 @@
 -- Facts in a header: a certificate, the algorithm, and the key.
-use Rattle.std.specs.Prelude.{◌==◌, ◌||◌, ℕ, List, Bool, Option, Some, None}
+use Rattle.std.specs.Prelude.{◌==◌, if◌then◌else◌, ℕ, List, length, Bool, Option, Some, None}
 use Rattle.std.specs.Cmp.Lexicographic.{pointwise}
 use Rattle.coset_value.specs.Item.{Item, bytes, array, item}
 use Rattle.coset_label.specs.LabelData.{RegisteredLabelView}
@@ -21,6 +21,11 @@ has_algorithm a h = is_there_and (λ b. same_label b a) (fields_in h).alg
 abbrev pub names_key : List ℕ → HeaderView → Bool
 names_key key_id h = pointwise ◌==◌ (fields_in h).key_id key_id
 
--- One of the two headers names this key (`kid`, RFC 8152, section 3.1).
+-- The header with the key identifier (`kid`): the protected header if it has one, else the unprotected header (RFC 8152,
+-- section 3).
+abbrev pub identifying : ProtectedView → HeaderView → HeaderView
+identifying p u = if length (fields_in p.header).key_id == 0 then u else p.header
+
+-- The two headers name this key.
 abbrev pub one_names_key : List ℕ → ProtectedView → HeaderView → Bool
-one_names_key key_id p u = names_key key_id p.header || names_key key_id u
+one_names_key key_id p u = names_key key_id (identifying p u)

@@ -1,5 +1,5 @@
 -- Encrypted messages whose content key is wrapped for a recipient (RFC 8152, sections 5.1 and 12.2.1).
-use Rattle.std.specs.Prelude.{◌≡◌, ◌⊎◌, ℕ, List, [], ◌∷◌, Bool, Option, Some, None, Result, Ok, Err, Vec}
+use Rattle.std.specs.Prelude.{◌≡◌, ◌⊎◌, ℕ, List, [], ◌∷◌, Bool, true, false, not, ◌&&◌, ◌||◌, Option, Some, None, Result, Ok, Err, Vec}
 use Rattle.std.specs.List.{find}
 use Rattle.std.specs.Global.{Global}
 use Rattle.coset_value.specs.Item.{Item}
@@ -10,9 +10,11 @@ use Rattle.coset_codec.specs.ReadAgain.{IsWritten}
 use Rattle.coset_codec.specs.declared.error.CallError.{CallError}
 use Rattle.coset_codec.specs.declared.error.CallError.TheVariants.{Coset, Caller}
 use Rattle.coset_codec.specs.declared.error.CoseError.TheVariants.{OutOfMemory}
-use Rattle.coset_label.specs.LabelData.{RegisteredLabelView}
+use Rattle.coset_iana.specs.Algorithm as algorithms
+use Rattle.coset_iana.specs.declared.algorithms.Algorithm.TheVariants.{A128KW, A192KW, A256KW}
+use Rattle.coset_label.specs.LabelData.{RegisteredLabelView, assigned}
 use Rattle.coset_core.specs.Built.{with_algorithm, with_iv, with_key_id}
-use Rattle.coset_core.specs.Headers.{empty_header}
+use Rattle.coset_core.specs.Headers.{HeaderView, empty_header, is_empty_header}
 use Rattle.coset_core.specs.Messages.{unread}
 use Rattle.coset_msg.specs.declared.enc_structure.EncryptionContext.TheVariants.{EncRecipient}
 use Rattle.coset_recipient.specs.Encrypt.{EncryptView, empty_encrypt, encrypt, encrypt_structure_of, with_ciphertext}
@@ -21,7 +23,7 @@ use Rattle.coset_recipient.specs.Recipient.{RecipientView, empty_recipient, reci
 use Rattle.coset_recipient.specs.RecipientViews.{recipient_view}
 use Rattle.coset_recipient.specs.declared.recipient.CoseRecipient.{CoseRecipient}
 use Rattle.example_uses.specs.Asked.{Asker, AskerOfThree, MakesOf, Says, SaysOfThree}
-use Rattle.example_uses.specs.HeaderParts.{one_names_key}
+use Rattle.example_uses.specs.HeaderParts.{has_algorithm, one_names_key}
 
 -- ---- encrypting
 
@@ -68,7 +70,7 @@ EncryptsFor g f a iv r external_aad plaintext (Err (Coset e)) =
 
 -- ---- decrypting
 
--- A header of the recipient names this key.
+-- The headers of the recipient name this key.
 abbrev pub is_to : List ℕ → RecipientView → Bool
 is_to key_id r = one_names_key key_id r.protected r.unprotected
 
@@ -76,19 +78,32 @@ is_to key_id r = one_names_key key_id r.protected r.unprotected
 abbrev pub recipient_by : List ℕ → List RecipientView → Option RecipientView
 recipient_by key_id = find (is_to key_id)
 
--- f returns this result for the ciphertext of the first recipient whose headers name this key, and its structure.
+-- The header names AES Key Wrap (RFC 8152, section 12.2.1).
+abbrev pub names_key_wrap : HeaderView → Bool
+names_key_wrap h =
+    has_algorithm (assigned (algorithms.number A128KW)) h
+    || (has_algorithm (assigned (algorithms.number A192KW)) h || has_algorithm (assigned (algorithms.number A256KW)) h)
+
+-- The recipient names AES Key Wrap, and its protected header isn't empty.
+abbrev pub misuses_key_wrap : RecipientView → Bool
+misuses_key_wrap r = not (is_empty_header r.protected.header) && (names_key_wrap r.protected.header || names_key_wrap r.unprotected)
+
+-- f returns this result for the ciphertext of the first recipient whose headers name this key, and its structure. The
+-- recipient doesn't misuse AES Key Wrap.
 abbrev pub AnswersKey : {F E : Type 0} → Asker F (Vec ℕ Global) E → F → List ℕ → EncryptView → Result (Vec ℕ Global) E → Type 0
 AnswersKey g f key_id m answer =
     (r : RecipientView)
     × (w : List ℕ)
     × (recipient_by key_id m.recipients ≡ Some r)
     × (r.ciphertext ≡ Some w)
+    × (misuses_key_wrap r ≡ false)
     × Says g f w (wrap_structure r) answer
 
--- No recipient names the key, or the first that does has no ciphertext.
+-- No recipient names the key, or the first that does has no ciphertext or misuses AES Key Wrap.
 abbrev pub HasNoKey : List ℕ → EncryptView → Type 0
 HasNoKey key_id m =
-    (recipient_by key_id m.recipients ≡ None) ⊎ ((r : RecipientView) × (recipient_by key_id m.recipients ≡ Some r) × (r.ciphertext ≡ None))
+    (recipient_by key_id m.recipients ≡ None)
+    ⊎ ((r : RecipientView) × (recipient_by key_id m.recipients ≡ Some r) × ((r.ciphertext ≡ None) ⊎ (misuses_key_wrap r ≡ true)))
 
 -- The result for the content key: the key that f made, or the error of f. The error is `absent` if there is nothing to
 -- unwrap. Unless it is `OutOfMemory`, another error means that a header of the recipient repeats a label.

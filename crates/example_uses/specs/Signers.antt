@@ -57,7 +57,7 @@ SignsByTwo g f k h external_aad payload first second (Err (Coset e)) = IsUnsigne
 
 -- ---- verifying
 
--- A header of the signature names this key.
+-- The headers of the signature name this key.
 abbrev pub is_by : List ℕ → SignatureView → Bool
 is_by key_id s = one_names_key key_id s.protected s.unprotected
 

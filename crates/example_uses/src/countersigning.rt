@@ -132,7 +132,7 @@ where
     Ok(countersigned.to_vec(alloc)?)
 }
 
-/// Returns true if a header of the countersignature names this key.
+/// Returns true if the headers of the countersignature name this key.
 fn is_by(countersignature: &CoseCountersignature, key_id: &[u8]) -> bool
     ensures { result ≡ is_by key_id.now (countersignature_view countersignature.now) }
 {

@@ -111,6 +111,13 @@ pub fn keeps_the_law_of_equality<T: Codec>()
 
 /// Applies the laws to every type.
 pub fn every_type_keeps_the_laws() {
+    every_plain_type_keeps_the_laws();
+    every_tagged_type_keeps_the_laws();
+    every_codec_keeps_the_law_of_equality();
+}
+
+/// Applies the laws to every type as it is read without a tag.
+fn every_plain_type_keeps_the_laws() {
     keeps_the_laws::<Value>();
     keeps_the_laws::<Label>();
     keeps_the_laws::<KeyType>();
@@ -136,6 +143,10 @@ pub fn every_type_keeps_the_laws() {
     keeps_the_laws::<PartyInfo>();
     keeps_the_laws::<SuppPubInfo>();
     keeps_the_laws::<CoseKdfContext>();
+}
+
+/// Applies the laws to every type with a tag.
+fn every_tagged_type_keeps_the_laws() {
     keeps_the_laws_when_tagged::<CoseCountersignature>();
     keeps_the_laws_when_tagged::<CoseSign>();
     keeps_the_laws_when_tagged::<CoseSign1>();
@@ -143,6 +154,10 @@ pub fn every_type_keeps_the_laws() {
     keeps_the_laws_when_tagged::<CoseMac0>();
     keeps_the_laws_when_tagged::<CoseEncrypt>();
     keeps_the_laws_when_tagged::<CoseEncrypt0>();
+}
+
+/// Applies the law of equality to every type that implements `Codec`.
+fn every_codec_keeps_the_law_of_equality() {
     keeps_the_law_of_equality::<Header>();
     keeps_the_law_of_equality::<ProtectedHeader>();
     keeps_the_law_of_equality::<CoseSignature>();

@@ -89,13 +89,16 @@ pub fn names_key(header: &Header, key_id: &[u8]) -> bool
     header.key_id.as_slice() == key_id
 }
 
-/// Returns true if one of the two headers names this key (`kid`, RFC 8152, section 3.1).
+/// Returns true if the headers name this key (`kid`, RFC 8152, section 3.1).
 ///
-/// RFC 8152, section 3, takes the identifier from the protected header first. This function takes
-/// either.
+/// The identifier of the unprotected header counts only if the protected header has none (RFC 8152,
+/// section 3).
 pub fn one_names_key(protected: &ProtectedHeader, unprotected: &Header, key_id: &[u8]) -> bool
     ensures { result ≡ one_names_key key_id.now (protected_view protected.now)
         (header_view unprotected.now) }
 {
-    names_key(&protected.header, key_id) || names_key(unprotected, key_id)
+    if protected.header.key_id.is_empty() {
+        return names_key(unprotected, key_id);
+    }
+    names_key(&protected.header, key_id)
 }

@@ -4,15 +4,16 @@
 ghost use Rattle.std.specs.Prelude.{◌≡◌, map, option_map};
 ghost use Rattle.coset_iana.specs.Algorithm as algorithms;
 ghost use Rattle.coset_label.specs.LabelData.{assigned};
+ghost use Rattle.coset_core.specs.Views.{header_view};
 ghost use Rattle.coset_recipient.specs.Encrypt.{encrypt_view};
 ghost use Rattle.coset_recipient.specs.RecipientViews.{recipient_view};
-ghost use Rattle.example_uses.specs.Recipients.{DecryptsFor, EncryptsFor, GivesKey, WrapsFor, is_to, recipient_by};
+ghost use Rattle.example_uses.specs.Recipients.{DecryptsFor, EncryptsFor, GivesKey, WrapsFor, is_to, misuses_key_wrap, names_key_wrap, recipient_by};
 
-use crate::headers::one_names_key;
+use crate::headers::{has_algorithm, one_names_key};
 use coset::iana::Algorithm;
 use coset::{
     CallError, CborSerializable, CoseEncrypt, CoseEncryptBuilder, CoseError, CoseRecipient,
-    CoseRecipientBuilder, EncryptionContext, HeaderBuilder,
+    CoseRecipientBuilder, EncryptionContext, Header, HeaderBuilder,
 };
 use coset_recipient::laws::structures_when_read;
 use std::alloc::Global;
@@ -83,7 +84,7 @@ where
     Ok(sealed.build().to_vec(alloc)?)
 }
 
-/// Returns true if a header of the recipient names this key.
+/// Returns true if the headers of the recipient name this key.
 fn is_to(recipient: &CoseRecipient, key_id: &[u8]) -> bool
     ensures { result ≡ is_to key_id.now (recipient_view recipient.now) }
 {
@@ -98,13 +99,32 @@ fn find_recipient<'a>(recipients: &'a [CoseRecipient], key_id: &[u8]) -> Option<
     recipients.iter().find(|recipient| is_to(recipient, key_id))
 }
 
+/// Returns true if the header names AES Key Wrap.
+fn names_key_wrap(header: &Header) -> bool
+    ensures { result ≡ names_key_wrap (header_view header.now) }
+{
+    has_algorithm(header, Algorithm::A128KW)
+        || has_algorithm(header, Algorithm::A192KW)
+        || has_algorithm(header, Algorithm::A256KW)
+}
+
+/// Returns true if the recipient names AES Key Wrap, and its protected header isn't empty. This
+/// algorithm authenticates no header (RFC 8152, section 12.2.1).
+fn misuses_key_wrap(recipient: &CoseRecipient) -> bool
+    ensures { result ≡ misuses_key_wrap (recipient_view recipient.now) }
+{
+    !recipient.protected.is_empty()
+        && (names_key_wrap(&recipient.protected.header) || names_key_wrap(&recipient.unprotected))
+}
+
 /// Returns the content key, which `unwrap` makes from the ciphertext of the first recipient whose
 /// headers name this key.
 ///
 /// # Errors
 /// - `OutOfMemory` if an allocation fails.
 /// - `DuplicateMapKey` if the recipient wasn't read, and its protected header repeats a label.
-/// - `Caller` with `absent` if no recipient names the key, or the recipient has no ciphertext.
+/// - `Caller` with `absent` if no recipient names the key, or the recipient has no ciphertext. The
+///   same if it names AES Key Wrap, and its protected header isn't empty.
 /// - `Caller` with the error of `unwrap`.
 pub fn content_key<F, E>(
     alloc: Global,
@@ -125,6 +145,9 @@ where
     if recipient.ciphertext.is_none() {
         return Err(CallError::Caller(absent));
     }
+    if misuses_key_wrap(recipient) {
+        return Err(CallError::Caller(absent));
+    }
     recipient.decrypt(alloc, EncryptionContext::EncRecipient, &[], unwrap)
 }
 
@@ -138,7 +161,7 @@ where
 /// - A fault in bytes that aren't an encrypted message with recipients.
 /// - `UnexpectedItem` if the message has no ciphertext.
 /// - `OutOfMemory` if an allocation fails.
-/// - `Caller` with `absent` if no recipient names the key, or the recipient has no ciphertext.
+/// - `Caller` with `absent` in the cases of [`content_key`].
 /// - `Caller` with the error of the closure that refused.
 pub fn decrypt_for<F, G, E>(
     alloc: Global,

@@ -68,7 +68,7 @@ where
     Ok(twice.build().to_vec(alloc)?)
 }
 
-/// Returns true if a header of the signature names this key.
+/// Returns true if the headers of the signature name this key.
 fn is_by(signature: &CoseSignature, key_id: &[u8]) -> bool
     ensures { result ≡ is_by key_id.now (signature_view signature.now) }
 {

@@ -86,6 +86,12 @@ fn a_countersignature_that_is_verified(rt: HostRuntime) -> Result<(), Fail> {
     );
     let message = message.ok().ok_or("refused")?;
     assert!(rt; message.payload.as_deref() == Some(b"This is the content.".as_slice()));
+    Ok(())
+}
+
+#[test]
+fn countersignatures_that_are_refused(rt: HostRuntime) -> Result<(), Fail> {
+    let alloc = rt.alloc();
     let other_aad = verify_countersigned(
         alloc,
         COUNTERSIGNED,

@@ -126,6 +126,32 @@ fn a_message_that_is_decrypted(rt: HostRuntime) -> Result<(), Fail> {
     Ok(())
 }
 
+/// Messages to a recipient that names AES Key Wrap. Their protected headers are `{1: -3}` and
+/// `{3: 0}`, and the empty map.
+const ALGORITHM_PROTECTED: &[u8] = b"\x84\x40\xa0\x41c\x81\x83\x43\xa1\x01\x22\xa1\x04\x43kek\x41w";
+
+const OTHER_PROTECTED: &[u8] =
+    b"\x84\x40\xa0\x41c\x81\x83\x43\xa1\x03\x00\xa2\x01\x22\x04\x43kek\x41w";
+
+const EMPTY_MAP: &[u8] = b"\x84\x40\xa0\x41c\x81\x83\x41\xa0\xa2\x01\x22\x04\x43kek\x41w";
+
+/// A message to a recipient with AES-GCM, which its protected header names.
+const AUTHENTICATED: &[u8] = b"\x84\x40\xa0\x41c\x81\x83\x43\xa1\x01\x01\xa1\x04\x43kek\x41w";
+
+#[test]
+fn key_wrap_with_a_protected_header(rt: HostRuntime) -> Result<(), Fail> {
+    let alloc = rt.alloc();
+    for message in [ALGORITHM_PROTECTED, OTHER_PROTECTED] {
+        let misused = decrypt(alloc, message, b"kek", b"");
+        assert!(rt; matches!(misused, Err(CallError::Caller(Refused::OutOfMemory))));
+    }
+    for message in [EMPTY_MAP, AUTHENTICATED] {
+        let tried = decrypt(alloc, message, b"kek", b"");
+        assert!(rt; matches!(tried, Err(CallError::Caller(Refused::Rejected))));
+    }
+    Ok(())
+}
+
 #[test]
 fn a_content_key(rt: HostRuntime) -> Result<(), Fail> {
     let alloc = rt.alloc();

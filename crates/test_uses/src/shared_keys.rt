@@ -55,7 +55,7 @@ const ODD: [&[u8]; 3] = [
 ];
 
 #[test]
-fn messages_that_are_refused(rt: HostRuntime) -> Result<(), Fail> {
+fn messages_that_name_no_key(rt: HostRuntime) -> Result<(), Fail> {
     let alloc = rt.alloc();
     for message in ODD {
         let odd = verify_for(
@@ -77,6 +77,12 @@ fn messages_that_are_refused(rt: HostRuntime) -> Result<(), Fail> {
         |_: &[u8], _: &[u8]| Ok(()),
     );
     assert!(rt; matches!(nobodys, Err(CallError::Caller(Refused::OutOfMemory))));
+    Ok(())
+}
+
+#[test]
+fn messages_that_are_refused(rt: HostRuntime) -> Result<(), Fail> {
+    let alloc = rt.alloc();
     let refused = verify_for(
         alloc,
         MESSAGE,

@@ -100,6 +100,12 @@ fn signatures_by_their_keys(rt: HostRuntime) -> Result<(), Fail> {
         |s: &[u8], tbs: &[u8]| are((s, tbs), (FIRST, FIRST_TBS)),
     );
     assert!(rt; first.is_ok());
+    Ok(())
+}
+
+#[test]
+fn signatures_that_are_refused(rt: HostRuntime) -> Result<(), Fail> {
+    let alloc = rt.alloc();
     let nobodys = verify_by(
         alloc,
         MESSAGE,
@@ -148,5 +154,33 @@ fn a_key_that_the_protected_header_names(rt: HostRuntime) -> Result<(), Fail> {
         |s: &[u8], tbs: &[u8]| are((s, tbs), (b"s", PROTECTED_TBS)),
     );
     assert!(rt; message.is_ok());
+    Ok(())
+}
+
+/// The same signature with another key in the unprotected header:
+/// `[h'', {}, 'p', [[h'a104416b', {4: 'l'}, 's']]]`.
+const TWO_KEYS: &[u8] = b"\x84\x40\xa0\x41p\x81\x83\x44\xa1\x04\x41k\xa1\x04\x41l\x41s";
+
+#[test]
+fn the_protected_header_names_the_key(rt: HostRuntime) -> Result<(), Fail> {
+    let alloc = rt.alloc();
+    let protected = verify_by(
+        alloc,
+        TWO_KEYS,
+        b"k",
+        b"",
+        Refused::OutOfMemory,
+        |s: &[u8], tbs: &[u8]| are((s, tbs), (b"s", PROTECTED_TBS)),
+    );
+    assert!(rt; protected.is_ok());
+    let unprotected = verify_by(
+        alloc,
+        TWO_KEYS,
+        b"l",
+        b"",
+        Refused::OutOfMemory,
+        |_: &[u8], _: &[u8]| Ok(()),
+    );
+    assert!(rt; matches!(unprotected, Err(CallError::Caller(Refused::OutOfMemory))));
     Ok(())
 }

@@ -30,7 +30,13 @@ returns-then-is_none g c =
     let found = sought c.args.key_id.now _ _ _ c.deref.ensures.value c.find_recipient.ensures ∙ ap (option_map (λ r. recipient_view r.now)) c.in-Some.is in
     let none : (recipient_view r).ciphertext ≡ None = ap (λ x. x.ciphertext) (recipient-unrolled r)
     ∙ missing (out-CoseRecipient r).ciphertext c.is_none.result c.is_none.ensures c.if-is_none.true in
-    inl (inr (recipient_view r, found, none), refl)
+    inl (inr (recipient_view r, found, inl none), refl)
+
+pub returns-then-misuses_key_wrap : goal.returns-then-misuses_key_wrap
+returns-then-misuses_key_wrap g c =
+    let r = recipient_view c.in-Some.recipient.now in
+    let found = sought c.args.key_id.now _ _ _ c.deref.ensures.value c.find_recipient.ensures ∙ ap (option_map (λ r. recipient_view r.now)) c.in-Some.is in
+    inl (inr (r, found, inr (sym c.misuses_key_wrap.ensures ∙ c.if-misuses_key_wrap.true)), refl)
 
 carried : (r : CoseRecipient) (b : Bool) → is_some (out-CoseRecipient r).ciphertext ≡ not b → b ≡ false → (recipient_view r).ciphertext ≡ None → ⊥
 carried r b e some none = there (out-CoseRecipient r).ciphertext b e some (sym (ap (λ x. x.ciphertext) (recipient-unrolled r)) ∙ none)
@@ -44,4 +50,5 @@ returns g c =
     let found = sought c.args.key_id.now _ _ _ c.deref.ensures.value c.find_recipient.ensures ∙ ap (option_map (λ r. recipient_view r.now)) c.in-Some.is in
     let asked = when_some (λ w. CallsWith g.F.FnOnce c.args.unwrap w (wrap_structure r) c.decrypt.result) r.ciphertext
     (carried c.in-Some.recipient.now c.is_none.result c.is_none.ensures c.if-is_none.false) c.decrypt.ensures in
-    key_given g.F.FnOnce c.args.unwrap c.args.absent c.args.key_id.now (encrypt_view c.args.message.now) r asked.0 c.decrypt.result found asked.1 asked.2
+    key_given g.F.FnOnce c.args.unwrap c.args.absent c.args.key_id.now (encrypt_view c.args.message.now) r asked.0 c.decrypt.result found asked.1
+    (sym c.misuses_key_wrap.ensures ∙ c.if-misuses_key_wrap.false) asked.2
