@@ -57,7 +57,7 @@ def answers(program, form, some, now):
             words += [kind, name]
         moment = [] if now is None else [f"--now={now}"]
         ran = subprocess.run([program, *FORMS[form], *moment, *words], capture_output=True, check=False)
-        _, *found = re.split("|".join(f"^# {re.escape(name)}\n" for name in reversed(names)), ran.stdout.decode(), flags=re.M)
+        _, *found = re.split("|".join("^/ " + re.escape(name.replace("/", "//")) + " /\n" for name in reversed(names)), ran.stdout.decode(), flags=re.M)
         return found
 
 
