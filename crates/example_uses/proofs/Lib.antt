@@ -16,4 +16,5 @@ pub mod Refusing
 pub mod SharedKeys
 pub mod Signing
 pub mod Spellings
+pub mod Tried
 pub mod Unwrapping

@@ -1,11 +1,10 @@
-//! Keys for letting in web tokens: a set of keys, each found by the identifier in a layer's
-//! headers.
+//! Keys for letting in web tokens: a set of keys, found by the identifier in a layer's headers.
 
 ghost use Rattle.std.specs.Prelude.{ℕ, List, IfOk};
 ghost use Rattle.coset_key.specs.Keys.{KeyView, key_view};
 
 use crate::cipher::Refused;
-use crate::find_key::find_key;
+use crate::find_key::try_keys;
 use coset::{CoseKey, CoseKeySet};
 use cwt_gate::{Form, Keys, Sealed};
 use std::alloc::Global;
@@ -51,11 +50,11 @@ pub trait TokenCipher {
             decrypts self.now (key_view key.now) aad.now ciphertext.now p.items) };
 }
 
-/// A set of keys, and the ciphers for them. Only the first key with the identifier of a layer is
-/// tried.
+/// A set of keys, and the ciphers for them. The keys with the identifier of a layer are tried in
+/// order, until one isn't rejected.
 #[derive(Drop)]
 pub struct TokenKeys<'a, C> {
-    /// The keys. The first one without an identifier is for layers that name no key.
+    /// The keys. Those without an identifier are for layers that name no key.
     pub keys: &'a CoseKeySet,
     /// The ciphers.
     pub cipher: C,
@@ -75,25 +74,21 @@ impl<C: TokenCipher> Keys for TokenKeys<'_, C> {
     }
 
     fn verify(&self, sealed: &Sealed<'_>) -> Result<(), Refused> {
-        match find_key(self.keys, sealed.key_id()) {
-            Some(key) => self.cipher.verify(key, sealed.proof, sealed.structure),
-            None => Err(Refused::Rejected),
-        }
+        try_keys(self.keys, sealed.key_id(), |key| {
+            self.cipher.verify(key, sealed.proof, sealed.structure)
+        })
     }
 
     fn verify_tag(&self, sealed: &Sealed<'_>) -> Result<(), Refused> {
-        match find_key(self.keys, sealed.key_id()) {
-            Some(key) => self.cipher.verify_tag(key, sealed.proof, sealed.structure),
-            None => Err(Refused::Rejected),
-        }
+        try_keys(self.keys, sealed.key_id(), |key| {
+            self.cipher.verify_tag(key, sealed.proof, sealed.structure)
+        })
     }
 
     fn decrypt(&self, alloc: Global, sealed: &Sealed<'_>) -> Result<Vec<u8>, Refused> {
-        match find_key(self.keys, sealed.key_id()) {
-            Some(key) => self
-                .cipher
-                .decrypt(alloc, key, sealed.proof, sealed.structure),
-            None => Err(Refused::Rejected),
-        }
+        try_keys(self.keys, sealed.key_id(), move |key| {
+            self.cipher
+                .decrypt(alloc, key, sealed.proof, sealed.structure)
+        })
     }
 }
