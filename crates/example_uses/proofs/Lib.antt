@@ -4,6 +4,7 @@ pub mod Asked
 pub mod Attested
 pub mod Calls
 pub mod Countersigned
+pub mod EachRead
 pub mod Found
 pub mod Issued
 pub mod KeySets

@@ -16,6 +16,7 @@ pub mod MadeKeys
 pub mod Oscore
 pub mod Parameters
 pub mod Readable
+pub mod ReadableParts
 pub mod Recipients
 pub mod Refusals
 pub mod Sequence

@@ -22,6 +22,7 @@ pub mod made_keys;
 pub mod oscore;
 pub mod parameters;
 pub mod readable;
+pub mod readable_parts;
 pub mod recipients;
 pub mod sequences;
 pub mod shared_key;

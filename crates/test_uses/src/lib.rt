@@ -23,6 +23,8 @@ mod parts;
 #[cfg(test)]
 mod question_marks;
 #[cfg(test)]
+mod readable_parts;
+#[cfg(test)]
 mod readings;
 #[cfg(test)]
 mod recipients;
