@@ -110,11 +110,11 @@ def misplaced():
 
 
 def other_kit():
-    """Yields the pages that name another kit than the installed one."""
+    """Yields the pages that name another kit than the installed one (`common.is_kit`)."""
     installed = common.rt("version")
     for page in pages():
         for named in sorted(set(re.findall(r"rattle-kit-\w+(?: logic \w+)?", read(page)))):
-            if page != "CHANGELOG.md" and not installed.startswith(named):
+            if page != "CHANGELOG.md" and not common.is_kit(named, installed):
                 yield f"{page}: {named} is named, and {installed} is installed"
 
 
