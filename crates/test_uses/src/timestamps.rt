@@ -22,10 +22,11 @@ const WHOLE: &[(i64, &str)] = &[
     (253_402_300_800, "253402300800 seconds since 1970"),
 ];
 
-/// The bits of doubles, and the date.
+/// The bits of doubles, and the date. A part of a microsecond is left out, as of -1e-20 seconds.
 const FRACTIONAL: &[(u64, &str)] = &[
     (0x41d5_8452_8420_0000, "2015-10-04T15:47:28.500000Z"),
     (0xbfd0_0000_0000_0000, "1969-12-31T23:59:59.750000Z"),
+    (0xbbc7_9ca1_0c92_4223, "1969-12-31T23:59:59.999999Z"),
     (0x7ff0_0000_0000_0000, "inf seconds since 1970"),
     (0x7ff8_0000_0000_0000, "NaN seconds since 1970"),
 ];
