@@ -283,6 +283,10 @@ impl Registry for Algorithm {
 
     ghost has_each = { elim [ RS1 ↦ refl | _ ↦ refl ] };
 
+    const NEGATIVES: i64 = 61;
+
+    const LAST_NEGATIVE: i64 = -3;
+
     fn values() -> &'static [Algorithm] {
         &ALGORITHMS
     }

@@ -245,6 +245,10 @@ impl Registry for CwtClaimName {
 
     ghost has_each = { elim [ GlobalPlatformComponents ↦ refl | _ ↦ refl ] };
 
+    const NEGATIVES: i64 = 5;
+
+    const LAST_NEGATIVE: i64 = -257;
+
     fn values() -> &'static [CwtClaimName] {
         &CWT_CLAIM_NAMES
     }

@@ -221,6 +221,8 @@ impl Registry for HeaderAlgorithmParameter {
 
     ghost has_each = { elim [ X5ChainSender ↦ refl | _ ↦ refl ] };
 
+    const NEGATIVES: i64 = 13;
+
     fn values() -> &'static [HeaderAlgorithmParameter] {
         &HEADER_ALGORITHM_PARAMETERS
     }

@@ -39,6 +39,8 @@ impl Registry for OkpKeyParameter {
 
     ghost has_each = { elim [ Crv ↦ refl | _ ↦ refl ] };
 
+    const NEGATIVES: i64 = 3;
+
     fn values() -> &'static [OkpKeyParameter] {
         &OKP_KEY_PARAMETERS
     }
@@ -106,6 +108,8 @@ impl Registry for Ec2KeyParameter {
     ghost ascending = { refl };
 
     ghost has_each = { elim [ Crv ↦ refl | _ ↦ refl ] };
+
+    const NEGATIVES: i64 = 4;
 
     fn values() -> &'static [Ec2KeyParameter] {
         &EC2_KEY_PARAMETERS
@@ -200,6 +204,8 @@ impl Registry for RsaKeyParameter {
 
     ghost has_each = { elim [ N ↦ refl | _ ↦ refl ] };
 
+    const NEGATIVES: i64 = 12;
+
     fn values() -> &'static [RsaKeyParameter] {
         &RSA_KEY_PARAMETERS
     }
@@ -266,6 +272,8 @@ impl Registry for SymmetricKeyParameter {
 
     ghost has_each = { elim [ K ↦ refl ] };
 
+    const NEGATIVES: i64 = 1;
+
     fn values() -> &'static [SymmetricKeyParameter] {
         &SYMMETRIC_KEY_PARAMETERS
     }
@@ -320,6 +328,8 @@ impl Registry for HssLmsKeyParameter {
     ghost ascending = { refl };
 
     ghost has_each = { elim [ Pub ↦ refl ] };
+
+    const NEGATIVES: i64 = 1;
 
     fn values() -> &'static [HssLmsKeyParameter] {
         &HSS_LMS_KEY_PARAMETERS
@@ -393,6 +403,8 @@ impl Registry for WalnutDsaKeyParameter {
 
     ghost has_each = { elim [ N ↦ refl | _ ↦ refl ] };
 
+    const NEGATIVES: i64 = 6;
+
     fn values() -> &'static [WalnutDsaKeyParameter] {
         &WALNUT_DSA_KEY_PARAMETERS
     }
@@ -454,6 +466,8 @@ impl Registry for AkpKeyParameter {
     ghost ascending = { refl };
 
     ghost has_each = { elim [ Pub ↦ refl | _ ↦ refl ] };
+
+    const NEGATIVES: i64 = 2;
 
     fn values() -> &'static [AkpKeyParameter] {
         &AKP_KEY_PARAMETERS

@@ -339,6 +339,8 @@ impl Registry for KeyOperation {
 
     ghost has_each = { elim [ Sign ↦ refl | _ ↦ refl ] };
 
+    const FIRST: i64 = 1;
+
     fn values() -> &'static [KeyOperation] {
         &KEY_OPERATIONS
     }

@@ -53,6 +53,8 @@ impl Registry for CborTag {
 
     ghost has_each = { elim [ CoseEncrypt0 ↦ refl | _ ↦ refl ] };
 
+    const FIRST: i64 = 16;
+
     fn values() -> &'static [CborTag] {
         &CBOR_TAGS
     }
