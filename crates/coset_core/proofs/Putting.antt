@@ -1,12 +1,10 @@
 -- Adding a pair to a header, by its label.
 use Rattle.std.proofs.Common.{◌≡◌, ℕ, ℤ, pos, map, List, [], ◌∷◌, ◌++◌, Option, Bool, ◌||◌}
-use Rattle.std.proofs.Common.{false, true, refl, sym, ◌∙◌, ap, subst, ◌⊎◌, inl, inr, Result, Ok, Err}
-use Rattle.std.proofs.lemmas.Bool.{true≢false}
+use Rattle.std.proofs.Common.{false, true, refl, sym, subst, ◌⊎◌, inl, inr, Result, Ok, Err}
 use Rattle.std.specs.Ordering.{int_eq}
 use Rattle.std.specs.Prelude.{IfErr, OnOk}
 use Rattle.coset_value.specs.Item.{Item}
-use Rattle.coset_codec.specs.Maps.{Fields, optional, unless_empty, IfThenElse, is_core, Adds, Refuses, TakesValue}
-use Rattle.coset_codec.specs.MapLaws.{core_apart, not_same}
+use Rattle.coset_codec.specs.Maps.{Fields, optional, unless_empty, IfThenElse, Adds, Refuses, TakesValue}
 use Rattle.coset_codec.specs.Errors.{UnlessMemory}
 use Rattle.coset_codec.specs.declared.error.CoseError.{CoseError}
 use Rattle.coset_codec.specs.Shape.{any, bstr, some_of, nonempty_bstr}
@@ -16,12 +14,10 @@ use Rattle.coset_label.specs.LabelLaws.{cose_labels_laws}
 use Rattle.coset_label.proofs.Apart.{numbers_apart}
 use Rattle.coset_core.specs.FieldLabels as labels
 use Rattle.coset_core.specs.Headers.{SignatureView, no_signatures, signatures_of}
-use Rattle.coset_core.specs.Filling.{GoesTo, NamesNoVersion, label_of}
+use Rattle.coset_core.specs.Filling.{GoesTo, label_of}
 use Rattle.coset_core.specs.Fields.{critical, content_type, FieldsView, PerVersion, FieldTuple, fields, excludes, parts_of}
-use Rattle.coset_core.specs.declared.header.reading.Field.{Field}
-use Rattle.coset_core.specs.declared.header.reading.Field.TheVariants.{Alg, Crit, ContentType, KeyId, Iv, PartialIv, Signatures, Countersignature0V2, Rest}
+use Rattle.coset_core.specs.declared.header.reading.Field.TheVariants.{Rest}
 use Rattle.coset_core.specs.declared.header.reading.CountersignatureVersion.{CountersignatureVersion}
-use Rattle.coset_core.specs.declared.header.reading.CountersignatureVersion.TheVariants.{V1, V2}
 
 abbrev F : Fields LabelView (FieldTuple (Option Item))
 F = fields (optional any) (optional any)
@@ -50,26 +46,7 @@ adds_rest m v x y other same rest =
 
 -- ---- the labels of counter signatures
 
--- A label of any other field is that of no version.
-pub no_version : (m : LabelView) (f : Field) → ((version : CountersignatureVersion) → f ≡ Signatures version → ⊥) → GoesTo m f → NamesNoVersion m
-no_version m Alg h e = rw e (refl, refl)
-no_version m Crit h e = rw e (refl, refl)
-no_version m ContentType h e = rw e (refl, refl)
-no_version m KeyId h e = rw e (refl, refl)
-no_version m Iv h e = rw e (refl, refl)
-no_version m PartialIv h e = rw e (refl, refl)
-no_version m (Signatures version) h e = absurd (h version refl)
-no_version m Countersignature0V2 h e = rw e (refl, refl)
-no_version m Rest h e = (apart labels.counter_signature refl, apart labels.countersignature_v2 refl)
-  where
-    apart : (l : LabelView) → is_core cose_labels F.labels l ≡ true → same_label l m ≡ false
-    apart l there = not_same cose_labels cose_labels_laws l m (λ same. core_apart cose_labels cose_labels_laws F.labels m l e there (sym same))
-
--- A label of no version is not the label of a version.
-pub not_version : (m : LabelView) (version : CountersignatureVersion) → NamesNoVersion m → m ≡ label_of version → ⊥
-not_version m V1 h e = true≢false (sym (cose_labels_laws.same_self labels.counter_signature) ∙ (ap (same_label labels.counter_signature) (sym e) ∙ h.0))
-not_version m V2 h e = true≢false (sym (cose_labels_laws.same_self labels.countersignature_v2) ∙ (ap (same_label labels.countersignature_v2) (sym e) ∙ h.1))
-
+-- A version's label is found by comparing labels.
 pub of_version : (m : LabelView) (version : CountersignatureVersion) → m ≡ label_of version → same_label (label_of version) m ≡ true
 of_version m version e = rw e (cose_labels_laws.same_self (label_of version))
 

@@ -19,7 +19,9 @@ use Rattle.coset_core.specs.Headers.{SignatureView, layered_protected, layered_s
 use Rattle.coset_core.specs.Views.{countersignature_view, signature_view}
 use Rattle.coset_core.specs.declared.header.Header.{Header}
 use Rattle.coset_core.specs.declared.header.reading.Field.{Field}
-use Rattle.coset_core.specs.declared.header.reading.Field.TheVariants.{Alg, Crit, ContentType, KeyId, Iv, PartialIv, Signatures, Countersignature0V2, Rest}
+use Rattle.coset_core.specs.declared.header.reading.Field.TheVariants.{Alg, Crit, ContentType, KeyId, Iv, PartialIv, Countersignature0V2, Rest}
+use Rattle.coset_core.specs.declared.header.reading.Place.{Place}
+use Rattle.coset_core.specs.declared.header.reading.Place.TheVariants.{Simple, Signatures}
 use Rattle.coset_core.specs.declared.header.reading.CountersignatureVersion.{CountersignatureVersion}
 use Rattle.coset_core.specs.declared.header.reading.CountersignatureVersion.TheVariants.{V1, V2}
 
@@ -38,10 +40,6 @@ abbrev pub with_version : {A : Type 0} → CountersignatureVersion → A → Per
 with_version V1 a x = (a, x.1)
 with_version V2 a x = (x.0, a)
 
--- The label is that of no version: neither 7 nor 11.
-abbrev pub NamesNoVersion : LabelView → Type 0
-NamesNoVersion m = (same_label labels.counter_signature m ≡ false) × (same_label labels.countersignature_v2 m ≡ false)
-
 -- A pair with the label m goes to this field.
 abbrev pub GoesTo : LabelView → Field → Type 0
 GoesTo m Alg = m ≡ labels.alg
@@ -50,9 +48,13 @@ GoesTo m ContentType = m ≡ labels.content_type
 GoesTo m KeyId = m ≡ labels.kid
 GoesTo m Iv = m ≡ labels.iv
 GoesTo m PartialIv = m ≡ labels.partial_iv
-GoesTo m (Signatures version) = m ≡ label_of version
 GoesTo m Countersignature0V2 = m ≡ labels.countersignature0_v2
 GoesTo m Rest = is_core cose_labels (fields (optional any) (optional any)).labels m ≡ false
+
+-- A pair with the label m has this place.
+abbrev pub HasPlace : LabelView → Place → Type 0
+HasPlace m (Simple field) = GoesTo m field
+HasPlace m (Signatures version) = m ≡ label_of version
 
 -- The pairs of a map before ps make the fields f, and o are their values of labels 7 and 11.
 abbrev pub WalksTo : Pairs → FieldsView → PerVersion (Option Item) → Pairs → Type 0

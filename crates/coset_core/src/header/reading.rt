@@ -5,7 +5,7 @@
 //! Each reader leaves the input just after its item, also on an error, so each byte is read once at
 //! any depth. Each protected header's byte string uses up one of `layers`.
 
-ghost use Rattle.std.specs.Prelude.{MatchOption, ◌≡◌, ◌≢◌, [], map, OnOk, IfOk, IfErr, ◌⊎◌, ◌≤◌, ◌<◌, Option, true, false, IsSome, IsErrAnd, OnErr, Err, Some};
+ghost use Rattle.std.specs.Prelude.{◌≡◌, ◌≢◌, [], map, OnOk, IfOk, IfErr, ◌⊎◌, ◌≤◌, ◌<◌, Option, true, false, IsSome, IsErrAnd, OnErr, Err, Some};
 ghost use Rattle.coset_value.specs.Item.{Item, Pairs, dict};
 ghost use Rattle.coset_codec.specs.declared.error.CoseError.TheVariants as errors;
 ghost use Rattle.coset_codec.specs.declared.error.CoseError.TheVariants.{DuplicateMapKey};
@@ -16,13 +16,12 @@ ghost use Rattle.coset_codec.specs.Maps.{Adds, Refuses, RefusesValue, TakesValue
 ghost use Rattle.coset_codec.specs.Shape.{any, nonempty_bstr, any_number, one_or_many};
 ghost use Rattle.coset_codec.specs.declared.read.decoder.MapEntries.{MapEntries};
 ghost use Rattle.coset_label.specs.Labels.{cose_labels};
-ghost use Rattle.coset_label.specs.LabelData.{same_label};
 ghost use Rattle.coset_label.specs.LabelData.{number};
 ghost use Rattle.coset_label.specs.Views.{label_view};
 ghost use Rattle.coset_core.specs.FieldViews.{fields_view, signature_lists};
 ghost use Rattle.coset_core.specs.Views.{header_view, signature_view};
 ghost use Rattle.coset_core.specs.Fields.{FieldsView, PerVersion, fields, parts_of, HasOneIv, excludes};
-ghost use Rattle.coset_core.specs.Filling.{FillsFields, FillsSome, GoesTo, Keeps, NamesNoVersion, WalksTo, signatures_of_version, label_of};
+ghost use Rattle.coset_core.specs.Filling.{FillsFields, FillsSome, GoesTo, HasPlace, Keeps, WalksTo, signatures_of_version};
 ghost use Rattle.coset_core.specs.Headers.{empty_header, layered_header, layered_signature};
 ghost use Rattle.coset_core.specs.OneOrMore.{EntersOnes};
 
@@ -75,7 +74,8 @@ pub(crate) enum CountersignatureVersion {
     V2,
 }
 
-/// A field of a header, by its label (RFC 8152, section 3.1; RFC 9338, section 2).
+/// A field of a header, by its label (RFC 8152, section 3.1; RFC 9338, section 2). Labels 7 and 11
+/// are left out: their values have headers of their own.
 #[derive(Clone, Copy)]
 pub(crate) enum Field {
     /// Label 1.
@@ -90,48 +90,45 @@ pub(crate) enum Field {
     Iv,
     /// Label 6.
     PartialIv,
-    /// Label 7 or 11.
-    Signatures(CountersignatureVersion),
     /// Label 12.
     Countersignature0V2,
     /// Any other label.
     Rest,
 }
 
-/// Returns the field for a pair with this label.
-fn field_of(label: &Label) -> Field
-    ensures { GoesTo (label_view label.now) result }
+/// The place of a pair in a header, by its label.
+#[derive(Clone, Copy)]
+pub(crate) enum Place {
+    /// A field that has no headers of its own.
+    Simple(Field),
+    /// The counter signatures of label 7 or 11.
+    Signatures(CountersignatureVersion),
+}
+
+/// Returns the place for a pair with this label.
+fn place_of(label: &Label) -> Place
+    ensures { HasPlace (label_view label.now) result }
 {
     let Label::Int(number) = label else {
-        return Field::Rest;
+        return Place::Simple(Field::Rest);
     };
-    match *number {
+    let field = match *number {
         1 => Field::Alg,
         2 => Field::Crit,
         3 => Field::ContentType,
         4 => Field::KeyId,
         5 => Field::Iv,
         6 => Field::PartialIv,
-        7 => Field::Signatures(CountersignatureVersion::V1),
-        11 => Field::Signatures(CountersignatureVersion::V2),
+        7 => return Place::Signatures(CountersignatureVersion::V1),
+        11 => return Place::Signatures(CountersignatureVersion::V2),
         12 => Field::Countersignature0V2,
         _ => Field::Rest,
-    }
+    };
+    Place::Simple(field)
 }
 
-/// Returns the version of the counter signatures with this label, or `None` for any other label.
-fn version_of(label: &Label) -> Option<CountersignatureVersion>
-    ensures { MatchOption result (NamesNoVersion (label_view label.now))
-        (λ version. same_label (label_of version) (label_view label.now) ≡ true) }
-{
-    match field_of(label) {
-        Field::Signatures(version) => Some(version),
-        _ => None,
-    }
-}
-
-/// Reads the value under `label` into the header. The label must not be 7 or 11. Repeated labels in
-/// `rest` are not checked here.
+/// Reads the value under `label` into `field`, which must be the field of that label. Repeated
+/// labels in `rest` are not checked here.
 ///
 /// # Errors
 /// - `OutOfMemory` if an allocation fails.
@@ -143,10 +140,11 @@ fn version_of(label: &Label) -> Option<CountersignatureVersion>
 fn set_parameter(
     header: &mut Header,
     alloc: Global,
+    field: Field,
     label: Label,
     input: &mut Decoder<'_>,
 ) -> Result<()>
-    requires other { NamesNoVersion (label_view label) }
+    requires goes { GoesTo (label_view label) field }
     requires one_iv { HasOneIv (fields_view header.old) }
     ensures shrinks { length_left (state input.new) ≤ length_left (state input.old) }
     ensures takes { (o : PerVersion (Option Item)) → ReadsAt (state input.old) (state input.new)
@@ -162,7 +160,7 @@ fn set_parameter(
     ensures one_iv { HasOneIv (fields_view header.new) }
     ensures others { signature_lists header.new ≡ signature_lists header.old }
 {
-    match field_of(&label) {
+    match field {
         Field::Alg => set_field(alloc, &mut header.alg, input),
         Field::Crit => set_critical(alloc, &mut header.crit, input),
         Field::ContentType => set_content_type(alloc, &mut header.content_type, input),
@@ -170,7 +168,6 @@ fn set_parameter(
         Field::Iv => set_iv(alloc, &mut header.iv, &header.partial_iv, input),
         Field::PartialIv => set_iv(alloc, &mut header.partial_iv, &header.iv, input),
         Field::Countersignature0V2 => { set_field(alloc, &mut header.countersignature0_v2, input) }
-        Field::Signatures(_) => unreachable!(),
         Field::Rest => {
             let value = input.value(alloc)?;
             header.rest.push((label, value))?;
@@ -207,10 +204,10 @@ fn fill_until_signatures(
         → FillsSome all o z (fields_view header.new) (state input.new) pairs.new result }
 {
     while let Some(label) = pairs.next_key::<Label>(alloc, input)? {
-        if let Some(version) = version_of(&label) {
-            return Ok(Some(version));
+        match place_of(&label) {
+            Place::Simple(field) => set_parameter(header, alloc, field, label, input)?,
+            Place::Signatures(version) => return Ok(Some(version)),
         }
-        set_parameter(header, alloc, label, input)?;
     }
     Ok(None)
 }

@@ -1,6 +1,6 @@
 use Rattle.std.proofs.Common.{refl, rules}
 use Rattle.coset_core.proofs.Putting.{other_number}
-use Rattle.coset_core.proofs.header.reading.field_of.Goals as goal
+use Rattle.coset_core.proofs.header.reading.place_of.Goals as goal
 
 pub returns-in_default : goal.returns-in_default
 returns-in_default c = rw c.in_default.is refl
