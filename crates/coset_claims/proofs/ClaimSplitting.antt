@@ -124,6 +124,14 @@ pub known_sound : (v : Item) (x : ClaimsView × Others) (e : CoseError) → know
 known_sound v x e d (inl f) = some-none d.1 f.0
 known_sound v x e d (inr f) = pairs_sound d.0 x e d.2 (subst (λ ps. KnownFaults ps e) (some-one f.1 d.1) f.2)
 
+-- An item is at most one set of known claims with others.
+pub known_unique : (v : Item) (x y : ClaimsView × Others) → known.describes v x → known.describes v y → x ≡ y
+known_unique v x y d f =
+    let read : AreKnown d.0 y = subst (λ ps. AreKnown ps y) (some-one f.1 d.1) f.2 in
+    let same = splits_unique d.0 d.2.0 read.0 x.1 y.1 d.2.1 read.1 in
+    let one = claims_laws.unique (dict read.0) x.0 y.0 (subst (λ ns. claims.describes (dict ns) x.0) same.0 d.2.2) read.2 in
+    ap₂ (λ (c : ClaimsView) (us : Others). (c, us)) one same.1
+
 -- ---- results
 
 -- The view of a map is that of its pairs.

@@ -8,3 +8,4 @@ mod Comparing
 mod Months
 mod Years
 mod WrittenMoments
+mod Received

@@ -2,15 +2,17 @@
 use Rattle.std.specs.Prelude.{◌≡◌, ℕ, ℤ, pos, List, Option, Some, None, Result, Vec, IsOkAnd, false, is_some, option_map, unsigned_abs, refl}
 use Rattle.std.specs.Global.{Global}
 use Rattle.std.proofs.Common.{true≢false}
-use Rattle.coset_value.specs.Item.{Items, no_items, item}
+use Rattle.coset_value.specs.Item.{Item, Items, no_items, item}
+use Rattle.coset_value.specs.Parts.{as_array}
 use Rattle.coset_codec.specs.declared.error.CoseError.{CoseError}
 use Rattle.coset_codec.specs.declared.read.decoder.ArrayElements.{ArrayElements}
 use Rattle.coset_codec.specs.Results.{Reads}
 use Rattle.coset_codec.specs.Inputs.{State, AreWithin}
 use Rattle.coset_codec.specs.Shape.{Shape, Elements, mapped, uint, bstr, present, optional_last, array_of, ◌then◌}
 use Rattle.coset_codec.specs.ShapeLaws.{Lawful, mapped_laws, uint_laws, bstr_laws, present_laws, optional_last_laws, array_of_laws, then_laws}
-use Rattle.coset_core.specs.Headers.{ProtectedView, protected}
+use Rattle.coset_core.specs.Headers.{ProtectedView, protected, protected_bytes}
 use Rattle.coset_core.specs.HeaderLaws.{protected_laws}
+use Rattle.coset_core.specs.Kept.{KeepsOwn, first_bytes}
 use Rattle.coset_core.specs.Messages.{empty_protected}
 use Rattle.coset_core.specs.Views.{protected_view}
 use Rattle.coset_claims.specs.declared.supp_pub.SuppPubInfo.{SuppPubInfo}
@@ -65,3 +67,15 @@ supp_pub_laws =
 abbrev pub ReadsOther : Items → State → State → ArrayElements → Result (Option (Vec ℕ Global)) CoseError → Type 0
 ReadsOther no_items t z m r = AreWithin m no_items t z × IsOkAnd r (λ o. o ≡ None)
 ReadsOther (item v vs) t z m r = AreWithin m vs t z × Reads (present bstr) (option_map (λ b. b.items)) v r
+
+-- ---- as received
+
+-- The bytes of the byte string in the second element.
+abbrev pub second_bytes : Items → Option (List ℕ)
+second_bytes no_items = None
+second_bytes (item v vs) = first_bytes vs
+
+-- The protected header is represented by the bytes that it was decoded from. They are the bytes of the byte string in
+-- the second element of the array v.
+abbrev pub KeepsSecond : Item → ProtectedView → Type 0
+KeepsSecond v p = KeepsOwn p × ((vs : Items) × (as_array v ≡ Some vs) × (second_bytes vs ≡ protected_bytes p))

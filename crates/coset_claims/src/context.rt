@@ -23,7 +23,7 @@ use crate::supp_pub::SuppPubInfo;
 use coset_cbor::ser::{write_array_head, write_bytes};
 use coset_codec::read::{ArrayElements, Decoder};
 use coset_codec::traits::FromPull;
-use coset_codec::write::Encode;
+use coset_codec::write::{Array, Encode};
 use coset_codec::{Codec, CoseError, ItemSource, Result};
 use coset_core::{Algorithm, RegisteredLabelWithPrivate, iana};
 use std::alloc::{AllocError, Global};
@@ -31,8 +31,8 @@ use std::marker::Model;
 
 /// The context of a key derivation: `COSE_KDF_Context` (RFC 8152, section 11.2).
 ///
-/// Its builder sets its fields. Contracts see five parts: the algorithm, the two parties, the
-/// public information, and the byte strings of private information.
+/// Its builder sets its parts, and its functions return them. Contracts see five parts: the
+/// algorithm, the two parties, the public information, and the byte strings of private information.
 ///
 /// ```cddl
 /// COSE_KDF_Context = [
@@ -68,6 +68,41 @@ impl CoseKdfContext {
             supp_pub_info: SuppPubInfo::new(alloc),
             supp_priv_info: Vec::new(alloc),
         }
+    }
+
+    /// Returns the algorithm for which the key is derived.
+    pub fn algorithm_id(&self) -> &Algorithm
+        ensures { algorithm_view result.now ≡ (context_view self.now).algorithm_id }
+    {
+        &self.algorithm_id
+    }
+
+    /// Returns the information about party U.
+    pub fn party_u_info(&self) -> &PartyInfo
+        ensures { party_view result.now ≡ (context_view self.now).party_u_info }
+    {
+        &self.party_u_info
+    }
+
+    /// Returns the information about party V.
+    pub fn party_v_info(&self) -> &PartyInfo
+        ensures { party_view result.now ≡ (context_view self.now).party_v_info }
+    {
+        &self.party_v_info
+    }
+
+    /// Returns the public information.
+    pub fn supp_pub_info(&self) -> &SuppPubInfo
+        ensures { supp_pub_view result.now ≡ (context_view self.now).supp_pub_info }
+    {
+        &self.supp_pub_info
+    }
+
+    /// Returns the byte strings of private information, in order.
+    pub fn supp_priv_info(&self) -> &[Vec<u8>]
+        ensures { map (λ b. b.items) result.now ≡ (context_view self.now).supp_priv_info }
+    {
+        &self.supp_priv_info
     }
 }
 
@@ -166,10 +201,12 @@ impl Codec for CoseKdfContext {
     }
 
     fn size_hint(&self) -> usize {
-        self.party_u_info
+        self.algorithm_id
             .encoded_size_hint()
+            .saturating_add(self.party_u_info.encoded_size_hint())
             .saturating_add(self.party_v_info.encoded_size_hint())
             .saturating_add(self.supp_pub_info.encoded_size_hint())
+            .saturating_add(Array(&self.supp_priv_info).encoded_size_hint())
     }
 
     #[tactic(auto, unfolding(coset_label::specs::Labels::algorithm))]

@@ -122,7 +122,7 @@ pub(crate) fn write_fraction<W: fmt::Write>(
     match in_calendar(saturating_f64_to_i64(whole)) {
         Some(moment) if seconds.is_finite() => {
             write_moment(moment, f)?;
-            let microseconds = saturating_f64_to_u32((seconds - whole) * 1e6);
+            let microseconds = saturating_f64_to_u32((seconds - whole) * 1e6).min(999_999);
             write!(f, ".{microseconds:06}Z")
         }
         _ => write!(f, "{seconds} seconds since 1970"),

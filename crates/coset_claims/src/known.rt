@@ -6,7 +6,7 @@
 ghost use Rattle.std.specs.Prelude.{◌≡◌, IfOk, IfErr};
 ghost use Rattle.coset_cbor.specs.Elements.{pairs_left};
 ghost use Rattle.coset_cbor.specs.Pulls.{pull_item};
-ghost use Rattle.coset_codec.specs.Results.{Describes, IsRefused};
+ghost use Rattle.coset_codec.specs.Results.{AllocatesForItems, Describes, IsRefused};
 ghost use Rattle.coset_codec.specs.declared.error.CoseError.TheVariants.{OutOfMemory};
 ghost use Rattle.coset_claims.specs.Known.{IsNamed, SplitsOff, known, known_view, parts_view};
 
@@ -74,13 +74,14 @@ impl ClaimsSet {
     /// `from_slice` refuses a claims set with such a claim.
     ///
     /// # Errors
-    /// - `OutOfMemory` if an allocation fails.
+    /// - `OutOfMemory` if an allocation fails. This happens only if the bytes are one item.
     /// - `DuplicateMapKey` if two keys are the same label.
     /// - A fault in the bytes, if they are not a map whose keys are labels.
     /// - A fault in the claims that are understood, if they are not a claims set.
     pub fn known_from_slice(alloc: Global, bytes: &[u8]) -> Result<KnownClaims>
         ensures read { IfOk result (λ c. Describes known bytes.now (known_view c)) }
         ensures refused { IfErr result (λ e. IsRefused known bytes.now e) }
+        ensures memory { AllocatesForItems bytes.now result }
     {
         let set = whole_item(bytes)?;
         let Some(pairs) = set.pairs() else {

@@ -6,6 +6,7 @@ mod claims_set;
 mod context;
 mod date;
 mod known;
+pub mod laws;
 mod number;
 mod party;
 mod supp_pub;

@@ -6,13 +6,18 @@ use Rattle.std.proofs.lemmas.List.{take_more, take-append-drop}
 use Rattle.coset_value.specs.Item.{Item, Items, no_items, item, array, tag, items_count}
 use Rattle.coset_value.specs.Range.{IsInRange, AreInRange}
 use Rattle.coset_cbor.specs.Grammar.{IsEncoding}
-use Rattle.coset_cbor.specs.Least.{least_head, least_encoding, least_encodings}
+use Rattle.coset_cbor.specs.Least.{Extends, least_head, least_encoding, least_encodings}
 use Rattle.coset_cbor.specs.Shortest.{IsShortest}
 use Rattle.coset_codec.specs.Shape.{both, images}
 use Rattle.coset_codec.specs.Encoding.{AppendsImage, AppendsElements, Encodes, HasNoImage}
 use Rattle.coset_codec.specs.Errors.{UnlessMemory}
 use Rattle.coset_codec.specs.declared.error.CoseError.{CoseError}
 use Rattle.coset_codec.specs.declared.error.CoseError.TheVariants.{DuplicateMapKey}
+
+-- ---- bytes that keep their beginning
+
+pub extends-on : (a b c : List ℕ) → Extends a b → Extends b c → Extends a c
+extends-on a b c h k = (h.0 ++ k.0, k.1 ∙ (ap (λ x. x ++ k.0) h.1 ∙ append_assoc a h.0 k.0))
 
 -- ---- arrays of elements
 

@@ -16,7 +16,7 @@ use crate::traits::{
     AsCborValue, CborSerializable, FromPull, Lawful, TaggedCborSerializable, item_under_tag,
     item_without_tag, whole_item,
 };
-use crate::write::{Encode, encode_to_tagged_vec, encode_to_value, encode_to_vec};
+use crate::write::{Encode, encode_to_tagged_vec, encode_to_value, encode_to_vec, rolled_back};
 use coset_cbor::de::Pull;
 use coset_cbor::value::Value;
 use std::alloc::Global;
@@ -120,7 +120,9 @@ impl<T: Codec> Encode for T {
 
     #[inline(always)]
     fn encode(&self, alloc: Global, out: &mut Vec<u8>) -> Result<()> {
-        self.write(alloc, out)
+        let before = out.len();
+        let written = self.write(alloc, out);
+        rolled_back(written, before, out)
     }
 }
 

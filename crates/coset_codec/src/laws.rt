@@ -19,12 +19,15 @@ use coset_cbor::laws::{
     least_heads_are_shortest, no_item_at_a_fault, one_item, shortest_is_in_range,
 };
 
-/// Bytes describe at most one value, plain or under a tag.
+/// Bytes describe at most one value: plain, under a tag, or in whichever form `from_any_slice`
+/// reads.
 pub fn one_value<T: AsCborValue>()
     ensures plain { (s : List ℕ) (x y : T.View) → Describes T.shape s x → Describes T.shape s y
         → x ≡ y }
     ensures tagged { (n : ℕ) (s : List ℕ) (x y : T.View) → Describes (tagged n T.shape) s x
         → Describes (tagged n T.shape) s y → x ≡ y }
+    ensures either { (n : ℕ) (s : List ℕ) (x y : T.View) → Describes (perhaps_tagged n T.shape) s x
+        → Describes (perhaps_tagged n T.shape) s y → x ≡ y }
 {
     one_item();
 }
@@ -40,30 +43,36 @@ pub fn encodings_agree<T: AsCborValue>()
     one_item();
 }
 
-/// Bytes that are not one item are refused for that reason, plain or under a tag, however much
-/// memory there is. If no prefix of them is an item, the error names a fault in them. If more bytes
-/// follow an item, the error is `ExtraneousData`. The premises are the clauses `read` and `memory`
-/// of `from_slice` and `from_tagged_slice`.
+/// Bytes that are not one item are refused for that reason, however much memory there is. If no
+/// prefix of them is an item, the error names a fault in them. If more bytes follow an item, the
+/// error is `ExtraneousData`. The premises are the clauses `read` and `memory` of `from_slice`,
+/// `from_tagged_slice` and `from_any_slice`.
 pub fn refused_as_bytes<T: AsCborValue>()
     ensures plain { (s : List ℕ) (r : Result T CoseError) → ReadsSlice T.shape T.view s r
         → AllocatesForItems s r → NamesWholeFault s r }
     ensures tagged { (n : ℕ) (s : List ℕ) (r : Result T CoseError)
         → ReadsSlice (tagged n T.shape) T.view s r → AllocatesForItems s r → NamesWholeFault s r }
+    ensures either { (n : ℕ) (s : List ℕ) (r : Result T CoseError)
+        → ReadsSlice (perhaps_tagged n T.shape) T.view s r → AllocatesForItems s r
+        → NamesWholeFault s r }
 {
     one_item();
     no_item_at_a_fault();
 }
 
-/// Bytes that are one item are read like that item, plain or under a tag. The result is the value
-/// that the item describes, or a fault of the type in the item, or `OutOfMemory`. Under a tag, an
-/// item with no tag or another tag is refused with `UnexpectedItem` or `OutOfMemory`. The premise
-/// is the clause `read` of `from_slice` and `from_tagged_slice`.
+/// Bytes that are one item are read like that item. The result is the value that the item
+/// describes, or a fault of the type in the item, or `OutOfMemory`. Under a tag, an item with no
+/// tag or another tag is refused with `UnexpectedItem` or `OutOfMemory`. The premise is the clause
+/// `read` of `from_slice`, `from_tagged_slice` and `from_any_slice`.
 pub fn read_as_item<T: AsCborValue>()
     ensures plain { (s : List ℕ) (v : Item) (r : Result T CoseError) → AreBytes s → IsItem s v
         → ReadsSlice T.shape T.view s r → Reads T.shape T.view v r }
     ensures tagged { (n : ℕ) (s : List ℕ) (v : Item) (r : Result T CoseError) → AreBytes s
         → IsItem s v → ReadsSlice (tagged n T.shape) T.view s r
         → Reads (tagged n T.shape) T.view v r }
+    ensures either { (n : ℕ) (s : List ℕ) (v : Item) (r : Result T CoseError) → AreBytes s
+        → IsItem s v → ReadsSlice (perhaps_tagged n T.shape) T.view s r
+        → Reads (perhaps_tagged n T.shape) T.view v r }
     ensures untagged { (n : ℕ) (s : List ℕ) (v : Item) (r : Result T CoseError) → AreBytes s
         → IsItem s v → IsNoTag n v → ReadsSlice (tagged n T.shape) T.view s r
         → NamesUnexpected r }

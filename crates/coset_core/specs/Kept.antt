@@ -21,10 +21,14 @@ abbrev pub first_bytes : Items → Option (List ℕ)
 first_bytes no_items = None
 first_bytes (item v vs) = as_bytes v
 
--- The signature's protected header is represented by the bytes that it was decoded from. They are the bytes of the byte
--- string in the first element of the array v.
+-- The protected header is represented by the bytes that it was decoded from. They are the bytes of the byte string in
+-- the first element of the array v.
+abbrev pub KeepsFirst : Item → ProtectedView → Type 0
+KeepsFirst v p = KeepsOwn p × ((vs : Items) × (as_array v ≡ Some vs) × (first_bytes vs ≡ protected_bytes p))
+
+-- The same, of the protected header of a signature.
 abbrev pub KeepsReceived : Item → SignatureView → Type 0
-KeepsReceived v s = KeepsOwn s.protected × ((vs : Items) × (as_array v ≡ Some vs) × (first_bytes vs ≡ protected_bytes s.protected))
+KeepsReceived v s = KeepsFirst v s.protected
 
 -- P holds for each signature under label 7 and under label 11.
 abbrev pub EachSignature : (SignatureView → Type 0) → HeaderView → Type 0

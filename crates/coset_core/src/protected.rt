@@ -1,7 +1,7 @@
 //! Protected headers, which signatures cover. If decoded from its byte string, a protected header
 //! keeps the bytes (RFC 8152, section 3).
 
-ghost use Rattle.std.specs.Prelude.{◌≡◌, ◌≤◌, option_map, OnOk, IfOk, IfErr, IsTrue, Some, None, ℕ, List, ◌↔◌};
+ghost use Rattle.std.specs.Prelude.{◌≡◌, ◌≤◌, option_map, OnOk, OnErr, IfOk, IfErr, IsTrue, Some, None, ℕ, List, ◌↔◌};
 ghost use Rattle.coset_codec.specs.declared.error.CoseError.TheVariants.{OutOfMemory};
 ghost use Rattle.coset_core.specs.Contents.{FillsContent};
 ghost use Rattle.coset_codec.specs.InPlace.{Fills};
@@ -375,6 +375,7 @@ pub(crate) fn write_protected(
     ensures written { Encodes (option_map bytes (protected_bytes (protected_view protected.now)))
         out.old.items out.new.items result }
     ensures kept { Extends out.old.items out.new.items }
+    ensures refused { OnErr result (out.new.items ≡ out.old.items) }
 {
     if let Some(bytes) = &protected.original_data {
         write_bytes(bytes, out)?;

@@ -5,15 +5,19 @@ ghost use Rattle.std.specs.BTreeSet.{insert_key};
 ghost use Rattle.coset_value.specs.Item.{Items};
 ghost use Rattle.coset_codec.specs.declared.error.CoseError.TheVariants.{OutOfMemory};
 ghost use Rattle.coset_codec.specs.Results.{Reads};
+ghost use Rattle.coset_cbor.specs.Least.{Extends};
+ghost use Rattle.coset_codec.specs.Encoding.{Encodes};
 ghost use Rattle.coset_codec.specs.Errors.{UnlessMemory};
 ghost use Rattle.coset_codec.specs.Inputs.{AreWithin, ReadsAt, State, length_left, state, ReadsForward};
 ghost use Rattle.coset_codec.specs.Maps.{RefusesValue, TakesValue, unless_empty};
+ghost use Rattle.coset_codec.specs.Shape.{list_of};
 ghost use Rattle.coset_label.specs.LabelData.{label_cmp};
 ghost use Rattle.coset_key.specs.Keys.{key_ops, operation, operation_view};
 ghost use Rattle.coset_key.specs.Reading.{ReadsSet, operations_view};
 
 use coset_cbor::ser::write_array_head;
 use coset_codec::read::{ArrayElements, Decoder};
+use coset_codec::write::rolled_back;
 use coset_label::{CoseError, Encode, FromPull, KeyOperation, Result};
 use std::alloc::Global;
 use std::collections::BTreeSet;
@@ -114,15 +118,28 @@ pub(crate) fn add_operation(
 pub(crate) struct KeyOps<'a>(pub(crate) &'a BTreeSet<KeyOperation>);
 
 impl Encode for KeyOps<'_> {
-    ghost use Rattle.coset_codec.specs.Shape.{list_of};
-
     ghost image = { λ s. (list_of operation).image (map operation_view s.0.now.keys) };
 
     fn encode(&self, alloc: Global, out: &mut Vec<u8>) -> Result<()> {
-        write_array_head(self.0.len(), out)?;
-        for operation in self.0 {
-            operation.encode(alloc, out)?;
-        }
-        Ok(())
+        let before = out.len();
+        let written = write_operations(alloc, self.0, out);
+        rolled_back(written, before, out)
     }
+}
+
+/// Appends an array of the operations, in their order.
+fn write_operations(
+    alloc: Global,
+    operations: &BTreeSet<KeyOperation>,
+    out: &mut Vec<u8>,
+) -> Result<()>
+    ensures written { Encodes ((list_of operation).image (map operation_view operations.now.keys))
+        out.old.items out.new.items result }
+    ensures kept { Extends out.old.items out.new.items }
+{
+    write_array_head(operations.len(), out)?;
+    for operation in operations {
+        operation.encode(alloc, out)?;
+    }
+    Ok(())
 }

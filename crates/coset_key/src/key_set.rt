@@ -3,7 +3,7 @@
 ghost use Rattle.std.specs.Prelude.{◌≡◌, [], IfOk, IfErr};
 ghost use Rattle.coset_codec.specs.declared.error.CoseError.TheVariants.{OutOfMemory};
 ghost use Rattle.coset_codec.specs.Alone.{AreReadAlone, elements};
-ghost use Rattle.coset_codec.specs.Results.{IsRefused};
+ghost use Rattle.coset_codec.specs.Results.{AllocatesForItems, IsRefused};
 ghost use Rattle.coset_key.specs.Keys.{key, key_view, key_set, key_set_view};
 
 use crate::key::CoseKey;
@@ -46,11 +46,12 @@ impl CoseKeySet {
     /// doesn't affect the others (RFC 9052, section 7), while `from_slice` refuses the whole set.
     ///
     /// # Errors
-    /// - `OutOfMemory` if an allocation fails.
+    /// - `OutOfMemory` if an allocation fails. This happens only if the bytes are one item.
     /// - A fault in the bytes, if they are not an array.
     pub fn each_from_slice(alloc: Global, bytes: &[u8]) -> Result<Vec<Result<CoseKey>>>
         ensures each { IfOk result (λ keys. AreReadAlone key key_view bytes.now keys.items) }
         ensures refused { IfErr result (λ e. IsRefused elements bytes.now e) }
+        ensures memory { AllocatesForItems bytes.now result }
     {
         each_from_slice(alloc, bytes)
     }

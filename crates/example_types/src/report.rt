@@ -6,6 +6,8 @@
 //! report = [ sender : bstr, readings : [* reading] ]
 //! ```
 
+ghost use Rattle.coset_cbor.specs.Least.{Extends};
+ghost use Rattle.coset_codec.specs.Encoding.{Encodes};
 ghost use Rattle.coset_codec.specs.Results.{Reads};
 ghost use Rattle.coset_codec.specs.Inputs.{state, ReadsForward};
 ghost use Rattle.example_types.specs.Report.{view, report};
@@ -15,7 +17,7 @@ use coset_cbor::de::Pull;
 use coset_cbor::value::Value;
 use coset_codec::read::{Decoder, decode_array};
 use coset_codec::traits::FromPull;
-use coset_codec::write::{Array, Encode, encode_to_value, encode_two};
+use coset_codec::write::{Array, Encode, encode_to_value, encode_two, rolled_back};
 use coset_codec::{
     AsCborValue, CborSerializable, ItemSource, Lawful, Result, TaggedCborSerializable,
 };
@@ -70,11 +72,21 @@ impl Lawful for Report {
     ghost laws = { report_laws };
 }
 
+/// Appends the array of a report.
+fn write_report(alloc: Global, sent: &Report, out: &mut Vec<u8>) -> Result<()>
+    ensures written { Encodes (report.image (view sent.now)) out.old.items out.new.items result }
+    ensures kept { Extends out.old.items out.new.items }
+{
+    encode_two(alloc, &sent.sender, &Array(&sent.readings), out)
+}
+
 impl Encode for Report {
     ghost image = { λ r. report.image (view r) };
 
     fn encode(&self, alloc: Global, out: &mut Vec<u8>) -> Result<()> {
-        encode_two(alloc, &self.sender, &Array(&self.readings), out)
+        let before = out.len();
+        let written = write_report(alloc, self, out);
+        rolled_back(written, before, out)
     }
 }
 

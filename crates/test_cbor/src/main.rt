@@ -36,6 +36,7 @@ impl Calls for AllCalls {
             ("Integer", _) => value::call_integer(alloc, name, words),
             ("Float", "to_f64") => value::to_double(alloc, words),
             ("Pull", _) => pull::call(alloc, name, words),
+            ("Reading", "each_from_slice") => own_types::each(alloc, words),
             _ => Err(unknown()),
         }
     }

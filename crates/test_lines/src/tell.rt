@@ -54,6 +54,26 @@ pub fn value<T: CborSerializable + Drop>(alloc: Global, answer: Result<T>) -> Re
     }
 }
 
+/// Returns `ok` and, for each element, the text of [`value`].
+///
+/// # Errors
+/// `OutOfMemory` if an allocation for the text fails.
+pub fn each<T: CborSerializable + Drop>(
+    alloc: Global,
+    answer: Result<Vec<Result<T>>>,
+) -> Result<String> {
+    let elements = match answer {
+        Ok(elements) => elements,
+        Err(error) => return refused(alloc, error),
+    };
+    let mut text = String::from_str(alloc, "ok")?;
+    for element in elements {
+        text.push_str("; ")?;
+        text.push_str(&value(alloc, element)?)?;
+    }
+    Ok(text)
+}
+
 /// Makes the call `to_vec`. Returns `ok` and the encoding of the value, or the error's text.
 ///
 /// # Errors

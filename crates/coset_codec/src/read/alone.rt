@@ -3,7 +3,7 @@
 ghost use Rattle.std.specs.Prelude.{◌≡◌, IfOk, IfErr};
 ghost use Rattle.coset_cbor.specs.Pulls.{pull_item};
 ghost use Rattle.coset_codec.specs.Alone.{AreReadAlone, IsReadAlone, elements};
-ghost use Rattle.coset_codec.specs.Results.{IsRefused};
+ghost use Rattle.coset_codec.specs.Results.{AllocatesForItems, IsRefused};
 ghost use Rattle.coset_codec.specs.declared.error.CoseError.TheVariants.{OutOfMemory};
 
 use crate::error::{CoseError, Result};
@@ -34,10 +34,11 @@ pub fn read_alone<T: FromPull + Drop>(alloc: Global, item: Pull<'_>) -> Result<R
 ///
 /// # Errors
 /// - `DecodeFailed`, `ExtraneousData` or `UnexpectedItem` if the bytes are not one array.
-/// - `OutOfMemory` if an allocation fails.
+/// - `OutOfMemory` if an allocation fails. This happens only if the bytes are one item.
 pub fn each_from_slice<T: FromPull + Drop>(alloc: Global, bytes: &[u8]) -> Result<Vec<Result<T>>>
     ensures each { IfOk result (λ all. AreReadAlone T.shape T.view bytes.now all.items) }
     ensures refused { IfErr result (λ e. IsRefused elements bytes.now e) }
+    ensures memory { AllocatesForItems bytes.now result }
 {
     let whole = whole_item(bytes)?;
     let Some(elements) = whole.items() else {

@@ -1,6 +1,6 @@
 //! Writing values directly as bytes: the one writer of each type.
 
-ghost use Rattle.std.specs.Prelude.{length, Option, Some, option_map, OnOk, IfErr};
+ghost use Rattle.std.specs.Prelude.{◌≡◌, [], length, take, Option, Some, option_map, OnOk, OnErr, IfErr};
 ghost use Rattle.coset_value.specs.Item.{Item, array, item, bytes, tag};
 ghost use Rattle.coset_value.specs.View.{value_item};
 ghost use Rattle.coset_cbor.specs.Least.{Extends};
@@ -28,7 +28,7 @@ pub trait Encode {
     ghost image: { Self → Option Item };
 
     /// Returns the approximate length of the encoding, which is reserved before writing. This is
-    /// only a hint. Even 0 is correct, and the bytes written are the same.
+    /// only a hint: any number is correct, and the bytes written are the same.
     fn encoded_size_hint(&self) -> usize {
         0
     }
@@ -39,10 +39,27 @@ pub trait Encode {
     /// - `OutOfMemory` if an allocation fails.
     /// - `DuplicateMapKey` if the value has no item.
     ///
-    /// The old content of `out` is then unchanged. Bytes appended before the error may follow it.
+    /// The bytes of `out` are then unchanged; its capacity may have grown.
     fn encode(&self, alloc: Global, out: &mut Vec<u8>) -> Result<()>
         ensures written { Encodes (image self.now) out.old.items out.new.items result }
-        ensures kept { Extends out.old.items out.new.items };
+        ensures kept { Extends out.old.items out.new.items }
+        ensures refused { OnErr result (out.new.items ≡ out.old.items) };
+}
+
+/// Returns the result of a write. After an error, truncates `out` to its first `before` bytes.
+///
+/// With it, [`Encode::encode`] can be written over a writer that leaves bytes after an error, such
+/// as [`encode_two`].
+#[inline(always)]
+pub fn rolled_back(written: Result<()>, before: usize, out: &mut Vec<u8>) -> Result<()>
+    ensures result { result ≡ written }
+    ensures ok { OnOk result (out.new.items ≡ out.old.items) }
+    ensures refused { OnErr result (out.new.items ≡ take before out.old.items) }
+{
+    if written.is_err() {
+        out.truncate(before);
+    }
+    written
 }
 
 impl Encode for Value {
@@ -158,9 +175,20 @@ impl<T: Encode> Encode for Array<'_, T> {
     }
 
     fn encode(&self, alloc: Global, out: &mut Vec<u8>) -> Result<()> {
-        write_array_head(self.0.len(), out)?;
-        encode_elements(alloc, self.0, out)
+        let before = out.len();
+        let written = encode_array(alloc, self.0, out);
+        rolled_back(written, before, out)
     }
+}
+
+/// Appends an array of the elements.
+fn encode_array<T: Encode>(alloc: Global, elements: &[T], out: &mut Vec<u8>) -> Result<()>
+    ensures written { Encodes (option_map array (images T.image elements.now)) out.old.items
+        out.new.items result }
+    ensures kept { Extends out.old.items out.new.items }
+{
+    write_array_head(elements.len(), out)?;
+    encode_elements(alloc, elements, out)
 }
 
 /// Appends the elements, one after the other.
@@ -182,7 +210,7 @@ fn encode_elements<T: Encode>(alloc: Global, elements: &[T], out: &mut Vec<u8>) 
 /// - `OutOfMemory` if an allocation fails.
 /// - Otherwise the error of the first element that has one.
 ///
-/// `out` is then as [`Encode::encode`] leaves it.
+/// `out` is then as [`Codec::write`](crate::Codec::write) leaves it.
 pub fn encode_two<A: Encode, B: Encode>(
     alloc: Global,
     a: &A,
@@ -205,7 +233,7 @@ pub fn encode_two<A: Encode, B: Encode>(
 /// - `OutOfMemory` if an allocation fails.
 /// - Otherwise the error of the first element that has one.
 ///
-/// `out` is then as [`Encode::encode`] leaves it.
+/// `out` is then as [`Codec::write`](crate::Codec::write) leaves it.
 pub fn encode_three<A: Encode, B: Encode, C: Encode>(
     alloc: Global,
     a: &A,
@@ -230,7 +258,7 @@ pub fn encode_three<A: Encode, B: Encode, C: Encode>(
 /// - `OutOfMemory` if an allocation fails.
 /// - Otherwise the error of the first element that has one.
 ///
-/// `out` is then as [`Encode::encode`] leaves it.
+/// `out` is then as [`Codec::write`](crate::Codec::write) leaves it.
 pub fn encode_four<A: Encode, B: Encode, C: Encode, D: Encode>(
     alloc: Global,
     a: &A,
@@ -258,7 +286,7 @@ pub fn encode_four<A: Encode, B: Encode, C: Encode, D: Encode>(
 /// - `OutOfMemory` if an allocation fails.
 /// - Otherwise the error of the first element that has one.
 ///
-/// `out` is then as [`Encode::encode`] leaves it.
+/// `out` is then as [`Codec::write`](crate::Codec::write) leaves it.
 pub fn encode_five<A: Encode, B: Encode, C: Encode, D: Encode, E: Encode>(
     alloc: Global,
     a: &A,
@@ -283,6 +311,18 @@ pub fn encode_five<A: Encode, B: Encode, C: Encode, D: Encode, E: Encode>(
     Ok(())
 }
 
+/// Returns an empty vector with room for `hint` bytes, or without room if there is too little
+/// memory for it.
+#[inline(always)]
+fn with_room(alloc: Global, hint: usize) -> Vec<u8>
+    ensures { result.items ≡ [] }
+{
+    match Vec::with_capacity(alloc, hint) {
+        Ok(out) => out,
+        Err(_) => Vec::new(alloc),
+    }
+}
+
 /// Writes a value as bytes. This is the body of `to_vec`, and its results are those of
 /// [`CborSerializable::to_vec`](crate::CborSerializable::to_vec).
 ///
@@ -293,7 +333,7 @@ pub fn encode_to_vec<T: Encode>(alloc: Global, value: &T) -> Result<Vec<u8>>
     ensures { Writes (T.image value.now) (λ b. b.items) result }
 {
     laws::least_encoding_is_shortest();
-    let mut out = Vec::with_capacity(alloc, value.encoded_size_hint())?;
+    let mut out = with_room(alloc, value.encoded_size_hint());
     value.encode(alloc, &mut out)?;
     Ok(out)
 }
@@ -307,10 +347,10 @@ pub fn encode_to_tagged_vec<T: Encode>(alloc: Global, number: u64, value: &T) ->
     ensures { Writes (option_map (tag number) (T.image value.now)) (λ b. b.items) result }
 {
     laws::least_encoding_is_shortest();
-    let mut out = Vec::with_capacity(
+    let mut out = with_room(
         alloc,
         value.encoded_size_hint().saturating_add(LONGEST_HEAD),
-    )?;
+    );
     write_tag_head(number, &mut out)?;
     value.encode(alloc, &mut out)?;
     Ok(out)

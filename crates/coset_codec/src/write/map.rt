@@ -34,7 +34,7 @@ fn count_true(there: &[bool]) -> usize
 ///
 /// # Errors
 /// `OutOfMemory` if an allocation fails, or if the number of pairs overflows `usize`. `out` is then
-/// as [`Encode::encode`] leaves it.
+/// as [`Codec::write`](crate::Codec::write) leaves it.
 #[inline(always)]
 pub fn write_pairs_head<L>(
     there: &[bool],
@@ -56,7 +56,8 @@ pub fn write_pairs_head<L>(
 /// Appends a pair of this label and value.
 ///
 /// # Errors
-/// The errors of writing the value. `out` is then as [`Encode::encode`] leaves it.
+/// The errors of writing the value. `out` is then as [`Codec::write`](crate::Codec::write) leaves
+/// it.
 #[inline(always)]
 pub fn write_field<T: Encode>(alloc: Global, label: i64, value: &T, out: &mut Vec<u8>) -> Result<()>
     ensures ok { OnOk result
@@ -71,7 +72,8 @@ pub fn write_field<T: Encode>(alloc: Global, label: i64, value: &T, out: &mut Ve
 /// Appends a pair of this label and the value, if there is a value.
 ///
 /// # Errors
-/// The errors of writing the value. `out` is then as [`Encode::encode`] leaves it.
+/// The errors of writing the value. `out` is then as [`Codec::write`](crate::Codec::write) leaves
+/// it.
 #[inline(always)]
 pub fn write_optional<T: Encode>(
     alloc: Global,
@@ -114,7 +116,7 @@ pub fn write_nonempty(alloc: Global, label: i64, bytes: &Vec<u8>, out: &mut Vec<
 /// - `OutOfMemory` if an allocation fails.
 /// - Otherwise the error of the first label that has one.
 ///
-/// `out` is then as [`Encode::encode`] leaves it.
+/// `out` is then as [`Codec::write`](crate::Codec::write) leaves it.
 pub fn write_rest<L: Encode>(alloc: Global, rest: &[(L, Value)], out: &mut Vec<u8>) -> Result<()>
     ensures ok { OnOk result
         (AppendsAll (labelled_image L.image (map (λ e. (e.0, value_item e.1)) rest.now))

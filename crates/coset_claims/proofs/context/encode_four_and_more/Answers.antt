@@ -1,5 +1,6 @@
 use Rattle.std.proofs.Common.{◌+◌, ◌≡◌, suc, arith, length}
-use Rattle.coset_codec.proofs.Encoding.{place-put, array-put}
+use Rattle.coset_cbor.specs.Least.{least_head}
+use Rattle.coset_codec.proofs.Encoding.{extends-on, place-put, array-put}
 use Rattle.coset_claims.proofs.ByteStrings.{as_many}
 use Rattle.coset_claims.proofs.context.encode_four_and_more.Goals as goal
 
@@ -11,3 +12,10 @@ returns-clause-written g c =
     array-put (c.len.result + 4) (omega arith) c.in_ok-write_array_head.ensures.ok
     (as_many count (place-put c.in_ok-encode.ensures.written (place-put c.in_ok-encode-2.ensures.written
     (place-put c.in_ok-encode-3.ensures.written (place-put c.in_ok-encode-4.ensures.written more)))))
+
+pub returns-in_err-encode-4-clause-kept : goal.returns-in_err-encode-4-clause-kept
+returns-in_err-encode-4-clause-kept g c =
+    extends-on c.args.out.now.items c.write_array_head.new.out.items _ (least_head 4 (c.len.result + 4), c.in_ok-write_array_head.ensures.ok)
+    (extends-on _ c.encode.new.out.items _ c.in_ok-encode.ensures.kept
+    (extends-on _ c.encode-2.new.out.items _ c.in_ok-encode-2.ensures.kept
+    (extends-on _ c.encode-3.new.out.items _ c.in_ok-encode-3.ensures.kept c.in_err-encode-4.ensures.kept)))

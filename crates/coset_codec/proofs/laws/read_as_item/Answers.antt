@@ -1,3 +1,4 @@
+use Rattle.coset_codec.specs.PerhapsTagged.{perhaps_tagged}
 use Rattle.coset_codec.specs.Shape.{tagged}
 use Rattle.coset_codec.proofs.Refusals.{names_unexpected, reads_item}
 use Rattle.coset_codec.proofs.laws.read_as_item.Goals as goal
@@ -7,6 +8,9 @@ returns-clause-plain g c = λ s. reads_item g.T.AsCborValue.shape g.T.AsCborValu
 
 pub returns-clause-tagged : goal.returns-clause-tagged
 returns-clause-tagged g c = λ n s. reads_item (tagged n g.T.AsCborValue.shape) g.T.AsCborValue.view s c.one_item.ensures c.no_item_at_a_fault.ensures
+
+pub returns-clause-either : goal.returns-clause-either
+returns-clause-either g c = λ n s. reads_item (perhaps_tagged n g.T.AsCborValue.shape) g.T.AsCborValue.view s c.one_item.ensures c.no_item_at_a_fault.ensures
 
 pub returns-clause-untagged : goal.returns-clause-untagged
 returns-clause-untagged g c = λ n s v r bytes is none read.

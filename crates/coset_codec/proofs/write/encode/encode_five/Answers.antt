@@ -1,5 +1,6 @@
 use Rattle.std.proofs.Common.{arith}
-use Rattle.coset_codec.proofs.Encoding.{nothing-put, place-put, array-put}
+use Rattle.coset_cbor.specs.Least.{least_head}
+use Rattle.coset_codec.proofs.Encoding.{nothing-put, place-put, array-put, extends-on}
 use Rattle.coset_codec.proofs.write.encode.encode_five.Goals as goal
 
 pub returns-clause-written : goal.returns-clause-written
@@ -7,3 +8,18 @@ returns-clause-written g c =
     array-put 5 (omega arith) c.in_ok-write_array_head.ensures.ok
     (place-put c.in_ok-encode.ensures.written (place-put c.in_ok-encode-2.ensures.written
     (place-put c.in_ok-encode-3.ensures.written (place-put c.in_ok-encode-4.ensures.written (place-put c.in_ok-encode-5.ensures.written (nothing-put _))))))
+
+pub returns-in_err-encode-4-clause-kept : goal.returns-in_err-encode-4-clause-kept
+returns-in_err-encode-4-clause-kept g c =
+    extends-on c.args.out.now.items c.write_array_head.new.out.items _ (least_head 4 5, c.in_ok-write_array_head.ensures.ok)
+    (extends-on _ c.encode.new.out.items _ c.in_ok-encode.ensures.kept
+    (extends-on _ c.encode-2.new.out.items _ c.in_ok-encode-2.ensures.kept
+    (extends-on _ c.encode-3.new.out.items _ c.in_ok-encode-3.ensures.kept c.in_err-encode-4.ensures.kept)))
+
+pub returns-in_err-encode-5-clause-kept : goal.returns-in_err-encode-5-clause-kept
+returns-in_err-encode-5-clause-kept g c =
+    extends-on c.args.out.now.items c.write_array_head.new.out.items _ (least_head 4 5, c.in_ok-write_array_head.ensures.ok)
+    (extends-on _ c.encode.new.out.items _ c.in_ok-encode.ensures.kept
+    (extends-on _ c.encode-2.new.out.items _ c.in_ok-encode-2.ensures.kept
+    (extends-on _ c.encode-3.new.out.items _ c.in_ok-encode-3.ensures.kept
+    (extends-on _ c.encode-4.new.out.items _ c.in_ok-encode-4.ensures.kept c.in_err-encode-5.ensures.kept))))

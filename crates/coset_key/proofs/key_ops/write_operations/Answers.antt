@@ -6,7 +6,7 @@ use Rattle.coset_codec.specs.Shape.{images}
 use Rattle.coset_codec.proofs.Encoding.{element-put, array-put, nothing-put}
 use Rattle.coset_cbor.proofs.Kept.{moved}
 use Rattle.coset_key.specs.Keys.{operation, operation_view}
-use Rattle.coset_key.proofs.key_ops.KeyOpsEncode.encode.Goals as goal
+use Rattle.coset_key.proofs.key_ops.write_operations.Goals as goal
 
 pub loop-operation-init : goal.loop-operation-init
 loop-operation-init c = (nothing-put c.write_array_head.new.out.items, c.into_iter-operation-iterator.ensures.into_iter_gives.0)
@@ -25,14 +25,14 @@ loop-operation-preserved c =
           (element-put operation.image (map operation_view (map (λ b. b.now) ys)) (operation_view x.now) c.loop-operation.invariant.0
           c.in_ok-encode.ensures.written)),
       ap (λ zs. zs ++ c.next.new.self) next ∙ moved (map
-          (λ b. b.now) ys) x.now c.loop-operation.operation-iterator c.next.new.self c.args.self.now.0.now.keys c.loop-operation.invariant.1
+          (λ b. b.now) ys) x.now c.loop-operation.operation-iterator c.next.new.self c.args.operations.now.keys c.loop-operation.invariant.1
           c.in-Some.ensures.steps,
     )
 
 pub returns-clause-written : goal.returns-clause-written
 returns-clause-written c =
     let ys = c.loop-operation.yielded in
-    let ks = c.args.self.now.0.now.keys in
+    let ks = c.args.operations.now.keys in
     let all : map (λ b. b.now) ys ≡ ks = sym (append-nil (map (λ b. b.now) ys))
     ∙ (ap (λ zs. map (λ b. b.now) ys ++ zs) (sym c.in-None.ensures.steps.0) ∙ c.loop-operation.invariant.1) in
     let count : length ys ≡ length ks = sym (length-map ys (λ b. b.now)) ∙ ap length all in
