@@ -2,26 +2,29 @@
 use Rattle.std.proofs.Common.{◌≡◌, List, [], ◌∷◌, false, sym, ◌∙◌, true≢false}
 use Rattle.std.specs.Prelude.{⊤}
 use Rattle.coset_codec.specs.AsWritten.{AsWritten, WhenRead, ElementsAsWritten, ElementsWhenRead}
+use Rattle.coset_value.specs.Item.{Item}
 use Rattle.coset_codec.specs.Lists.{EachHas, EachWith}
 use Rattle.coset_codec.specs.Shape.{Shape, ◌then◌, end, bstr, or_nil, list_of, optional_last}
 use Rattle.coset_codec.proofs.AsWritten.{list_as_written, list_when_read, optional_last_as_written, optional_last_when_read}
 use Rattle.coset_codec.proofs.AsWritten.{recursive_as_written, recursive_when_read}
 use Rattle.coset_codec.proofs.AsWritten.{then_as_written, then_when_read}
+use Rattle.coset_core.specs.Kept.{KeepsFirst}
 use Rattle.coset_core.proofs.Messages.{KeepsBytes, KeptAsWritten, header_as_written, message_as_written, message_when_read}
 use Rattle.coset_msg.proofs.Written.{authenticates_as_written, authenticates_when_read, encrypts_as_written, encrypts_when_read}
 use Rattle.coset_msg.specs.Encrypt0.{encrypt0, encrypt0_elements, encrypt0_fields}
 use Rattle.coset_msg.specs.EncStructure.{Encrypts, EncryptsSame}
 use Rattle.coset_msg.specs.Mac0.{mac0, mac0_elements, mac0_fields}
 use Rattle.coset_msg.specs.MacStructure.{Authenticates, AuthenticatesSame}
-use Rattle.coset_recipient.specs.Encrypt.{encrypt, encrypt_fields, encrypt_elements}
-use Rattle.coset_recipient.specs.Mac.{mac, mac_fields, mac_elements}
+use Rattle.coset_recipient.specs.Encrypt.{EncryptView, encrypt, encrypt_fields, encrypt_elements}
+use Rattle.coset_recipient.specs.Mac.{MacView, mac, mac_fields, mac_elements}
 use Rattle.coset_recipient.specs.Recipient.{Recipients, no_recipients, recipient_and, RecipientView, are_some, each_of, recipient, recipient_fields}
 use Rattle.coset_recipient.specs.Recipient.{recipient_image, recipient_elements, recipient_step}
 use Rattle.coset_recipient.specs.RecipientLaws.{recipient-of_step, recipient-opened, step}
 use Rattle.coset_recipient.specs.Structures.{EachEncrypts, EachEncryptsSame, EncryptsAll, EncryptsAllSame, Macs, MacsSame, RecipientEncrypts}
 use Rattle.coset_recipient.specs.Structures.{RecipientEncryptsSame}
-use Rattle.coset_sign.specs.Countersigned.{EachCountersignsSame}
-use Rattle.coset_sign.proofs.Countersigned.{SignaturesKeptAsWritten, countersigned_as_written}
+use Rattle.coset_sign.specs.Countersigned.{EachCountersigns, EachCountersignsSame}
+use Rattle.coset_sign.proofs.Countersigned.{SignaturesKeptAsReceived, SignaturesKeptAsWritten, countersigned_as_written, countersigned_when_read}
+use Rattle.coset_sign.proofs.Received.{message_received}
 
 -- ---- recipients
 
@@ -112,6 +115,17 @@ mac_kept kept v m n e d = header_as_written mac_elements KeepsBytes kept v (mac_
 pub encrypt_kept : KeptAsWritten → AsWritten encrypt (λ m n. KeepsBytes m.protected n.protected)
 encrypt_kept kept v m n e d = header_as_written encrypt_elements KeepsBytes kept v (encrypt_fields m) (encrypt_fields n) e d
 
+-- ---- protected headers as received
+
+pub recipient_received : (v : Item) (r : RecipientView) → recipient.describes v r → KeepsFirst v r.protected
+recipient_received v r d = message_received (recipient_elements (list_of recipient)) v (recipient_fields r) (recipient-opened.describes v r d).1
+
+pub mac_received : (v : Item) (m : MacView) → mac.describes v m → KeepsFirst v m.protected
+mac_received v m = message_received mac_elements v (mac_fields m)
+
+pub encrypt_received : (v : Item) (m : EncryptView) → encrypt.describes v m → KeepsFirst v m.protected
+encrypt_received v m = message_received encrypt_elements v (encrypt_fields m)
+
 -- ---- countersignatures
 
 pub recipient_countersigned :
@@ -135,3 +149,19 @@ mac0_countersigned kept signatures v m n = countersigned_as_written mac0_element
 pub encrypt0_countersigned :
     KeptAsWritten → SignaturesKeptAsWritten → AsWritten encrypt0 (λ m n. EachCountersignsSame m.protected m.unprotected n.protected n.unprotected)
 encrypt0_countersigned kept signatures v m n = countersigned_as_written encrypt0_elements kept signatures v (encrypt0_fields m) (encrypt0_fields n)
+
+pub recipient_countersigns : SignaturesKeptAsReceived → WhenRead recipient (λ r. EachCountersigns r.protected r.unprotected)
+recipient_countersigns signatures v r d =
+    countersigned_when_read (recipient_elements (list_of recipient)) signatures v (recipient_fields r) (recipient-opened.describes v r d).1
+
+pub mac_countersigns : SignaturesKeptAsReceived → WhenRead mac (λ m. EachCountersigns m.protected m.unprotected)
+mac_countersigns signatures v m = countersigned_when_read mac_elements signatures v (mac_fields m)
+
+pub encrypt_countersigns : SignaturesKeptAsReceived → WhenRead encrypt (λ m. EachCountersigns m.protected m.unprotected)
+encrypt_countersigns signatures v m = countersigned_when_read encrypt_elements signatures v (encrypt_fields m)
+
+pub mac0_countersigns : SignaturesKeptAsReceived → WhenRead mac0 (λ m. EachCountersigns m.protected m.unprotected)
+mac0_countersigns signatures v m = countersigned_when_read mac0_elements signatures v (mac0_fields m)
+
+pub encrypt0_countersigns : SignaturesKeptAsReceived → WhenRead encrypt0 (λ m. EachCountersigns m.protected m.unprotected)
+encrypt0_countersigns signatures v m = countersigned_when_read encrypt0_elements signatures v (encrypt0_fields m)

@@ -4,26 +4,27 @@
 //! from the item that another value is written as. How the item was encoded doesn't matter.
 
 ghost use Rattle.std.specs.Prelude.{◌≡◌, ◌↔◌, ℕ, List};
-ghost use Rattle.coset_value.specs.Item.{Item};
+ghost use Rattle.coset_value.specs.Item.{Item, tag};
 ghost use Rattle.coset_cbor.specs.Shortest.{IsShortest};
 ghost use Rattle.coset_codec.specs.AsWritten.{AsWritten, WhenRead};
 ghost use Rattle.coset_codec.specs.PerhapsTagged.{DescribesNoTag};
 ghost use Rattle.coset_codec.specs.Shape.{tagged};
 ghost use Rattle.coset_codec.specs.declared.error.CoseError.{CoseError};
 ghost use Rattle.coset_core.specs.Headers.{protected_bytes, signature};
+ghost use Rattle.coset_core.specs.Kept.{KeepsFirst};
 ghost use Rattle.coset_msg.specs.Encrypt0.{encrypt0};
 ghost use Rattle.coset_msg.specs.Mac0.{mac0};
-ghost use Rattle.coset_recipient.specs.Encrypt.{encrypt};
-ghost use Rattle.coset_recipient.specs.Mac.{mac};
+ghost use Rattle.coset_recipient.specs.Encrypt.{EncryptView, encrypt};
+ghost use Rattle.coset_recipient.specs.Mac.{MacView, mac};
 ghost use Rattle.coset_recipient.specs.Recipient.{RecipientView, recipient, recipient_step};
-ghost use Rattle.coset_sign.specs.Countersigned.{EachCountersignsSame};
+ghost use Rattle.coset_sign.specs.Countersigned.{EachCountersigns, EachCountersignsSame};
 ghost use Rattle.coset_sign.specs.Sign.{sign};
 ghost use Rattle.coset_sign.specs.Sign1.{sign1};
 ghost use Rattle.coset_recipient.specs.AnyStructure.{AnyStructure, structure_of};
 ghost use Rattle.coset_recipient.specs.Structures.{EncryptsAll, EncryptsAllSame, Macs, MacsSame, RecipientEncrypts, RecipientEncryptsSame};
 
 use coset_cbor::laws::{one_item, shortest_is_encoding};
-use coset_core::laws::{kept_as_written, signatures_kept_as_written};
+use coset_core::laws::{kept_as_written, signatures_kept_as_received, signatures_kept_as_written};
 
 /// A recipient is an array of its headers, its ciphertext and, if there are any, an array of
 /// recipients.
@@ -36,6 +37,23 @@ pub fn recipients_hold_recipients()
         ≡ (recipient_step recipient).image r }
     ensures faults { (v : Item) (e : CoseError) → recipient.faults v e
         ↔ (recipient_step recipient).faults v e }
+{}
+
+/// The protected header of a recipient or message that was read is represented by the received
+/// bytes.
+///
+/// They are those of the byte string in the first element of the array. A message's array is the
+/// plain message, or the item in the tag of a tagged one.
+pub fn received_with_recipients()
+    ensures recipient { (v : Item) (r : RecipientView) → recipient.describes v r
+        → KeepsFirst v r.protected }
+    ensures mac { (v : Item) (m : MacView) → mac.describes v m → KeepsFirst v m.protected }
+    ensures tagged_mac { (v : Item) (m : MacView) → (tagged 97 mac).describes (tag 97 v) m
+        → KeepsFirst v m.protected }
+    ensures encrypt { (v : Item) (m : EncryptView) → encrypt.describes v m
+        → KeepsFirst v m.protected }
+    ensures tagged_encrypt { (v : Item) (m : EncryptView)
+        → (tagged 96 encrypt).describes (tag 96 v) m → KeepsFirst v m.protected }
 {}
 
 /// A recipient that is read back has the same protected bytes. So has a message, plain or tagged.
@@ -81,6 +99,29 @@ pub fn all_countersigned_as_written()
 {
     kept_as_written();
     signatures_kept_as_written();
+}
+
+/// Each countersignature in the unprotected header of a message or a recipient that was read has a
+/// structure to be signed.
+///
+/// A message may be plain or tagged. An abbreviated countersignature of the body is covered too.
+/// For signed messages, `countersigned_when_read` says the same.
+pub fn all_countersigned_when_read()
+    ensures mac0 { WhenRead mac0 (λ m. EachCountersigns m.protected m.unprotected) }
+    ensures tagged_mac0 { WhenRead (tagged 17 mac0)
+        (λ m. EachCountersigns m.protected m.unprotected) }
+    ensures encrypt0 { WhenRead encrypt0 (λ m. EachCountersigns m.protected m.unprotected) }
+    ensures tagged_encrypt0 { WhenRead (tagged 16 encrypt0)
+        (λ m. EachCountersigns m.protected m.unprotected) }
+    ensures recipient { WhenRead recipient (λ r. EachCountersigns r.protected r.unprotected) }
+    ensures mac { WhenRead mac (λ m. EachCountersigns m.protected m.unprotected) }
+    ensures tagged_mac { WhenRead (tagged 97 mac)
+        (λ m. EachCountersigns m.protected m.unprotected) }
+    ensures encrypt { WhenRead encrypt (λ m. EachCountersigns m.protected m.unprotected) }
+    ensures tagged_encrypt { WhenRead (tagged 96 encrypt)
+        (λ m. EachCountersigns m.protected m.unprotected) }
+{
+    signatures_kept_as_received();
 }
 
 /// A recipient or message that is read back has the same structures. So has each recipient in it,

@@ -358,6 +358,26 @@ fn write_each(alloc: Global, all: &[CoseRecipient], out: &mut Vec<u8>) -> Result
     Ok(())
 }
 
+/// Returns the approximate length of the recipient's encoding.
+#[cycle(size)]
+fn recipient_size_hint(recipient: &CoseRecipient) -> usize {
+    ProtectedRef(&recipient.protected)
+        .encoded_size_hint()
+        .saturating_add(recipient.unprotected.encoded_size_hint())
+        .saturating_add(recipient.ciphertext.encoded_size_hint())
+        .saturating_add(recipients_size_hint(&recipient.recipients))
+}
+
+/// Returns the approximate length of the encodings of these recipients, one after another.
+#[cycle(size)]
+fn recipients_size_hint(all: &[CoseRecipient]) -> usize {
+    let mut room: usize = 0;
+    for recipient in all {
+        room = room.saturating_add(recipient_size_hint(recipient));
+    }
+    room
+}
+
 /// Replaces the contents of `copies` with copies of these recipients.
 #[cycle(copy)]
 fn copy_recipients(all: &[CoseRecipient], copies: &mut Vec<CoseRecipient>) -> Result<(), AllocError>
@@ -420,7 +440,7 @@ pub(crate) fn copy_recipient_list(
 
 /// Returns true if this is one of the three contexts of a recipient.
 fn is_of_recipient(context: EncryptionContext) -> bool
-    ensures { IsOfRecipient context → IsTrue result }
+    ensures { IsTrue result ↔ IsOfRecipient context }
 {
     match context {
         EncryptionContext::CoseEncrypt | EncryptionContext::CoseEncrypt0 => false,
@@ -611,10 +631,7 @@ impl Codec for CoseRecipient {
     }
 
     fn size_hint(&self) -> usize {
-        ProtectedRef(&self.protected)
-            .encoded_size_hint()
-            .saturating_add(self.unprotected.encoded_size_hint())
-            .saturating_add(self.ciphertext.encoded_size_hint())
+        recipient_size_hint(self)
     }
 
     fn write(&self, alloc: Global, out: &mut Vec<u8>) -> Result<()> {

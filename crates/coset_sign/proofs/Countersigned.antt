@@ -9,7 +9,7 @@ use Rattle.coset_codec.specs.ShapeLaws.{some-none}
 use Rattle.coset_label.specs.LabelData.{LabelView}
 use Rattle.coset_core.specs.HeaderMap.{each_of}
 use Rattle.coset_core.specs.Headers.{HeaderView, ProtectedView, SignatureView, counter_signatures_in, countersignatures_in, fields_in}
-use Rattle.coset_core.specs.Headers.{LAYERS, header, layered_signature, protected_bytes, signature}
+use Rattle.coset_core.specs.Headers.{LAYERS, layered_header, layered_signature, protected_bytes}
 use Rattle.coset_core.specs.Kept.{EachReadAs, EachSignature, KeepsReceived, KeepsSignature, KeepsSignatures, SignaturesReadAs}
 use Rattle.coset_core.specs.FieldLabels as labels
 use Rattle.coset_core.specs.Messages.{with_headers}
@@ -70,34 +70,38 @@ module _ {P Q : SignatureView → Type 0} (f : (s : SignatureView) → P s → Q
   each_signature : (h : HeaderView) → EachSignature P h → EachSignature Q h
   each_signature h k = (each_has (each_of (counter_signatures_in h)) k.0, each_has (each_of (countersignatures_in h)) k.1)
 
--- The law of `coset_core` on the signatures in headers that are written and read.
+-- The laws of `coset_core` on the signatures in headers, written and read.
 abbrev pub SignaturesKeptAsWritten : Type 0
-SignaturesKeptAsWritten = AsWritten header (SignaturesReadAs KeepsSignature)
+SignaturesKeptAsWritten = (k : ℕ) → AsWritten (layered_header k) (SignaturesReadAs KeepsSignature)
+
+abbrev pub SignaturesKeptAsReceived : Type 0
+SignaturesKeptAsReceived = (k : ℕ) → WhenRead (layered_header k) KeepsSignatures
 
 -- Therefore countersignatures in such headers have the same structures.
 in_headers : (p q : ProtectedView) (h g : HeaderView) → KeepsBytes p q → SignaturesReadAs KeepsSignature h g → EachCountersignsSame p h q g
 in_headers p q h g e k = (abbreviates_same p q (sym e), all_read_as (λ s t f. countersigns_same p s.protected q t.protected (sym e) (sym f.0)) h g k)
 
 pub within_as_written :
-    SignaturesKeptAsWritten → (p q : ProtectedView) → KeepsBytes p q → AsWritten header (λ h g. EachCountersignsSame p h q g)
-within_as_written kept p q e v h g f d = in_headers p q h g e (kept v h g f d)
+    SignaturesKeptAsWritten → (k : ℕ) (p q : ProtectedView) → KeepsBytes p q → AsWritten (layered_header k) (λ h g. EachCountersignsSame p h q g)
+within_as_written kept k p q e v h g f d = in_headers p q h g e (kept k v h g f d)
 
 pub apart_as_written :
-    AsWritten signature KeepsSignature → (p q : ProtectedView) → KeepsBytes p q → AsWritten signature (λ s t. CountersignsSame p s.protected q t.protected)
-apart_as_written kept p q e v s t f d = countersigns_same p s.protected q t.protected (sym e) (sym (kept v s t f d).0)
+    ((k : ℕ) → AsWritten (layered_signature k) KeepsSignature) → (k : ℕ) (p q : ProtectedView) → KeepsBytes p q
+    → AsWritten (layered_signature k) (λ s t. CountersignsSame p s.protected q t.protected)
+apart_as_written kept k p q e v s t f d = countersigns_same p s.protected q t.protected (sym e) (sym (kept k v s t f d).0)
 
 in_header : (p : ProtectedView) (h : HeaderView) → HasBytes p → KeepsSignatures h → EachCountersigns p h
 in_header p h b k = (abbreviates p b, each_signature (λ s own. countersigns p s.protected b (own.0, own.2)) h k)
 
-pub within_when_read : WhenRead header KeepsSignatures → (p : ProtectedView) → HasBytes p → WhenRead header (EachCountersigns p)
-within_when_read kept p b v h d = in_header p h b (kept v h d)
+pub within_when_read : SignaturesKeptAsReceived → (k : ℕ) (p : ProtectedView) → HasBytes p → WhenRead (layered_header k) (EachCountersigns p)
+within_when_read kept k p b v h d = in_header p h b (kept k v h d)
 
 -- The law of `coset_core` on a signature that was read.
 abbrev pub KeptAsReceived : Type 0
 KeptAsReceived = (k : ℕ) (v : Item) (s : SignatureView) → (layered_signature k).describes v s → KeepsReceived v s
 
-pub apart_when_read : KeptAsReceived → (p : ProtectedView) → HasBytes p → WhenRead signature (λ s. Countersigns p s.protected)
-apart_when_read kept p b v s d = let own = (kept LAYERS v s d).0 in countersigns p s.protected b (own.0, own.2)
+pub apart_when_read : KeptAsReceived → (k : ℕ) (p : ProtectedView) → HasBytes p → WhenRead (layered_signature k) (λ s. Countersigns p s.protected)
+apart_when_read kept k p b v s d = let own = (kept k v s d).0 in countersigns p s.protected b (own.0, own.2)
 
 -- ---- countersignatures in the unprotected header of a message
 
@@ -105,12 +109,12 @@ module _ {A : Type 0} (ps : Elements A) where
   pub countersigned_as_written :
       KeptAsWritten → SignaturesKeptAsWritten → AsWritten (with_headers ps) (λ x y. EachCountersignsSame x.0 x.1.0 y.0 y.1.0)
   countersigned_as_written kept signatures v x y e d =
-      let two = headers_as_written ps KeepsBytes (SignaturesReadAs KeepsSignature) kept signatures v x y e d in
+      let two = headers_as_written ps KeepsBytes (SignaturesReadAs KeepsSignature) kept (signatures LAYERS) v x y e d in
       in_headers x.0 y.0 x.1.0 y.1.0 two.0 two.1
 
-  pub countersigned_when_read : WhenRead header KeepsSignatures → WhenRead (with_headers ps) (λ x. EachCountersigns x.0 x.1.0)
+  pub countersigned_when_read : SignaturesKeptAsReceived → WhenRead (with_headers ps) (λ x. EachCountersigns x.0 x.1.0)
   countersigned_when_read signatures v x d =
-      let two = headers_when_read ps HasBytes KeepsSignatures has_bytes signatures v x d in
+      let two = headers_when_read ps HasBytes KeepsSignatures has_bytes (signatures LAYERS) v x d in
       in_header x.0 x.1.0 two.0 two.1
 
 pub sign1_countersigned :
@@ -121,8 +125,8 @@ pub sign_countersigned :
     KeptAsWritten → SignaturesKeptAsWritten → AsWritten sign (λ m n. EachCountersignsSame m.protected m.unprotected n.protected n.unprotected)
 sign_countersigned kept signatures v m n = countersigned_as_written sign_elements kept signatures v (sign_fields m) (sign_fields n)
 
-pub sign1_countersigns : WhenRead header KeepsSignatures → WhenRead sign1 (λ m. EachCountersigns m.protected m.unprotected)
+pub sign1_countersigns : SignaturesKeptAsReceived → WhenRead sign1 (λ m. EachCountersigns m.protected m.unprotected)
 sign1_countersigns signatures v m = countersigned_when_read sign1_elements signatures v (sign1_fields m)
 
-pub sign_countersigns : WhenRead header KeepsSignatures → WhenRead sign (λ m. EachCountersigns m.protected m.unprotected)
+pub sign_countersigns : SignaturesKeptAsReceived → WhenRead sign (λ m. EachCountersigns m.protected m.unprotected)
 sign_countersigns signatures v m = countersigned_when_read sign_elements signatures v (sign_fields m)

@@ -1,5 +1,6 @@
 pub mod Signatures
 mod Written
+pub mod Received
 pub mod Countersigned
 pub mod Copied
 pub mod Calling

@@ -4,15 +4,17 @@
 //! from the item that another value is written as. How the item was encoded doesn't matter.
 
 ghost use Rattle.std.specs.Prelude.{◌≡◌, ℕ, List, Option, Some, None};
+ghost use Rattle.coset_value.specs.Item.{Item, tag};
 ghost use Rattle.coset_cbor.specs.Shortest.{IsShortest};
 ghost use Rattle.coset_codec.specs.AsWritten.{AsWritten, WhenRead};
 ghost use Rattle.coset_codec.specs.Shape.{tagged};
-ghost use Rattle.coset_core.specs.Headers.{ProtectedView, header, protected_bytes, signature};
+ghost use Rattle.coset_core.specs.Headers.{ProtectedView, layered_header, layered_signature, protected_bytes};
+ghost use Rattle.coset_core.specs.Kept.{KeepsFirst};
 ghost use Rattle.coset_core.specs.Structure.{structure};
 ghost use Rattle.coset_sign.specs.Countersigned.{AbbreviatesSame, Countersigns, CountersignsSame, EachCountersigns, EachCountersignsSame};
 ghost use Rattle.coset_sign.specs.SignatureStructure.{signature_structure};
-ghost use Rattle.coset_sign.specs.Sign1.{SamePayloadAndSignature, sign1, sign1_structure};
-ghost use Rattle.coset_sign.specs.Sign.{EachSigns, EachSignsSame, sign};
+ghost use Rattle.coset_sign.specs.Sign1.{SamePayloadAndSignature, Sign1View, sign1, sign1_structure};
+ghost use Rattle.coset_sign.specs.Sign.{EachSigns, EachSignsSame, SignView, sign};
 ghost use Rattle.coset_sign.specs.Signed.{SignsSame};
 ghost use Rattle.coset_sign.specs.declared.signature.SignatureContext.{SignatureContext};
 
@@ -79,6 +81,19 @@ pub fn each_signed_as_written()
     kept_as_written();
 }
 
+/// The protected header of a signed message that was read is represented by the received bytes.
+///
+/// They are those of the byte string in the first element of the message's array. This array is the
+/// plain message, or the item in the tag of a tagged one.
+pub fn received_in_signed()
+    ensures sign1 { (v : Item) (m : Sign1View) → sign1.describes v m → KeepsFirst v m.protected }
+    ensures tagged_sign1 { (v : Item) (m : Sign1View) → (tagged 18 sign1).describes (tag 18 v) m
+        → KeepsFirst v m.protected }
+    ensures sign { (v : Item) (m : SignView) → sign.describes v m → KeepsFirst v m.protected }
+    ensures tagged_sign { (v : Item) (m : SignView) → (tagged 98 sign).describes (tag 98 v) m
+        → KeepsFirst v m.protected }
+{}
+
 /// A signed message that is read back, plain or tagged, has the same protected bytes.
 pub fn kept_in_signed()
     ensures sign1 { AsWritten sign1 (λ m n. protected_bytes n.protected
@@ -114,18 +129,21 @@ pub fn countersigned_by_bytes()
 /// - The other clauses: each countersignature in the unprotected header of a signed message, plain
 ///   or tagged.
 ///
-/// All clauses except `apart` and `tagged_apart` also cover an abbreviated countersignature of the
-/// body.
+/// The first three clauses hold for any number of layers. All clauses except `apart` and
+/// `tagged_apart` also cover an abbreviated countersignature of the body.
 ///
 /// `kept_in_messages` and `kept_with_recipients` say that bodies of other kinds have the same
 /// protected bytes.
 pub fn countersigned_as_written()
-    ensures within { (body read : ProtectedView) → protected_bytes read ≡ protected_bytes body
-        → AsWritten header (λ h g. EachCountersignsSame body h read g) }
-    ensures apart { (body read : ProtectedView) → protected_bytes read ≡ protected_bytes body
-        → AsWritten signature (λ s t. CountersignsSame body s.protected read t.protected) }
-    ensures tagged_apart { (body read : ProtectedView)
-        → protected_bytes read ≡ protected_bytes body → AsWritten (tagged 19 signature)
+    ensures within { (k : ℕ) (body read : ProtectedView)
+        → protected_bytes read ≡ protected_bytes body
+        → AsWritten (layered_header k) (λ h g. EachCountersignsSame body h read g) }
+    ensures apart { (k : ℕ) (body read : ProtectedView)
+        → protected_bytes read ≡ protected_bytes body → AsWritten (layered_signature k)
+        (λ s t. CountersignsSame body s.protected read t.protected) }
+    ensures tagged_apart { (k : ℕ) (body read : ProtectedView)
+        → protected_bytes read ≡ protected_bytes body
+        → AsWritten (tagged 19 (layered_signature k))
         (λ s t. CountersignsSame body s.protected read t.protected) }
     ensures sign1 { AsWritten sign1
         (λ m n. EachCountersignsSame m.protected m.unprotected n.protected n.unprotected) }
@@ -147,15 +165,18 @@ pub fn countersigned_as_written()
 /// - The other clauses: each countersignature in the unprotected header of a signed message, plain
 ///   or tagged.
 ///
-/// All clauses except `apart` and `tagged_apart` also cover an abbreviated countersignature of the
-/// body.
+/// The first three clauses hold for any number of layers. All clauses except `apart` and
+/// `tagged_apart` also cover an abbreviated countersignature of the body.
+///
+/// For other messages and for recipients, `all_countersigned_when_read` says the same.
 pub fn countersigned_when_read()
-    ensures within { (body : ProtectedView) (b : List ℕ) → protected_bytes body ≡ Some b
-        → WhenRead header (λ h. EachCountersigns body h) }
-    ensures apart { (body : ProtectedView) (b : List ℕ) → protected_bytes body ≡ Some b
-        → WhenRead signature (λ s. Countersigns body s.protected) }
-    ensures tagged_apart { (body : ProtectedView) (b : List ℕ) → protected_bytes body ≡ Some b
-        → WhenRead (tagged 19 signature) (λ s. Countersigns body s.protected) }
+    ensures within { (k : ℕ) (body : ProtectedView) (b : List ℕ) → protected_bytes body ≡ Some b
+        → WhenRead (layered_header k) (λ h. EachCountersigns body h) }
+    ensures apart { (k : ℕ) (body : ProtectedView) (b : List ℕ) → protected_bytes body ≡ Some b
+        → WhenRead (layered_signature k) (λ s. Countersigns body s.protected) }
+    ensures tagged_apart { (k : ℕ) (body : ProtectedView) (b : List ℕ)
+        → protected_bytes body ≡ Some b → WhenRead (tagged 19 (layered_signature k))
+        (λ s. Countersigns body s.protected) }
     ensures sign1 { WhenRead sign1 (λ m. EachCountersigns m.protected m.unprotected) }
     ensures tagged_sign1 { WhenRead (tagged 18 sign1)
         (λ m. EachCountersigns m.protected m.unprotected) }
