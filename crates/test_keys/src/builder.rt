@@ -1,6 +1,7 @@
 //! Calls of `CoseKeyBuilder`.
 
-use crate::key::{self, told_point};
+use crate::key::{self, told_bytes};
+use cose_thumbprint::thumbprint_input;
 use coset::cbor::value::Value;
 use coset::iana::{self, EllipticCurve, KeyOperation};
 use coset::{CallError, CoseError, CoseKey, CoseKeyBuilder, KeyType, Result};
@@ -81,6 +82,7 @@ pub fn call(alloc: Global, name: &str, words: &Words<'_>) -> Result<String> {
     match name {
         "build" => build(alloc, words),
         "to_sec1_octet_string" => to_sec1_octet_string(alloc, words),
+        "thumbprint_input" => thumbprint(alloc, words),
         "new_okp_key" => new_okp_key(alloc),
         "new_symmetric_key" => new_symmetric_key(alloc, words),
         "new_mldsa_pub_key" => new_mldsa_pub_key(alloc, words),
@@ -107,7 +109,16 @@ fn to_sec1_octet_string(alloc: Global, words: &Words<'_>) -> Result<String> {
     mark::begin(alloc);
     let answer = key.to_sec1_octet_string(alloc);
     mark::end(alloc);
-    told_point(alloc, answer)
+    told_bytes(alloc, answer)
+}
+
+/// Builds a key, and returns the input of its thumbprint. Arguments: the builder's calls.
+fn thumbprint(alloc: Global, words: &Words<'_>) -> Result<String> {
+    let key = built(alloc, steps::all(alloc, words, 1)?)?;
+    mark::begin(alloc);
+    let answer = thumbprint_input(alloc, &key);
+    mark::end(alloc);
+    told_bytes(alloc, answer)
 }
 
 fn new_okp_key(alloc: Global) -> Result<String> {

@@ -1,10 +1,10 @@
 //! Calls of `CoseKey` and `MlDsaVariant`.
 
+use cose_thumbprint::thumbprint_input;
 use coset::iana::{Algorithm, EnumI64};
-use coset::{
-    CborSerializable, CoseError, CoseKey, Label, MlDsaVariant, Result, ToSec1OctetStringError,
-};
+use coset::{CborSerializable, CoseError, CoseKey, Label, MlDsaVariant, Result};
 use std::alloc::Global;
+use std::fmt;
 use test_lines::rest::{and_pairs, told};
 use test_lines::words::Words;
 use test_lines::{mark, spelled, tell};
@@ -18,6 +18,7 @@ pub fn call(alloc: Global, name: &str, words: &Words<'_>) -> Result<String> {
         "canonicalize" => canonicalize(alloc, words),
         "get" => get(alloc, words),
         "to_sec1_octet_string" => to_sec1_octet_string(alloc, words),
+        "thumbprint_input" => thumbprint(alloc, words),
         _ => Err(CoseError::UnexpectedItem("name", "call of CoseKey")),
     }
 }
@@ -52,19 +53,28 @@ fn to_sec1_octet_string(alloc: Global, words: &Words<'_>) -> Result<String> {
     mark::begin(alloc);
     let answer = key.to_sec1_octet_string(alloc);
     mark::end(alloc);
-    told_point(alloc, answer)
+    told_bytes(alloc, answer)
 }
 
-/// Returns `ok` and the octet string, or the error's text.
+/// Arguments: the key.
+fn thumbprint(alloc: Global, words: &Words<'_>) -> Result<String> {
+    let key: CoseKey = spelled::read(alloc, words.word(1))?;
+    mark::begin(alloc);
+    let answer = thumbprint_input(alloc, &key);
+    mark::end(alloc);
+    told_bytes(alloc, answer)
+}
+
+/// Returns `ok` and the bytes, or the error's text.
 ///
 /// # Errors
 /// `OutOfMemory` if an allocation for the text fails.
-pub fn told_point(
+pub fn told_bytes<E: fmt::Display + Drop>(
     alloc: Global,
-    answer: std::result::Result<Vec<u8>, ToSec1OctetStringError>,
+    answer: std::result::Result<Vec<u8>, E>,
 ) -> Result<String> {
     match answer {
-        Ok(octets) => tell::bytes(alloc, Ok(octets)),
+        Ok(bytes) => tell::bytes(alloc, Ok(bytes)),
         Err(error) => Ok(format!(in alloc; "{error}")?),
     }
 }

@@ -1,0 +1,4 @@
+pub mod Thumbprint
+pub mod Views
+pub mod ThumbprintLaws
+pub mod Texts
