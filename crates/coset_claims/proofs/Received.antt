@@ -1,18 +1,11 @@
 -- The protected header of a SuppPubInfo that was read is represented by the bytes that it was decoded from.
-use Rattle.std.proofs.Common.{◌≡◌, Some, sym, ap, ◌∙◌}
+use Rattle.std.proofs.Common.{◌≡◌}
 use Rattle.coset_value.specs.Item.{Item, Items, no_items, item}
-use Rattle.coset_value.specs.Parts.{as_bytes}
-use Rattle.coset_codec.specs.Serialized.{content_bytes}
 use Rattle.coset_codec.specs.Shape.{◌then◌, uint}
-use Rattle.coset_core.specs.Headers.{ProtectedView, header_image, is_empty_header, layered_protected, protected, protected_bytes}
+use Rattle.coset_core.proofs.Received.{protected_received}
+use Rattle.coset_core.specs.Headers.{protected, protected_bytes}
 use Rattle.coset_core.specs.Kept.{KeepsOwn}
 use Rattle.coset_claims.specs.SuppPub.{KeepsSecond, SuppPubView, other_place, second_bytes, supp_pub, supp_pub_elements}
-
-protected_received : (v : Item) (p : ProtectedView) → protected.describes v p → KeepsOwn p × (as_bytes v ≡ protected_bytes p)
-unfolding layered_protected
-protected_received v p d =
-    let is : protected_bytes p ≡ Some d.0 = ap (λ o. content_bytes is_empty_header header_image o p.header) d.2 in
-    ((d.0, d.2, is), d.1 ∙ sym is)
 
 second_received :
     (vs : Items) (s : SuppPubView) → (uint then protected then other_place).describes vs (supp_pub_elements s)

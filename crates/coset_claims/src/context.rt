@@ -171,7 +171,8 @@ impl Codec for CoseKdfContext {
     ghost equal = { λ a b. context_decides (algorithm_decides a.algorithm_id b.algorithm_id)
         (party_decides a.party_u_info b.party_u_info) (party_decides a.party_v_info b.party_v_info)
         (supp_pub_decides a.supp_pub_info b.supp_pub_info)
-        (lists_decides (λ b. b.items) _ vec_decides a.supp_priv_info.items b.supp_priv_info.items) };
+        (lists_decides (λ b. b.items) _ vec_decides a.supp_priv_info.items
+        b.supp_priv_info.items) };
 
     /// Reads the elements of a context in order. If there are too few elements, the error says so.
     /// Otherwise the error is the fault of the last element that has one.

@@ -11,8 +11,8 @@ use Rattle.coset_codec.specs.declared.read.decoder.ArrayElements.TheVariants as 
 use Rattle.coset_codec.specs.declared.read.decoder.MapEntries.{MapEntries}
 use Rattle.coset_codec.specs.declared.read.decoder.MapEntries.TheVariants as pairs
 use Rattle.coset_codec.specs.Results.{Reads}
-use Rattle.coset_codec.specs.Inputs.{State, tree, borrowed, length_left, input_size, items_size, items_turns, pairs_size, pairs_turns, IsBorrowed, MovesForward, ItemAt}
-use Rattle.coset_codec.specs.Inputs.{AreWithin, PairsWithin, Nexts, NextsKey}
+use Rattle.coset_codec.specs.Inputs.{State, tree, borrowed, length_left, input_size, items_size, items_turns, pairs_size, pairs_turns}
+use Rattle.coset_codec.specs.Inputs.{IsBorrowed, MovesForward, ItemAt, AreWithin, PairsWithin, Nexts, NextsKey}
 use Rattle.coset_codec.specs.Shape.{Shape}
 
 lent_is : (s t : List ℕ) → borrowed s ≡ borrowed t → s ≡ t

@@ -5,9 +5,10 @@ use Rattle.coset_value.specs.Item.{Item, Pairs, no_pairs, pair}
 use Rattle.coset_value.specs.Parts.{as_map}
 use Rattle.coset_codec.specs.declared.error.CoseError.{CoseError}
 use Rattle.coset_codec.specs.declared.error.CoseError.TheVariants.{DuplicateMapKey}
-use Rattle.coset_codec.specs.Maps.{MapLabels, Fields, Entries, SoFar, Walks, TakesKey, RefusesKey, MapFaults, RepeatsLabel, and_pairs, with_pair, are_distinct, labelled}
-use Rattle.coset_codec.specs.MapLaws.{LawfulMapLabels, LawfulFields, so_far_none, so_far_more, so_far_all, so_far_twice, refuses_fault, key_fault, distinct_tested}
-use Rattle.coset_codec.specs.MapLaws.{and_pairs-with, and_pairs-none}
+use Rattle.coset_codec.specs.Maps.{MapLabels, Fields, Entries, SoFar, Walks, TakesKey, RefusesKey, MapFaults, RepeatsLabel}
+use Rattle.coset_codec.specs.Maps.{and_pairs, with_pair, are_distinct, labelled}
+use Rattle.coset_codec.specs.MapLaws.{LawfulMapLabels, LawfulFields, so_far_none, so_far_more, so_far_all, so_far_twice}
+use Rattle.coset_codec.specs.MapLaws.{refuses_fault, key_fault, distinct_tested, and_pairs-with, and_pairs-none}
 
 module _ {N A : Type 0} (n : MapLabels N) (laws : LawfulMapLabels N n) (fs : Fields N A) (fl : LawfulFields N A n fs) where
   pub sets_out : (all : Pairs) (x : A × List (N × Item)) → fs.describes [] x.0 → x.1 ≡ [] → Walks N A n fs all x all

@@ -24,8 +24,8 @@ use Rattle.coset_core.specs.Fields.{FieldsView, PerVersion, empty_fields, fields
 use Rattle.coset_core.specs.Fields.{SomeCounterSignatures}
 use Rattle.coset_core.specs.FieldLaws.{partial_fields_laws, join, barred_fault}
 use Rattle.coset_core.specs.FieldViews.{signature_lists, fields_view, counter_signature_list, countersignature_v2_list}
-use Rattle.coset_core.specs.Filling.{WalksTo, AtCounterSignatures, AtEnd, FillsFields, IsDistinctRest, Keeps, BeginsElements, EndsElements, FirstPlace, label_of, at_version}
-use Rattle.coset_core.specs.Filling.{with_version, signature_views, signatures_of_version}
+use Rattle.coset_core.specs.Filling.{WalksTo, AtCounterSignatures, AtEnd, FillsFields, IsDistinctRest, Keeps, BeginsElements, EndsElements, FirstPlace}
+use Rattle.coset_core.specs.Filling.{label_of, at_version, with_version, signature_views, signatures_of_version}
 use Rattle.coset_core.specs.HeaderAgain.{array-is, bytes-is, never_none}
 use Rattle.coset_core.specs.HeaderReads.{partial_header_fault, counter_signatures_fault}
 use Rattle.coset_core.specs.Headers.{HeaderView, fields_in, counter_signatures_in, countersignatures_in, SignatureView, empty_header, layered_header}

@@ -11,5 +11,6 @@ pub mod Filling
 pub mod Forward
 pub mod HeaderMap
 pub mod Messages
+pub mod Received
 pub mod Structures
 pub mod Calling

@@ -106,7 +106,8 @@ pub(crate) fn add_operation(
     operation: KeyOperation,
 ) -> Result<()>
     ensures ok { OnOk result (map operation_view operations.new.keys
-        ≡ insert_key label_cmp (map operation_view operations.old.keys) (operation_view operation)) }
+        ≡ insert_key label_cmp (map operation_view operations.old.keys)
+        (operation_view operation)) }
     ensures memory { IfErr result (λ e. e ≡ OutOfMemory) }
 {
     operations.insert(operation)?;

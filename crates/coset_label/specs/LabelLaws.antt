@@ -7,8 +7,8 @@ use Rattle.coset_codec.specs.ShapeLaws.{Lawful, mapped_laws, either_laws, such_t
 use Rattle.coset_label.specs.LabelData.{LabelView, number, text_label, RegisteredLabelView, assigned, private_use, text_name}
 use Rattle.coset_label.specs.LabelData.{label_cmp, same_label}
 use Rattle.coset_label.specs.NameOrder.{label_cmp-apart}
-use Rattle.coset_label.specs.Labels.{label, registered, registered_or_private, is_integer, is_known, is_some_known, label_of_sum, sum_of_label, registered_of_sum}
-use Rattle.coset_label.specs.Labels.{sum_of_registered, IsUnregistered, IsNotPrivate, algorithm, cose_labels}
+use Rattle.coset_label.specs.Labels.{label, registered, registered_or_private, is_integer, is_known, is_some_known, label_of_sum, sum_of_label}
+use Rattle.coset_label.specs.Labels.{registered_of_sum, sum_of_registered, IsUnregistered, IsNotPrivate, algorithm, cose_labels}
 
 label-back : (x : LabelView) → label_of_sum (sum_of_label x) ≡ x
 label-back (number i) = refl

@@ -8,8 +8,8 @@ use Rattle.coset_codec.specs.Encoding.{AppendsImage, AppendsElements, Encodes}
 use Rattle.coset_codec.specs.Shape.{both, bstr, images, last_image, or_nil}
 use Rattle.coset_codec.proofs.Encoding.{array-put, nothing-put, place-put}
 use Rattle.coset_core.specs.Headers.{header, protected}
-use Rattle.coset_recipient.specs.Recipient.{Recipients, no_recipients, recipient_and, RecipientView, are_none, recipients_of, recipients_element, recipient_array}
-use Rattle.coset_recipient.specs.Recipient.{recipient_image, recipients_image}
+use Rattle.coset_recipient.specs.Recipient.{Recipients, no_recipients, recipient_and, RecipientView, are_none, recipients_of}
+use Rattle.coset_recipient.specs.Recipient.{recipients_element, recipient_array, recipient_image, recipients_image}
 use Rattle.coset_recipient.specs.RecipientWriting.{Begins, last_elements}
 
 pub images_of : (rs : List RecipientView) → images recipient_image rs ≡ recipients_image (recipients_of rs)

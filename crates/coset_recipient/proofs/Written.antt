@@ -24,7 +24,7 @@ use Rattle.coset_recipient.specs.Structures.{EachEncrypts, EachEncryptsSame, Enc
 use Rattle.coset_recipient.specs.Structures.{RecipientEncryptsSame}
 use Rattle.coset_sign.specs.Countersigned.{EachCountersigns, EachCountersignsSame}
 use Rattle.coset_sign.proofs.Countersigned.{SignaturesKeptAsReceived, SignaturesKeptAsWritten, countersigned_as_written, countersigned_when_read}
-use Rattle.coset_sign.proofs.Received.{message_received}
+use Rattle.coset_core.proofs.Received.{message_received}
 
 -- ---- recipients
 

@@ -1,8 +1,8 @@
 -- The laws of the shape of recipients.
 use Rattle.std.proofs.Common.{◌≡◌, ℕ, List, [], ◌∷◌, false, Option, option_map, refl, sym, ap, ◌∙◌, true≢false}
 use Rattle.coset_value.specs.Item.{array, Items, item}
-use Rattle.coset_codec.specs.RecursiveLaws.{IsCoveredBy, Below, Step, mapped_passes, array_passes, then_passes, optional_last_passes, list_below, recursive_laws}
-use Rattle.coset_codec.specs.RecursiveLaws.{recursive_step, step_recursive}
+use Rattle.coset_codec.specs.RecursiveLaws.{IsCoveredBy, Below, Step, mapped_passes, array_passes, then_passes, optional_last_passes, list_below}
+use Rattle.coset_codec.specs.RecursiveLaws.{recursive_laws, recursive_step, step_recursive}
 use Rattle.coset_codec.specs.Shape.{Shape, both, bstr, or_nil, optional_last, last_image, list_of, images}
 use Rattle.coset_codec.specs.ShapeLaws.{Lawful, LawfulElements, mapped_laws, then_laws, bstr_laws, bytes_no_nil, or_nil_laws, optional_last_laws, list_of_laws}
 use Rattle.coset_core.specs.Headers.{header, protected}

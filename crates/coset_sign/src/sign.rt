@@ -457,10 +457,14 @@ impl CoseSignBuilder {
             → TriesToCreate F.FnOnce signer o (λ s b. sign_view b ≡ push_signature
             (signed_with s.items (signature_view signature)) (sign_view self)) result }
     {
+        let structure = match structure {
+            Ok(structure) => structure,
+            Err(error) => return Err(CallError::Coset(error)),
+        };
         if self.0.signatures.reserve(1).is_err() {
             return Err(CallError::Coset(CoseError::OutOfMemory));
         }
-        let signed = signed_with(signature, create_with(structure, signer)?);
+        let signed = signed_with(signature, create_with(Ok(structure), signer)?);
         self.0.signatures.push_reserved(signed);
         Ok(self)
     }

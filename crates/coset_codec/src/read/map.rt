@@ -121,7 +121,8 @@ fn read_pairs<V: MapVisitor>(
     ensures reads { (all ps : Pairs) (z : State)
         → Walks _ _ V.names V.fields all (V.view visitor.old) ps
         → PairsWithin pairs.old ps (state input.old) z
-        → ReadsPairs V.names V.fields all (V.view visitor.new) (state input.new) z pairs.new result }
+        → ReadsPairs V.names V.fields all (V.view visitor.new) (state input.new) z pairs.new
+        result }
 {
     while let Some(label) = V::next_label(alloc, pairs, input)? {
         visitor.add(alloc, label, input)?;

@@ -1,7 +1,8 @@
 use Rattle.coset_core.specs.Kept.{KeepsFirst}
 use Rattle.coset_msg.specs.Encrypt0.{encrypt0}
 use Rattle.coset_msg.specs.Mac0.{mac0}
-use Rattle.coset_msg.proofs.Received.{encrypt0_received, mac0_received, under_tag}
+use Rattle.coset_core.proofs.Received.{under_tag}
+use Rattle.coset_msg.proofs.Received.{encrypt0_received, mac0_received}
 use Rattle.coset_msg.proofs.laws.received_in_messages.Goals as goal
 
 pub returns-clause-mac0 : goal.returns-clause-mac0

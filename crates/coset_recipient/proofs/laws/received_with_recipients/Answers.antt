@@ -2,7 +2,7 @@ use Rattle.coset_core.specs.Kept.{KeepsFirst}
 use Rattle.coset_recipient.specs.Encrypt.{encrypt}
 use Rattle.coset_recipient.specs.Mac.{mac}
 use Rattle.coset_recipient.proofs.Written.{encrypt_received, mac_received, recipient_received}
-use Rattle.coset_sign.proofs.Received.{under_tag}
+use Rattle.coset_core.proofs.Received.{under_tag}
 use Rattle.coset_recipient.proofs.laws.received_with_recipients.Goals as goal
 
 pub returns-clause-recipient : goal.returns-clause-recipient

@@ -1,7 +1,8 @@
 use Rattle.coset_core.specs.Kept.{KeepsFirst}
 use Rattle.coset_sign.specs.Sign.{sign}
 use Rattle.coset_sign.specs.Sign1.{sign1}
-use Rattle.coset_sign.proofs.Received.{sign_received, sign1_received, under_tag}
+use Rattle.coset_core.proofs.Received.{under_tag}
+use Rattle.coset_sign.proofs.Received.{sign_received, sign1_received}
 use Rattle.coset_sign.proofs.laws.received_in_signed.Goals as goal
 
 pub returns-clause-sign1 : goal.returns-clause-sign1

@@ -33,12 +33,14 @@ loop-label-preserved c = record {
       let before = c.loop-label.invariant.shrinks in
       omega (arith, taken, next, before);
   size =
-      let taken = pairs_smaller c.next_key.new.self (state c.next_key.new.input) (state c.set_parameter.new.input) c.in_ok-set_parameter-in-Simple.ensures.shrinks in
+      let shrinks = c.in_ok-set_parameter-in-Simple.ensures.shrinks in
+      let taken = pairs_smaller c.next_key.new.self (state c.next_key.new.input) (state c.set_parameter.new.input) shrinks in
       let next = c.in_ok-label.ensures.size in
       let before = c.loop-label.invariant.size in
       omega (arith, taken, next, before);
   turns =
-      let taken = pairs_fewer c.next_key.new.self (state c.next_key.new.input) (state c.set_parameter.new.input) c.in_ok-set_parameter-in-Simple.ensures.shrinks in
+      let shrinks = c.in_ok-set_parameter-in-Simple.ensures.shrinks in
+      let taken = pairs_fewer c.next_key.new.self (state c.next_key.new.input) (state c.set_parameter.new.input) shrinks in
       let some = rw c.in-Some.is at c.in_ok-label.ensures.turns in
       let next = some refl in
       let before = c.loop-label.invariant.turns in
@@ -55,12 +57,14 @@ pub returns-in_err-set_parameter-in-Simple-clause-fills : goal.returns-in_err-se
 returns-in_err-set_parameter-in-Simple-clause-fills c = λ all ps o z walks within.
     let w = c.loop-label.invariant.fills all ps o z walks within in
     let next = rw c.in-Some.is at c.in_ok-label.ensures.nexts in
-    stops all o (fields_view c.set_parameter.new.header) (state c.set_parameter.new.input) z c.next_key.new.self c.from_residual-in_err-set_parameter-in-Simple.result
+    stops all o (fields_view c.set_parameter.new.header) (state c.set_parameter.new.input) z c.next_key.new.self
+    c.from_residual-in_err-set_parameter-in-Simple.result
     c.in_err-set_parameter-in-Simple.field-0.0
     c.from_residual-in_err-set_parameter-in-Simple.ensures.1
     (at_value all o (fields_view c.loop-label.header) (fields_view c.set_parameter.new.header) (state c.loop-label.input) (state c.next_key.new.input)
     (state c.set_parameter.new.input) z c.loop-label.pairs c.next_key.new.self
-    c.in-Some.label c.in_err-set_parameter-in-Simple.field-0.0 w (next w.left z w.within) c.in_err-set_parameter-in-Simple.ensures.kept (c.in_err-set_parameter-in-Simple.ensures.refused o))
+    c.in-Some.label c.in_err-set_parameter-in-Simple.field-0.0 w (next w.left z w.within) c.in_err-set_parameter-in-Simple.ensures.kept
+    (c.in_err-set_parameter-in-Simple.ensures.refused o))
 
 pub returns-clause-fills : goal.returns-clause-fills
 returns-clause-fills c = λ all ps o z walks within.
