@@ -376,7 +376,7 @@ typedef struct coset_rules {
   uint32_t has_max_age;
   uint32_t plain;               /* the form of a layer without a tag: 0 or COSET_SIGN1, COSET_MAC0, COSET_ENCRYPT0 */
   uint32_t authenticated_by;    /* 0 for a signature or a MAC, or COSET_BY_SIGNATURE, COSET_BY_ANY */
-  uint32_t leaves_out;          /* if it isn't 0, claims with unassigned numbers are left out */
+  uint32_t leaves_out;          /* if it isn't 0, claims with unassigned numbers and an aud in an array are left out */
   uint32_t may_not_expire;      /* if it isn't 0, a token may lack exp */
   uint32_t may_be_issued_later; /* if it isn't 0, iat may be later than now */
   uint32_t has_issuer;          /* if it isn't 0, iss must be the issuer that is given */

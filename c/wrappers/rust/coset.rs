@@ -249,8 +249,8 @@ pub struct TokenPolicy<'a> {
     /// The form of a layer without a tag.
     pub plain: TokenForm,
     pub authenticated_by: Authentication,
-    /// True if claims with unassigned numbers are left out. Otherwise a token with such a claim is
-    /// refused.
+    /// True if claims with unassigned numbers and an `aud` in an array are left out. Otherwise a
+    /// token with such a claim is refused.
     pub leaves_out: bool,
     pub may_not_expire: bool,
     pub may_be_issued_later: bool,

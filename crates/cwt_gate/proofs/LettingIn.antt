@@ -13,7 +13,7 @@ use Rattle.cwt_gate.specs.declared.policy.Unassigned.TheVariants.{Refused, LeftO
 
 pub refused_alone : (u : Unassigned) (s : List ℕ) (e : CoseError) → u ≡ Refused → UnlessMemory e (λ f. DescribesNothing claims s)
     → UnlessMemory e (λ f. DescribesNothing (claims_by u) s)
-refused_alone u s e is h = subst (λ v. UnlessMemory e (λ f. DescribesNothing (claims_by v) s)) (sym is) (λ n x d. h n x.0 (d.0, d.1, d.2.0))
+refused_alone u s e is h = subst (λ v. UnlessMemory e (λ f. DescribesNothing (claims_by v) s)) (sym is) (λ n x d. h n x.claims (d.0, d.1, d.2.0))
 
 refused : (s : List ℕ) (r : Result KnownClaims CoseError) → IfErr r (λ e. IsRefused known s e) → RefusesSlice known s r
 refused s (Ok x) h = tt

@@ -1,9 +1,8 @@
 -- The results of judging a token of any form, nested or not (RFC 8392, section 7.2).
 use Rattle.std.specs.Prelude.{◌≡◌, ◌≤◌, ◌<◌, ◌||◌, ◌⊎◌, ℕ, ℤ, List, [], ◌∷◌, length, Bool, true, false, Some, None, Result, Ok, Err}
 use Rattle.coset.specs.Results.{Describes, IsRefused}
-use Rattle.coset.specs.Claims.{ClaimsView}
 use Rattle.coset.specs.CoseError.{CoseError}
-use Rattle.coset.specs.Known.{Others, known_view}
+use Rattle.coset.specs.Known.{KnownView, known_view}
 use Rattle.coset.specs.KnownClaims.{KnownClaims}
 use Rattle.cwt_gate.specs.Keys.{KeysView, HasContent, Refuses}
 use Rattle.cwt_gate.specs.Layers.{LayerView, begins_layer, attached, form_of, layer, protected_of, unprotected_of}
@@ -91,14 +90,14 @@ abbrev pub IsUnauthenticated : {E : Type 0} → KeysView E → PolicyView → Li
 IsUnauthenticated k p b = Reaches k p b false (λ ls q. (length ls ≤ MAX_LAYERS) × (is_authentic p ls ≡ false))
 
 -- The bytes `q` encode these claims and those that are left out. There is no reason against them at `now`.
-abbrev pub AreLetIn : {E : Type 0} → KeysView E → PolicyView → ℤ → List ℕ → ClaimsView × Others → Type 0
-AreLetIn {E} k p now q x = Describes (claims_by p.unassigned) q x × (first_true (reasons {E = E} p now x.0) ≡ None)
+abbrev pub AreLetIn : {E : Type 0} → KeysView E → PolicyView → ℤ → List ℕ → KnownView → Type 0
+AreLetIn {E} k p now q x = Describes (claims_by p.unassigned) q x × (first_true (reasons {E = E} p now x.claims) ≡ None)
 
 -- `e` is the first reason against the claims in the bytes `q`: a fault in the bytes, or a reason of the policy.
 abbrev pub RefusesClaims : {E : Type 0} → PolicyView → ℤ → List ℕ → PolicyError E → Type 0
 RefusesClaims p now q e =
     ((f : CoseError) × (e ≡ Gate (Claims f)) × IsRefused (claims_by p.unassigned) q f)
-    ⊎ ((x : ClaimsView × Others) × Describes (claims_by p.unassigned) q x × (first_true (reasons p now x.0) ≡ Some e))
+    ⊎ ((x : KnownView) × Describes (claims_by p.unassigned) q x × (first_true (reasons p now x.claims) ≡ Some e))
 
 -- The result of judging the token `b` at `now`. On success, it is the claims that the policy lets in, and the others.
 -- Otherwise the error is the first reason against the token.

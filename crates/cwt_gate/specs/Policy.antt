@@ -3,12 +3,13 @@ use Rattle.std.specs.Prelude.{◌≡◌, ◌==◌, ◌&&◌, ◌||◌, not, ℕ,
 use Rattle.std.specs.Prelude.{false, is_some, is_none}
 use Rattle.std.specs.Prelude.{Result, Ok, Err}
 use Rattle.std.specs.List.{list_any, list_all}
+use Rattle.std.specs.Option.{option_to_list}
 use Rattle.std.specs.Ordering.{int_eq}
 use Rattle.std.specs.Cmp.Lexicographic.{pointwise}
 use Rattle.coset.specs.Claims.{ClaimsView}
 use Rattle.coset.specs.Claims as claims
 use Rattle.coset.specs.Headers.{HeaderView, header_of, fields_in, are_none}
-use Rattle.coset.specs.Known.{Others, known}
+use Rattle.coset.specs.Known.{KnownView, known}
 use Rattle.coset.specs.LabelViews.{algorithm_view}
 use Rattle.coset.specs.LabelData.{LabelView, number, text_label, RegisteredLabelView, as_label, same_label}
 use Rattle.coset.specs.Shape.{Shape}
@@ -148,9 +149,13 @@ matches_expected (Some a) None = false
 matches_expected (Some a) (Some b) = pointwise ◌==◌ a b
 
 -- The shape of claims by the treatment of those whose numbers are neither assigned nor for private use. They are
--- refused, or left out and returned by label (RFC 8392, section 3).
-abbrev pub claims_by : Unassigned → Shape (ClaimsView × Others)
-claims_by Refused = record { describes = λ v x. claims.claims.describes v x.0 × (x.1 ≡ []); image = λ x. None; faults = claims.claims.faults }
+-- refused, or left out and returned by label (RFC 8392, section 3). Only in the second case may the audience be an array.
+abbrev pub claims_by : Unassigned → Shape KnownView
+claims_by Refused = record {
+  describes = λ v x. claims.claims.describes v x.claims × (x.audience ≡ option_to_list x.claims.audience) × (x.others ≡ []);
+  image = λ x. None;
+  faults = claims.claims.faults;
+}
 claims_by LeftOut = known
 
 -- The reasons against claims at `now`, in order, each with true if it applies.

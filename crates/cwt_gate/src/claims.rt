@@ -1,9 +1,11 @@
 //! The claims in the innermost layer of a token, and the policy's requirements for them (RFC 8392,
 //! section 3).
 
-ghost use Rattle.std.specs.Prelude.{◌≡◌};
+ghost use Rattle.std.specs.Prelude.{◌≡◌, IfOk, IfErr, map, option_map, string_bytes};
+ghost use Rattle.std.specs.Option.{option_to_list};
 ghost use Rattle.coset.specs.Results.{ReadsSlice, RefusesSlice};
 ghost use Rattle.coset.specs.Claims.{claims_view};
+ghost use Rattle.coset.specs.CoseError.TheVariants.{OutOfMemory};
 ghost use Rattle.coset.specs.Known.{known_view};
 ghost use Rattle.cwt_gate.specs.Policy.{IsFirst, claims_by, policy_view, reasons};
 
@@ -13,6 +15,22 @@ use crate::policy::{Policy, Unassigned, matches_expected};
 use coset::cwt::{ClaimsSet, KnownClaims};
 use coset::{CborSerializable, Result};
 use std::alloc::Global;
+
+/// Returns a list of the text, or an empty list if there is none.
+///
+/// # Errors
+/// `OutOfMemory` if an allocation fails.
+fn as_list(alloc: Global, text: &Option<String>) -> Result<Vec<String>>
+    ensures list { IfOk result (λ all. map string_bytes all.items
+        ≡ option_to_list (option_map string_bytes text.now)) }
+    ensures memory { IfErr result (λ e. e ≡ OutOfMemory) }
+{
+    let mut list = Vec::new(alloc);
+    if let Some(text) = text {
+        list.push(text.clone()?)?;
+    }
+    Ok(list)
+}
 
 /// Reads claims. Treats those whose numbers are neither assigned nor for private use as
 /// `unassigned` says.
@@ -29,10 +47,14 @@ pub(crate) fn read_claims(
     ensures refused { RefusesSlice (claims_by unassigned) bytes.now result }
 {
     match unassigned {
-        Unassigned::Refused => Ok(KnownClaims {
-            claims: ClaimsSet::from_slice(alloc, bytes)?,
-            others: Vec::new(alloc),
-        }),
+        Unassigned::Refused => {
+            let claims = ClaimsSet::from_slice(alloc, bytes)?;
+            Ok(KnownClaims {
+                audience: as_list(alloc, &claims.audience)?,
+                claims,
+                others: Vec::new(alloc),
+            })
+        }
         Unassigned::LeftOut => ClaimsSet::known_from_slice(alloc, bytes),
     }
 }

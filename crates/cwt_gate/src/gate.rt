@@ -74,7 +74,8 @@ where
 /// outermost in, and only if the policy accepts its algorithm and its critical labels. Only content
 /// that the keys accepted is read.
 ///
-/// Claims that the policy leaves out are in `others` of the result.
+/// Claims that the policy leaves out are in `others` of the result. All names of the audience are in
+/// `audience`; those of an array are not in the claims.
 ///
 /// # Errors
 /// The first error that applies, in the order of [`PolicyError`]. If an allocation fails, the error

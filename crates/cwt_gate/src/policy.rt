@@ -32,7 +32,8 @@ pub enum Unassigned {
     /// A token with such a claim is refused.
     Refused,
     /// Such claims are left out and returned separately, by their labels. Claims that aren't
-    /// understood are ignored (RFC 8392, section 3).
+    /// understood are ignored (RFC 8392, section 3). An audience may then be an array of texts,
+    /// which is returned separately too (section 3.1.3).
     LeftOut,
 }
 
@@ -73,7 +74,8 @@ pub struct Policy<'a> {
     pub leeway: u64,
     /// The issuer that the claims must name (`iss`), if there is one.
     pub issuer: Option<&'a str>,
-    /// The audience that the claims must name (`aud`), if there is one.
+    /// The audience that the claims must name (`aud`), if there is one. Claims with an audience in
+    /// an array don't match.
     pub audience: Option<&'a str>,
 }
 

@@ -2,11 +2,11 @@
 //! (RFC 8392, section 3), and keys that can't be read, such as those of an unknown type (RFC 9052,
 //! section 7).
 
-ghost use Rattle.std.specs.Prelude.{IfOk, IfErr};
+ghost use Rattle.std.specs.Prelude.{◌≡◌, IfOk, IfErr};
 ghost use Rattle.coset_codec.specs.Alone.{elements};
 ghost use Rattle.coset_codec.specs.Results.{Describes, IsRefused};
 ghost use Rattle.coset_claims.specs.Claims.{claims_view};
-ghost use Rattle.coset_claims.specs.Known.{Others, known};
+ghost use Rattle.coset_claims.specs.Known.{KnownView, known};
 ghost use Rattle.coset_key.specs.Keys.{key_set_view};
 ghost use Rattle.example_uses.specs.Readable.{AreThoseRead};
 
@@ -19,8 +19,8 @@ use std::alloc::Global;
 /// # Errors
 /// The errors of [`ClaimsSet::known_from_slice`].
 pub fn claims_kept(alloc: Global, bytes: &[u8]) -> Result<ClaimsSet>
-    ensures read { IfOk result (λ c. (others : Others)
-        × Describes known bytes.now (claims_view c, others)) }
+    ensures read { IfOk result (λ c. (x : KnownView) × Describes known bytes.now x
+        × (x.claims ≡ claims_view c)) }
     ensures refused { IfErr result (λ e. IsRefused known bytes.now e) }
 {
     Ok(ClaimsSet::known_from_slice(alloc, bytes)?.claims)

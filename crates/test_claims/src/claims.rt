@@ -1,5 +1,6 @@
 //! Calls of `ClaimsSet`.
 
+use coset::cbor::value::Value;
 use coset::cwt::{ClaimName, ClaimsSet, KnownClaims};
 use coset::{CborSerializable, Result};
 use std::alloc::Global;
@@ -24,8 +25,8 @@ pub fn get(alloc: Global, words: &Words<'_>) -> Result<String> {
     told(alloc, answer)
 }
 
-/// Reads a claims set. Returns the encoding of the claims that are understood, and the label and
-/// value of each other claim.
+/// Reads a claims set. Returns the encoding of the claims that are understood, the array of the
+/// audience's names if there are any, and the label and value of each other claim.
 ///
 /// # Errors
 /// - A fault in a word that isn't hexadecimal.
@@ -44,6 +45,10 @@ pub fn known(alloc: Global, words: &Words<'_>) -> Result<String> {
 /// Returns the text for these claims.
 fn tell_known(alloc: Global, known: KnownClaims) -> Result<String> {
     let mut text = tell::value(alloc, Ok(known.claims))?;
+    if !known.audience.is_empty() {
+        text.push_str(" audience=")?;
+        text.push_str(&tell_names(alloc, known.audience)?)?;
+    }
     for (label, value) in known.others {
         text.push_str(" ")?;
         text.push_str(&tell::hexadecimal(alloc, &label.to_vec(alloc)?)?)?;
@@ -51,4 +56,13 @@ fn tell_known(alloc: Global, known: KnownClaims) -> Result<String> {
         text.push_str(&tell::hexadecimal(alloc, &value.to_vec(alloc)?)?)?;
     }
     Ok(text)
+}
+
+/// Returns the encoding of an array of these texts.
+fn tell_names(alloc: Global, names: Vec<String>) -> Result<String> {
+    let mut texts = Vec::new(alloc);
+    for name in names {
+        texts.push(Value::Text(name))?;
+    }
+    tell::hexadecimal(alloc, &Value::Array(texts).to_vec(alloc)?)
 }

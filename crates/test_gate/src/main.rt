@@ -25,8 +25,8 @@
 //! - `age=`, `leeway=`, `iss=` and `aud=` are the fields of these names.
 //!
 //! ANSWERS are the keys' answers, one for each layer, separated by commas: `yes`, `no`, or a
-//! plaintext in hexadecimal. Claims that were left out follow the others, as an array of labels and
-//! values.
+//! plaintext in hexadecimal. The names of an audience in an array follow the claims, as an array of
+//! texts. So do claims that were left out, as an array of labels and values.
 //!
 //! The call is made between two marks (`test_lines::mark`). If an allocation between them is
 //! refused, it is one of the call's own. The output is the encoding of the claims, or the reason.
@@ -118,8 +118,17 @@ fn span(word: &str) -> Result<u64> {
     }
 }
 
-/// Returns the encoding of the claims that were let in, and of those that were left out, or the
-/// reason.
+/// Returns the encoding of the array of these texts.
+fn array_of(alloc: Global, names: Vec<String>) -> Result<String> {
+    let mut texts = Vec::new(alloc);
+    for name in names {
+        texts.push(Value::Text(name))?;
+    }
+    tell::hexadecimal(alloc, &Value::Array(texts).to_vec(alloc)?)
+}
+
+/// Returns the encoding of the claims that were let in, the names of an audience in an array, and
+/// the encoding of the claims that were left out; or the reason.
 ///
 /// # Errors
 /// `OutOfMemory` if an allocation for the text fails.
@@ -129,7 +138,12 @@ fn told_with(
 ) -> Result<String> {
     match answer {
         Ok(known) => {
-            let claims = tell::value(alloc, Ok(known.claims))?;
+            let several = known.claims.audience.is_none() && !known.audience.is_empty();
+            let mut claims = tell::value(alloc, Ok(known.claims))?;
+            if several {
+                claims.push_str(" audience ")?;
+                claims.push_str(&array_of(alloc, known.audience)?)?;
+            }
             if known.others.is_empty() {
                 return Ok(claims);
             }

@@ -34,8 +34,8 @@ returns-in_err-check_claims g c =
     let x = known_view c.in-Ok.known in
     let read : Describes (claims_by p.unassigned) c.in_ok-opened.opened.content.items x =
     subst (λ q. Describes (claims_by p.unassigned) q x) c.deref.ensures.value c.in-Ok.ensures.read in
-    let first : first_true (reasons p c.args.now x.0) ≡ Some e =
-    subst (λ (n : ℤ). first_true (reasons p n x.0) ≡ Some e) (to_z-of_z w64 c.args.now c.ranges.now) c.in_err-check_claims.ensures in
+    let first : first_true (reasons p c.args.now x.claims) ≡ Some e =
+    subst (λ (n : ℤ). first_true (reasons p n x.claims) ≡ Some e) (to_z-of_z w64 c.args.now c.ranges.now) c.in_err-check_claims.ensures in
     passed_on (JudgesWith k p c.args.now c.args.token.now) c.from_residual-in_err-check_claims.result e c.from_residual-in_err-check_claims.ensures.1
     (inr (inr (arrived k p c.args.token.now c.in_ok-opened.opened (λ q. RefusesClaims p c.args.now q e) c.in_ok-opened.ensures
     c.if-not-opened.false (inr (x, read, first)))))
