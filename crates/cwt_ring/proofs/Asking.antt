@@ -1,6 +1,6 @@
 -- The ciphers are asked for the algorithm that the layer names.
-use Rattle.std.proofs.Common.{◌≡◌, ◌∙◌, ◌++◌, ℤ, ℕ, List, [], ◌∷◌, map, option_map, Option, Some, None, ap, refl, sym, subst}
-use Rattle.std.specs.List.{cons_option, filter_map, flat_map}
+use Rattle.std.proofs.Common.{◌≡◌, ◌∙◌, ◌++◌, ℤ, ℕ, List, [], ◌∷◌, option_map, Option, Some, None, ap, refl, sym, subst}
+use Rattle.std.specs.List.{cons_option}
 use Rattle.std.specs.Option.{IsSomeAnd, option_and_then}
 use Rattle.coset.specs.Keys.{KeyView}
 use Rattle.cwt_keys.specs.Keys.{Name}

@@ -1,5 +1,4 @@
 mod Lists
 mod Trying
 mod Successes
-mod Rows
 mod Asking

@@ -108,18 +108,18 @@ module _ {E : Type 0} (refuse : Fitted → E → Type 0) (l : SealView) where
     last_refused = r;
   }
 
-  -- A key that fits is accepted.
+  -- A key that fits is accepted. The issuer's keys are `ks`.
   pub found :
-      (accept : Fitted → Type 0) (is : List Issuer) (m : ℕ) (i : Issuer) (n : ℕ) (k : CoseKey) (nonce : List ℕ) (last : Option E) → m < length is
-      → i ≡ get_or is m i → n < length i.keys.now.0.items → k ≡ get_or i.keys.now.0.items n k → Some nonce ≡ fits (key_view k) l
+      (accept : Fitted → Type 0) (is : List Issuer) (m : ℕ) (i : Issuer) (ks : List CoseKey) (n : ℕ) (k : CoseKey) (nonce : List ℕ) (last : Option E)
+      → m < length is → i ≡ get_or is m i → ks ≡ i.keys.now.0.items → n < length ks → k ≡ get_or ks n k → Some nonce ≡ fits (key_view k) l
       → accept (record { key = key_view k; nonce = nonce })
-      → Tried refuse (fitting l (map issuer_view (take m is)) ++ fitting_of l (name_view i.name) (map key_view (take n i.keys.now.0.items))) last
+      → Tried refuse (fitting l (map issuer_view (take m is)) ++ fitting_of l (name_view i.name) (map key_view (take n ks))) last
       → Finds accept refuse (fitting l (map issuer_view is)) (name_view i.name)
-  found accept is m i n k nonce last lt at lt' at' fit ok t =
+  found accept is m i ks n k nonce last lt at same lt' at' fit ok t =
       let name = name_view i.name in
       let outer = fitting l (map issuer_view (take m is)) in
-      let inner = fitting_of l name (map key_view (take n i.keys.now.0.items)) in
-      let rest = fitting_of l name (map key_view (drop (n + 1) i.keys.now.0.items)) in
+      let inner = fitting_of l name (map key_view (take n ks)) in
+      let rest = fitting_of l name (map key_view (drop (n + 1) ks)) in
       let others = fitting l (map issuer_view (drop (m + 1) is)) in
       let one = by_nonce name (key_view k) nonce in
       record {
@@ -127,8 +127,9 @@ module _ {E : Type 0} (refuse : Fitted → E → Type 0) (l : SealView) where
         key = one.1;
         after = rest ++ others;
         are = around_issuer l is m i lt at
-            ∙ (ap (λ js. outer ++ (js ++ others)) (around_key l name i.keys.now.0.items n k nonce lt' at' fit)
-            ∙ (ap (λ js. outer ++ js) (append_assoc inner (one ∷ rest) others) ∙ sym (append_assoc outer inner (one ∷ rest ++ others))));
+            ∙ (ap (λ js. outer ++ (fitting_of l name (map key_view js) ++ others)) (sym same)
+            ∙ (ap (λ js. outer ++ (js ++ others)) (around_key l name ks n k nonce lt' at' fit)
+            ∙ (ap (λ js. outer ++ js) (append_assoc inner (one ∷ rest) others) ∙ sym (append_assoc outer inner (one ∷ rest ++ others)))));
         refused = all_refused (outer ++ inner) last t;
         accepted = ok;
       }

@@ -1,5 +1,5 @@
 -- Keys that are tried in order, and the result.
-use Rattle.std.specs.Prelude.{◌≡◌, ◌++◌, List, [], ◌∷◌, map, option_map, All}
+use Rattle.std.specs.Prelude.{◌≡◌, ◌++◌, List, [], ◌∷◌, option_map, All}
 use Rattle.std.specs.List.{filter_map, flat_map}
 use Rattle.coset.specs.Keys.{KeyView, key_set_view}
 use Rattle.cwt_keys.specs.Keys.{Name, name_view}

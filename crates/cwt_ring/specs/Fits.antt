@@ -1,5 +1,5 @@
 -- Which key fits a layer, and by which nonce.
-use Rattle.std.specs.Prelude.{◌==◌, ◌&&◌, ◌||◌, ℕ, ℤ, nat_le, List, [], ◌∷◌, length, Option, Some, None, Bool, true, false, option_map, take, if◌then◌else◌}
+use Rattle.std.specs.Prelude.{◌==◌, ◌&&◌, ◌||◌, ℕ, ℤ, nat_le, List, [], ◌∷◌, length, Option, Some, None, Bool, true, false, take, if◌then◌else◌}
 use Rattle.std.specs.Cmp.Lexicographic.{pointwise}
 use Rattle.std.specs.List.{list_any}
 use Rattle.std.specs.Option.{option_and_then, option_map_or}

@@ -1,5 +1,5 @@
 -- The keys that an algorithm takes: their type, and the members that the type defines.
-use Rattle.std.specs.Prelude.{◌==◌, ◌&&◌, ◌||◌, ℕ, ℤ, pos, nat_le, nat_lt, List, [], ◌∷◌, length, Option, Some, None, Bool, true, false, not, int_lt, is_some}
+use Rattle.std.specs.Prelude.{◌==◌, ◌&&◌, ◌||◌, ℕ, ℤ, pos, nat_le, nat_lt, List, [], ◌∷◌, length, Option, Some, None, Bool, false, not, int_lt, is_some}
 use Rattle.std.specs.Option.{option_map_or}
 use Rattle.std.specs.Ordering.{int_eq}
 use Rattle.coset.specs.Keys.{KeyView}

@@ -67,9 +67,7 @@ fn is_ec2(key: &CoseKey, curve: EllipticCurve) -> bool
     ensures { result ≡ is_ec2 curve (key_view key.now) }
 {
     match coordinate_length(curve) {
-        Some(len) => {
-            has_type(key, KeyType::EC2) && has_curve(key, curve) && has_point(key, len)
-        }
+        Some(len) => { has_type(key, KeyType::EC2) && has_curve(key, curve) && has_point(key, len) }
         None => false,
     }
 }

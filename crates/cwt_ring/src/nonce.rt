@@ -76,12 +76,7 @@ fn xored(partial_iv: &[u8], base_iv: &[u8]) -> Nonce
 
 /// Returns the nonce of this length, for a layer with this IV or Partial IV and a key with this
 /// Base IV. Returns `None` if there is none.
-pub(crate) fn nonce_for(
-    iv: &[u8],
-    partial_iv: &[u8],
-    base_iv: &[u8],
-    len: usize,
-) -> Option<Nonce>
+pub(crate) fn nonce_for(iv: &[u8], partial_iv: &[u8], base_iv: &[u8], len: usize) -> Option<Nonce>
     requires { len ≤ 13 }
     ensures { option_map (λ n. take n.len n.bytes) result
         ≡ nonce_of iv.now partial_iv.now base_iv.now len }

@@ -1,6 +1,6 @@
 use Rattle.std.proofs.Common.{◌++◌, map, take}
 use Rattle.cwt_ring.specs.Attempts.{fitting, fitting_of, issuer_view}
-use Rattle.coset.specs.Keys.{key_set_view, key_view}
+use Rattle.coset.specs.Keys.{key_view}
 use Rattle.cwt_keys.specs.Keys.{name_view}
 use Rattle.cwt_keys.specs.Sealed.{seal_view}
 use Rattle.cwt_ring.proofs.Trying.{Tried}
