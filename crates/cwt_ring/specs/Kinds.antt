@@ -21,6 +21,9 @@ has_type t k = same_label k.kty (number (kinds.number t))
 
 -- ---- the types of members
 
+abbrev pub is_byte_string : ℤ → KeyView → Bool
+is_byte_string l k = is_some (bytes_of l k)
+
 -- The member is a byte string that passes the test.
 abbrev pub has_bytes : (List ℕ → Bool) → ℤ → KeyView → Bool
 has_bytes test l k = option_map_or test (bytes_of l k) false
@@ -112,7 +115,7 @@ is_of_kind EdwardsCurve k = is_okp curve.Ed25519 k || is_okp curve.Ed448 k
 is_of_kind (Okp c) k = is_okp c k
 is_of_kind Rsa k = is_rsa k
 -- RFC 8778, sections 3 and 6.3: pub
-is_of_kind HssLms k = has_type kty.HSS_LMS k && has_length_from 0 (minus 1) k
+is_of_kind HssLms k = has_type kty.HSS_LMS k && is_byte_string (minus 1) k
 is_of_kind WalnutDsa k = is_walnut k
 -- IANA's registry "COSE Key Type Parameters": pub
 is_of_kind (Akp n) k = has_type kty.AKP k && has_length n (minus 1) k

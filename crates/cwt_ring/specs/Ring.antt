@@ -25,7 +25,7 @@ pub record CiphersView (E : Type 0) : Type 1 where
 abbrev pub VerifiesBy : {E : Type 0} → CiphersView E → ℤ → SealView → Fitted → Type 0
 VerifiesBy c a s k = c.verifies k.key a s.structure s.proof
 
--- They may return this error.
+-- Asked for the same, they may return this error.
 abbrev pub NotVerifiedBy : {E : Type 0} → CiphersView E → ℤ → SealView → Fitted → E → Type 0
 NotVerifiedBy c a s k e = c.not_verified k.key a s.structure s.proof e
 
@@ -33,7 +33,7 @@ NotVerifiedBy c a s k e = c.not_verified k.key a s.structure s.proof e
 abbrev pub DecryptsBy : {E : Type 0} → CiphersView E → ℤ → SealView → List ℕ → Fitted → Type 0
 DecryptsBy c a s p k = c.decrypts k.key a k.nonce s.structure s.proof p
 
--- They may return this error.
+-- Asked for the same with that nonce, they may return this error.
 abbrev pub NotDecryptedBy : {E : Type 0} → CiphersView E → ℤ → SealView → Fitted → E → Type 0
 NotDecryptedBy c a s k e = c.not_decrypted k.key a k.nonce s.structure s.proof e
 

@@ -6,7 +6,8 @@ ghost use Rattle.coset.specs.Keys.{key_view};
 ghost use Rattle.cwt_ring.specs.Kinds.{coordinate_length, edwards_length, has_bytes, has_curve, has_point, has_type, has_walnut_arrays, is_ec2, is_modulus, is_of_kind, is_okp, is_rsa, is_walnut};
 
 use crate::member::{
-    bytes_of, has_length, has_length_from, integer_of, is_array, is_bool, is_unsigned,
+    bytes_of, has_length, has_length_from, integer_of, is_array, is_bool, is_byte_string,
+    is_unsigned,
 };
 use coset::cbor::value::Integer;
 use coset::iana::{
@@ -163,7 +164,7 @@ pub(crate) fn is_of_kind(key: &CoseKey, kind: KeyKind) -> bool
         KeyKind::Rsa => is_rsa(key),
         KeyKind::HssLms => {
             let public = HssLmsKeyParameter::Pub.to_i64();
-            has_type(key, KeyType::HSS_LMS) && has_length_from(key, public, 0)
+            has_type(key, KeyType::HSS_LMS) && is_byte_string(key, public)
         }
         KeyKind::WalnutDsa => is_walnut(key),
         KeyKind::Akp(len) => {

@@ -1,9 +1,9 @@
 //! The members of a key that its type defines (RFC 9052, section 7; RFC 9053, section 7).
 
-ghost use Rattle.std.specs.Prelude.{◌≡◌, ◌==◌, length, is_some, nat_le, option_map};
+ghost use Rattle.std.specs.Prelude.{◌≡◌, option_map};
 ghost use Rattle.coset.specs.Keys.{key_view};
-ghost use Rattle.cwt_ring.specs.Kinds.{has_bytes, is_unsigned};
-ghost use Rattle.cwt_ring.specs.Members.{array_of, bool_of, bytes_of, integer_of};
+ghost use Rattle.cwt_ring.specs.Kinds.{has_length, has_length_from, is_array, is_bool, is_byte_string, is_unsigned};
+ghost use Rattle.cwt_ring.specs.Members.{bytes_of, integer_of};
 
 use coset::cbor::value::Integer;
 use coset::{CoseKey, Label};
@@ -26,9 +26,16 @@ pub(crate) fn integer_of(key: &CoseKey, label: i64) -> Option<Integer>
     key.get(&Label::Int(label))?.as_integer()
 }
 
+/// Returns true if the member is a byte string.
+pub(crate) fn is_byte_string(key: &CoseKey, label: i64) -> bool
+    ensures { result ≡ is_byte_string label (key_view key.now) }
+{
+    bytes_of(key, label).is_some()
+}
+
 /// Returns true if the member is a byte string of this length.
 pub(crate) fn has_length(key: &CoseKey, label: i64, len: usize) -> bool
-    ensures { result ≡ has_bytes (λ s. length s == len) label (key_view key.now) }
+    ensures { result ≡ has_length len label (key_view key.now) }
 {
     match bytes_of(key, label) {
         Some(bytes) => bytes.len() == len,
@@ -38,7 +45,7 @@ pub(crate) fn has_length(key: &CoseKey, label: i64, len: usize) -> bool
 
 /// Returns true if the member is a byte string of this length or longer.
 pub(crate) fn has_length_from(key: &CoseKey, label: i64, len: usize) -> bool
-    ensures { result ≡ has_bytes (λ s. nat_le len (length s)) label (key_view key.now) }
+    ensures { result ≡ has_length_from len label (key_view key.now) }
 {
     match bytes_of(key, label) {
         Some(bytes) => len <= bytes.len(),
@@ -58,7 +65,7 @@ pub(crate) fn is_unsigned(key: &CoseKey, label: i64) -> bool
 
 /// Returns true if the member is a bool.
 pub(crate) fn is_bool(key: &CoseKey, label: i64) -> bool
-    ensures { result ≡ is_some (bool_of label (key_view key.now)) }
+    ensures { result ≡ is_bool label (key_view key.now) }
 {
     match key.get(&Label::Int(label)) {
         Some(value) => value.as_bool().is_some(),
@@ -68,7 +75,7 @@ pub(crate) fn is_bool(key: &CoseKey, label: i64) -> bool
 
 /// Returns true if the member is an array.
 pub(crate) fn is_array(key: &CoseKey, label: i64) -> bool
-    ensures { result ≡ is_some (array_of label (key_view key.now)) }
+    ensures { result ≡ is_array label (key_view key.now) }
 {
     match key.get(&Label::Int(label)) {
         Some(value) => value.as_array().is_some(),

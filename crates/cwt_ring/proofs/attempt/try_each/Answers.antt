@@ -13,9 +13,9 @@ use Rattle.cwt_ring.proofs.attempt.try_each.Goals.{in-Some+in-Err, in_default}
 pub returns-in-Ok-clause-found : goal.returns-in-Ok-clause-found
 returns-in-Ok-clause-found g c =
     found (g.A.Attempt.refuses c.args.attempt.now) (seal_view c.args.sealed.now) (λ k. g.A.Attempt.gives c.args.attempt.now k c.in-Ok.given)
-    c.args.issuers.now c.loop-issuer.issuer-index c.issuer-item.result c.deref-key-items.result.now c.loop-key.key-index c.key-item.result (nonce_view c.in-Some.nonce)
-    c.loop-key.refused c.loop-issuer-test.true c.issuer-item.is c.deref-key-items.ensures.value c.loop-key-test.true c.key-item.is c.in-Some.ensures c.in-Ok.ensures.given
-    c.loop-key.invariant
+    c.args.issuers.now c.loop-issuer.issuer-index c.issuer-item.result c.deref-key-items.result.now c.loop-key.key-index c.key-item.result
+    (nonce_view c.in-Some.nonce) c.loop-key.refused c.loop-issuer-test.true c.issuer-item.is c.deref-key-items.ensures.value c.loop-key-test.true
+    c.key-item.is c.in-Some.ensures c.in-Ok.ensures.given c.loop-key.invariant
 
 pub loop-key-preserved : goal.loop-key-preserved
 loop-key-preserved g c =
