@@ -4,16 +4,15 @@
 ghost use Rattle.std.specs.Prelude.{◌≡◌, ℕ, List};
 ghost use Rattle.coset_value.specs.Item.{Item};
 ghost use Rattle.coset_codec.specs.Results.{Describes};
-ghost use Rattle.coset_claims.specs.Claims.{ClaimsView};
-ghost use Rattle.coset_claims.specs.Known.{Others, known};
+ghost use Rattle.coset_claims.specs.Known.{KnownView, known};
 ghost use Rattle.coset_claims.specs.SuppPub.{KeepsSecond, SuppPubView, supp_pub};
 
 use coset_cbor::laws::one_item;
 
 /// Bytes describe at most one value of `ClaimsSet::known_from_slice`: the claims that are
-/// understood, and all others.
+/// understood, the names of the audience, and all other claims.
 pub fn one_known()
-    ensures { (s : List ℕ) (x y : ClaimsView × Others) → Describes known s x → Describes known s y
+    ensures { (s : List ℕ) (x y : KnownView) → Describes known s x → Describes known s y
         → x ≡ y }
 {
     one_item();
