@@ -110,7 +110,7 @@ module _ {E : Type 0} (k : KeysView E) (p : PolicyView) (b : List ℕ) where
   inner_refused o vs n q e a same views more few h =
       let count : length a.xs ≡ length o.layers.items = counted o a in
       next_refused a.xs q vs n e (subst (λ s. Leads k p true b a.xs s) (sym same) a.leads)
-          (ap (λ t. goes_on t q) a.inside ∙ more) (views ∙ a.views) (omega (arith, few, count)) h
+      (ap (λ t. goes_on t q) a.inside ∙ more) (views ∙ a.views) (omega (arith, few, count)) h
 
   pub one_more :
       (o i : Opened) (vs : List VerifiedView) (n : Option Name) (q : List ℕ) → AreOpened k p b o → q ≡ o.content.items → vs ≡ verified_views o.layers

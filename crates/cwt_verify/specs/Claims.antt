@@ -23,9 +23,13 @@ is_from None issuer = true
 is_from (Some a) None = false
 is_from (Some a) (Some b) = pointwise ◌==◌ a b
 
+-- Returns true if the text is one of the names.
+abbrev pub is_name : List (List ℕ) → List ℕ → Bool
+is_name names a = list_any (λ n. pointwise ◌==◌ a n) names
+
 -- Returns true if one of the texts is one of the names.
 abbrev pub names_one_of : List (List ℕ) → List (List ℕ) → Bool
-names_one_of audience names = list_any (λ a. list_any (λ n. pointwise ◌==◌ a n) names) audience
+names_one_of audience names = list_any (is_name names) audience
 
 -- Returns true if the policy accepts this audience (RFC 7519, section 4.1.3).
 abbrev pub is_meant : AudienceView → List (List ℕ) → Bool

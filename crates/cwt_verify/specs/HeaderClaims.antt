@@ -49,9 +49,12 @@ layer_agrees ps v = agrees ps v.protected.header && agrees ps v.unprotected
 abbrev pub agree : List VerifiedView → Item → Bool
 agree vs v = list_all (layer_agrees (pairs_in v)) vs
 
--- Returns true if a header of the layer has claims.
-abbrev pub has_claims : VerifiedView → Bool
-has_claims v = is_some (claims_in v.protected.header) || is_some (claims_in v.unprotected)
+-- Returns true if a header has claims, and if one of a layer has.
+abbrev pub has_claims : HeaderView → Bool
+has_claims h = is_some (claims_in h)
+
+abbrev pub layer_has_claims : VerifiedView → Bool
+layer_has_claims v = has_claims v.protected.header || has_claims v.unprotected
 
 -- The answer whether the claims in the headers of these layers are among those in the payload.
 abbrev pub Agrees : List VerifiedView → List ℕ → Bool → Type 0

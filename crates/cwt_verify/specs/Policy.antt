@@ -91,25 +91,14 @@ number_in (Some a) = number_of a
 abbrev pub named_number : HeaderView → Option ℤ
 named_number h = number_in (fields_in h).alg
 
--- Returns true if both have the same number.
-abbrev pub same_algorithm : Algorithm → Algorithm → Bool
-same_algorithm a b = int_eq (algorithms.number a) (algorithms.number b)
-
--- Returns true if the policy lists the algorithm, and it is for layers of this form.
-abbrev pub allows_algorithm : PolicyView → Form → Algorithm → Bool
-allows_algorithm p form a = list_any (λ b. same_algorithm b a) p.algorithms && is_some (of_form form (row_for a))
-
--- Returns true if the label is an algorithm that IANA assigned, and the policy allows it.
-abbrev pub allows_label : PolicyView → Form → RegisteredLabelView → Bool
-allows_label p form l = list_any (λ a. claims.same_label (assigned (algorithms.number a)) l && is_some (of_form form (row_for a))) p.algorithms
-
-abbrev pub allows_named : PolicyView → Form → Option RegisteredLabelView → Bool
-allows_named p form None = false
-allows_named p form (Some l) = allows_label p form l
+-- Returns true if the label is this algorithm.
+abbrev pub is_named : Option RegisteredLabelView → Algorithm → Bool
+is_named (Some (assigned i)) a = int_eq i (algorithms.number a)
+is_named o a = false
 
 -- Returns true if the header names an algorithm that the policy allows, and that is for layers of this form.
 abbrev pub allows : PolicyView → Form → HeaderView → Bool
-allows p form h = allows_named p form (fields_in h).alg
+allows p form h = list_any (λ a. is_named (fields_in h).alg a && is_some (of_form form (row_for a))) p.algorithms
 
 -- ---- labels that must be understood (RFC 9052, section 3.1, "crit")
 
@@ -125,9 +114,13 @@ abbrev pub is_known : RegisteredLabelView → Bool
 is_known (assigned i) = list_any (λ n. int_eq i n) known_labels
 is_known l = false
 
+-- Returns true if the caller or this crate understands the label.
+abbrev pub has_meaning : PolicyView → RegisteredLabelView → Bool
+has_meaning p l = is_known l || is_one_of p.critical l
+
 -- Returns true if the label is understood and the header contains it.
 abbrev pub is_understood : PolicyView → HeaderView → RegisteredLabelView → Bool
-is_understood p h l = (is_known l || is_one_of p.critical l) && has_label h (as_label l)
+is_understood p h l = has_meaning p l && has_label h (as_label l)
 
 -- Returns true if each critical label of the protected header `h` is understood, and the unprotected header lists none.
 abbrev pub understands : PolicyView → HeaderView → HeaderView → Bool

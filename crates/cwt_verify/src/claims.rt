@@ -6,7 +6,7 @@ ghost use Rattle.coset.specs.LabelData.{assigned};
 ghost use Rattle.coset.specs.Known.{known_view};
 ghost use Rattle.coset_iana.specs.CwtClaimName as claim_names;
 ghost use Rattle.cwt_keys.specs.Keys.{name_view};
-ghost use Rattle.cwt_verify.specs.Claims.{IsFirst, has_claim, has_registered, is_from, is_meant, names_one_of, reasons, required_reasons};
+ghost use Rattle.cwt_verify.specs.Claims.{IsFirst, has_claim, has_registered, is_from, is_meant, is_name, names_one_of, reasons, required_reasons};
 ghost use Rattle.cwt_verify.specs.Policy.{audience_view, policy_view};
 
 use crate::error::TokenError;
@@ -28,14 +28,19 @@ fn is_from(claimed: &Option<String>, issuer: Option<&str>) -> bool
     }
 }
 
+/// Returns true if the text is one of the names.
+fn is_name(named: &str, names: &[&str]) -> bool
+    ensures { result ≡ is_name (map (λ s. s.now) names.now) named.now }
+{
+    names.iter().any(|name| named == *name)
+}
+
 /// Returns true if one of the texts is one of the names.
 fn names_one_of(audience: &[String], names: &[&str]) -> bool
     ensures { result ≡ names_one_of (map string_bytes audience.now)
         (map (λ s. s.now) names.now) }
 {
-    audience
-        .iter()
-        .any(|named| names.iter().any(|name| named.as_str() == *name))
+    audience.iter().any(|named| is_name(named.as_str(), names))
 }
 
 /// Returns true if the token's audience is one that the policy accepts.

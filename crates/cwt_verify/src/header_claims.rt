@@ -1,10 +1,11 @@
 //! Claims in headers (RFC 9597), which must be in the payload too.
 
 ghost use Rattle.std.specs.Prelude.{◌≡◌, IfOk, IfErr, map};
-ghost use Rattle.coset.specs.Results.{Describes, IsRefused};
-ghost use Rattle.coset.specs.View.{value_item, value_pair};
+ghost use Rattle.coset.specs.Results.{IsRefused};
+ghost use Rattle.coset.specs.Shape.{any};
+ghost use Rattle.coset.specs.View.{value_item, value_pairs};
 ghost use Rattle.coset.specs.Views.{header_view};
-ghost use Rattle.cwt_verify.specs.HeaderClaims.{Agrees, agree, agrees, has_claims, has_pair, layer_agrees};
+ghost use Rattle.cwt_verify.specs.HeaderClaims.{Agrees, agrees, has_claims, has_pair, layer_agrees, layer_has_claims, pairs_in};
 ghost use Rattle.cwt_verify.specs.Opening.{verified_view};
 
 use crate::layer::VerifiedLayer;
@@ -17,7 +18,8 @@ const CWT_CLAIMS: i64 = 15;
 
 /// Returns true if the pair is one of these.
 fn has_pair(pair: &(Value, Value), pairs: &[(Value, Value)]) -> bool
-    ensures { result ≡ has_pair (value_pair pair.now) (map value_pair pairs.now) }
+    ensures { result ≡ has_pair (value_pairs pairs.now) (value_item pair.now.0)
+        (value_item pair.now.1) }
 {
     pairs
         .iter()
@@ -26,7 +28,7 @@ fn has_pair(pair: &(Value, Value), pairs: &[(Value, Value)]) -> bool
 
 /// Returns true if the header has no claims, or if each of them is one of these pairs.
 fn agrees(header: &Header, pairs: &[(Value, Value)]) -> bool
-    ensures { result ≡ agrees (header_view header.now) (map value_pair pairs.now) }
+    ensures { result ≡ agrees (value_pairs pairs.now) (header_view header.now) }
 {
     let Some(value) = header.get(&Label::Int(CWT_CLAIMS)) else {
         return true;
@@ -39,17 +41,33 @@ fn agrees(header: &Header, pairs: &[(Value, Value)]) -> bool
 
 /// Returns true if each claim in the headers of the layer is one of these pairs.
 fn layer_agrees(layer: &VerifiedLayer<'_>, pairs: &[(Value, Value)]) -> bool
-    ensures { result ≡ layer_agrees (verified_view layer.now) (map value_pair pairs.now) }
+    ensures { result ≡ layer_agrees (value_pairs pairs.now) (verified_view layer.now) }
 {
     agrees(&layer.protected.header, pairs) && agrees(&layer.unprotected, pairs)
 }
 
-/// Returns true if a header of the layer has claims.
-fn has_claims(layer: &VerifiedLayer<'_>) -> bool
-    ensures { result ≡ has_claims (verified_view layer.now) }
+/// Returns true if the header has claims.
+fn has_claims(header: &Header) -> bool
+    ensures { result ≡ has_claims (header_view header.now) }
 {
-    let label = Label::Int(CWT_CLAIMS);
-    layer.protected.header.get(&label).is_some() || layer.unprotected.get(&label).is_some()
+    header.get(&Label::Int(CWT_CLAIMS)).is_some()
+}
+
+/// Returns true if a header of the layer has claims.
+fn layer_has_claims(layer: &VerifiedLayer<'_>) -> bool
+    ensures { result ≡ layer_has_claims (verified_view layer.now) }
+{
+    has_claims(&layer.protected.header) || has_claims(&layer.unprotected)
+}
+
+/// Returns the pairs of a map. Any other value has none.
+fn pairs_in(value: &Value) -> &[(Value, Value)]
+    ensures { value_pairs result.now ≡ pairs_in (value_item value.now) }
+{
+    match value {
+        Value::Map(pairs) => pairs,
+        _ => &[],
+    }
 }
 
 /// Returns true if each claim in the headers of the layers is one of the claims in `payload`.
@@ -63,14 +81,12 @@ pub(crate) fn header_claims_agree(
     payload: &[u8],
 ) -> Result<bool>
     ensures answer { IfOk result (λ b. Agrees (map verified_view layers.now) payload.now b) }
-    ensures refused { IfErr result (λ e. IsRefused any_item payload.now e) }
+    ensures refused { IfErr result (λ e. IsRefused any payload.now e) }
 {
-    if !layers.iter().any(has_claims) {
+    if !layers.iter().any(layer_has_claims) {
         return Ok(true);
     }
     let value = Value::from_slice(alloc, payload)?;
-    match value.as_map() {
-        Some(pairs) => Ok(layers.iter().all(|layer| layer_agrees(layer, pairs))),
-        None => Ok(false),
-    }
+    let pairs = pairs_in(&value);
+    Ok(layers.iter().all(|layer| layer_agrees(layer, pairs)))
 }

@@ -59,10 +59,12 @@ fn open_one<'k, K: Keys>(
         Ok(layer) => layer,
         Err(error) => return Err(LayerError::Message(error)),
     };
-    match contradict(alloc, layer.protected(), layer.unprotected()) {
-        Ok(false) => {}
-        Ok(true) => return Err(LayerError::Headers),
+    let are_torn = match contradict(alloc, layer.protected(), layer.unprotected()) {
+        Ok(are_torn) => are_torn,
         Err(error) => return Err(LayerError::Message(error)),
+    };
+    if are_torn {
+        return Err(LayerError::Headers);
     }
     if !policy.allows(layer.form(), layer.protected()) {
         return Err(LayerError::Algorithm(named_number(layer.protected())));

@@ -4,7 +4,7 @@ ghost use Rattle.std.specs.Prelude.{◌≡◌, map, option_map};
 ghost use Rattle.coset.specs.LabelViews.{algorithm_view};
 ghost use Rattle.coset.specs.LabelData.{as_label};
 ghost use Rattle.coset.specs.Views.{critical_view, header_view};
-ghost use Rattle.cwt_verify.specs.Policy.{allows, allows_algorithm, authenticates, is_known, is_understood, named_number, number_of, policy_view, strict, understands};
+ghost use Rattle.cwt_verify.specs.Policy.{allows, authenticates, has_meaning, is_known, is_named, is_understood, named_number, number_of, policy_view, strict, understands};
 
 use crate::headers::{Critical, has_label};
 use coset::iana::{Algorithm, CwtClaimName, EnumI64, HeaderParameter};
@@ -125,32 +125,30 @@ fn is_known(label: &Critical) -> bool
 {
     match label {
         RegisteredLabelWithPrivate::Assigned(parameter) => {
-            let number = parameter.to_i64();
-            number >= 1 && number <= 6 || number == 15 || number == 16
+            matches!(parameter.to_i64(), 1 | 2 | 3 | 4 | 5 | 6 | 15 | 16)
         }
         _ => false,
     }
 }
 
-impl Policy<'_> {
-    /// Returns true if the policy allows this algorithm, and it is for layers of this form.
-    fn allows_algorithm(&self, form: Form, algorithm: Algorithm) -> bool
-        ensures { result ≡ allows_algorithm (policy_view self.now) form algorithm }
-    {
-        self.algorithms.contains(&algorithm) && is_for(algorithm, form)
+/// Returns true if a header names this algorithm.
+fn is_named(named: &Option<coset::Algorithm>, algorithm: Algorithm) -> bool
+    ensures { result ≡ is_named (option_map algorithm_view named.now) algorithm }
+{
+    match named {
+        Some(RegisteredLabelWithPrivate::Assigned(found)) => found.to_i64() == algorithm.to_i64(),
+        _ => false,
     }
+}
 
+impl Policy<'_> {
     /// Returns true if the header names an algorithm that the policy allows, and that is for layers
     /// of this form.
     pub(crate) fn allows(&self, form: Form, header: &Header) -> bool
         ensures { result ≡ allows (policy_view self.now) form (header_view header.now) }
     {
-        match &header.alg {
-            Some(RegisteredLabelWithPrivate::Assigned(algorithm)) => {
-                self.allows_algorithm(form, *algorithm)
-            }
-            _ => false,
-        }
+        let named = &header.alg;
+        self.algorithms.iter().any(|allowed| is_named(named, *allowed) && is_for(*allowed, form))
     }
 
     /// Returns true if a layer of this form authenticates.
@@ -165,12 +163,19 @@ impl Policy<'_> {
         }
     }
 
+    /// Returns true if the caller or this crate understands the label.
+    fn has_meaning(&self, label: &Critical) -> bool
+        ensures { result ≡ has_meaning (policy_view self.now) (critical_view label.now) }
+    {
+        is_known(label) || self.critical.contains(label)
+    }
+
     /// Returns true if the label is understood and the header contains it.
     fn is_understood(&self, header: &Header, label: &Critical) -> bool
         ensures { result ≡ is_understood (policy_view self.now) (header_view header.now)
             (critical_view label.now) }
     {
-        (is_known(label) || self.critical.contains(label)) && has_label(header, label)
+        self.has_meaning(label) && has_label(header, label)
     }
 
     /// Returns true if each critical label of the protected header `header` is understood, and the

@@ -86,10 +86,12 @@ pub fn verify_token<'k, K: Keys>(
         Ok(known) => known,
         Err(error) => return Err(TokenError::Claims(error)),
     };
-    match header_claims_agree(alloc, &opened.layers, &opened.content) {
-        Ok(true) => {}
-        Ok(false) => return Err(TokenError::HeaderClaims),
+    let agree = match header_claims_agree(alloc, &opened.layers, &opened.content) {
+        Ok(agree) => agree,
         Err(error) => return Err(TokenError::Claims(error)),
+    };
+    if !agree {
+        return Err(TokenError::HeaderClaims);
     }
     check_claims(policy, now, issuer, &known)?;
     Ok(VerifiedToken {

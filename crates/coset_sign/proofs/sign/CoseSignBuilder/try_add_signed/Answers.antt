@@ -1,4 +1,5 @@
-use Rattle.std.proofs.Common.{◌≡◌, sym, ap, ◌∙◌, ◌++◌, ◌∷◌, []}
+use Rattle.std.proofs.Common.{◌≡◌, sym, ap, subst, Ok, ◌∙◌, ◌++◌, ◌∷◌, []}
+use Rattle.coset_codec.specs.Results.{Writes}
 use Rattle.coset_core.specs.Views.{signature_view}
 use Rattle.coset_sign.specs.Sign.{sign_view, push_signature, signed_with}
 use Rattle.coset_core.proofs.Calling.{passed_on}
@@ -7,14 +8,16 @@ use Rattle.coset_sign.proofs.sign.CoseSignBuilder.try_add_signed.Goals as goal
 
 pub returns-in_err-create_with : goal.returns-in_err-create_with
 returns-in_err-create_with g c = λ o written.
+    let made : Writes o (λ b. b.items) (Ok c.in-Ok.structure) = subst (Writes o (λ b. b.items)) c.in-Ok.is written in
     passed_on g.F.FnOnce c.args.signer o (λ made given. made ≡ given)
     (λ s b. sign_view b ≡ push_signature (signed_with s.items (signature_view c.args.signature))
     (sign_view c.args.self)) c.in_err-create_with.field-0.0 c.from_residual.result
-    c.from_residual.ensures.1 (c.in_err-create_with.ensures o written)
+    c.from_residual.ensures.1 (c.in_err-create_with.ensures o made)
 
 pub returns : goal.returns
 returns g c = λ o written.
-    let made = c.in_ok-create_with.ensures o written in
+    let fine : Writes o (λ b. b.items) (Ok c.in-Ok.structure) = subst (Writes o (λ b. b.items)) c.in-Ok.is written in
+    let made = c.in_ok-create_with.ensures o fine in
     let signed = signed_with c.in_ok-create_with.field-0.items (signature_view c.args.signature) in
     let pushed = c.push_reserved.ensures.items ∙ ap (λ xs. xs ++ c.signed_with-signed.result ∷ []) c.reserve.ensures.items in (
       made.0,
