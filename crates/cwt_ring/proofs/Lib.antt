@@ -1,0 +1,5 @@
+mod Lists
+mod Trying
+mod Successes
+mod Rows
+mod Asking
