@@ -1,0 +1,4 @@
+mod Opened
+mod Reading
+mod Walking
+mod Policies

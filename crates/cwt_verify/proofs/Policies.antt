@@ -1,0 +1,2 @@
+-- Tests of a policy.
+use Rattle.std.proofs.Common.{◌≡◌, Bool}
