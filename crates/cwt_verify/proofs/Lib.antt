@@ -1,4 +1,6 @@
+mod Labels
 mod Opened
+mod PairTests
 mod Reading
+mod TypeNames
 mod Walking
-mod Policies

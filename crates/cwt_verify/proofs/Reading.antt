@@ -1,6 +1,6 @@
 -- Reading one layer.
 use Rattle.std.specs.Prelude.{IsErrAnd}
-use Rattle.std.proofs.Common.{◌≡◌, ◌∙◌, List, ℕ, Bool, None, Result, Ok, Err, sym, ap, subst, inr}
+use Rattle.std.proofs.Common.{◌≡◌, ◌∙◌, [], List, ℕ, Bool, true, false, None, Result, Ok, Err, sym, ap, subst, inr}
 use Rattle.coset.specs.Results.{IsOnlyItem, ReadsSlice, RefusesSlice}
 use Rattle.coset.specs.AsWritten.{WhenRead}
 use Rattle.coset.specs.CoseError.{CoseError}
@@ -16,7 +16,15 @@ use Rattle.coset.specs.Sign1.{sign1, sign1_laws, sign1_structure}
 use Rattle.cwt_keys.specs.declared.form.Form.{Form}
 use Rattle.cwt_keys.specs.declared.form.Form.TheVariants.{Sign1, Mac0, Encrypt0}
 use Rattle.cwt_verify.specs.Layers.{DescribesAs, FaultsAs, LayerView, encrypted, layer, layer_item, layer_view, macced, message_in, signed, structure_of}
+use Rattle.cwt_keys.specs.Keys.{KeysView, Name, name_view}
+use Rattle.coset.specs.Results.{Describes}
+use Rattle.cwt_verify.specs.Opening.{Opens}
+use Rattle.cwt_verify.specs.Policy.{PolicyView}
+use Rattle.cwt_verify.specs.Walk.{IsAdmitted, OpensOne, is_allowed, is_clear, is_torn}
+use Rattle.cwt_verify.specs.declared.error.LayerError.{LayerError}
+use Rattle.cwt_verify.specs.declared.error.LayerError.TheVariants as reason
 use Rattle.cwt_verify.specs.declared.layer.Layer.{Layer}
+use Rattle.cwt_verify.specs.declared.layer.OpenedLayer.{OpenedLayer}
 
 -- If `P` holds for `Err e`, it holds for any result equal to `Err e`.
 pub passed_on : {A X : Type 0} (P : Result A X → Type 0) (r : Result A X) (e : X) → IsErrAnd r (λ x. x ≡ e) → P (Err e) → P r
@@ -65,3 +73,16 @@ unread plain outermost r {s = s} {v = v} {m = m} {e = e} only layered is form h 
           (λ n l d. as_sound (message_in plain (layer_item outermost v)) l e
           (subst (λ w. DescribesAs (message_in plain (layer_item outermost w)) l) (only.1 d.0 d.1) d.2) (fault n)),
     )
+
+module _ {E : Type 0} (k : KeysView E) (p : PolicyView) where
+  -- The result for a layer that the policy admits.
+  pub opened : HaveStructures → (outermost : Bool) (q : List ℕ) (l : LayerView) (r : Result OpenedLayer (LayerError E))
+      → Describes (layer p.untagged_form outermost) q l → IsAdmitted p l → Opens k l r → OpensOne k p outermost q r
+  opened laws outermost q l (Ok o) d a h = ((l, name_view o.verified.issuer), (d, a, h.0), h.1)
+  opened laws outermost q l (Err (reason.Message e)) d a h =
+      λ n. absurd (has_structure laws (message_in p.untagged_form (layer_item outermost d.0)) l h.0 d.2 (h.2 n).1)
+  opened laws outermost q l (Err reason.NoPayload) d a h = (l, d, (a, h))
+  opened laws outermost q l (Err (reason.Keys e)) d a h = (l, d, (a, h))
+  opened laws outermost q l (Err reason.Headers) d a h = absurd h
+  opened laws outermost q l (Err (reason.Algorithm n)) d a h = absurd h
+  opened laws outermost q l (Err reason.Critical) d a h = absurd h

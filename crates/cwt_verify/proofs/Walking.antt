@@ -1,7 +1,10 @@
 -- The layers of a token, one after another.
-use Rattle.std.proofs.Common.{◌≡◌, ◌≤◌, ◌<◌, ◌+◌, ◌++◌, ◌∙◌, ℕ, suc, List, [], ◌∷◌, length, map, Bool, true, false, Option, Some, None, Ok, Err, refl}
+use Rattle.std.proofs.Common.{◌≡◌, ◌≤◌, ◌<◌, ◌+◌, ◌++◌, ◌∙◌, ℕ, suc, List, [], ◌∷◌, length, map, Bool, true, false, Option, Some, None, Ok, Err, nat_eq, refl}
 use Rattle.std.proofs.Common.{sym, ap, subst, arith, if◌then◌else◌}
+use Rattle.std.proofs.lemmas.Bool.Decides.{nat_tests}
 use Rattle.std.proofs.lemmas.List.{length-map, length_push, map-append}
+use Rattle.std.specs.Global.{Global}
+use Rattle.std.specs.Prelude.{Vec}
 use Rattle.cwt_keys.specs.Keys.{KeysView, Name}
 use Rattle.cwt_verify.specs.Layers.{begins_with_tag}
 use Rattle.cwt_verify.specs.Opening.{VerifiedView, seen, verified_view}
@@ -11,12 +14,13 @@ use Rattle.cwt_verify.specs.Walk.{is_outside, verified_views, vouched, voucher, 
 use Rattle.cwt_verify.specs.declared.error.LayerError.{LayerError}
 use Rattle.cwt_verify.specs.declared.error.TokenError.{TokenError}
 use Rattle.cwt_verify.specs.declared.error.TokenError.TheVariants as token
+use Rattle.cwt_verify.specs.declared.layer.VerifiedLayer.{VerifiedLayer}
 use Rattle.cwt_verify.specs.declared.layers.Opened.{Opened}
 
 -- ---- lists of layers
 
 -- Returns true if the layer after these is the outermost, where `outermost` says so of the first.
-first : {A : Type 0} → Bool → List A → Bool
+abbrev first : {A : Type 0} → Bool → List A → Bool
 first outermost [] = outermost
 first outermost (x ∷ xs) = false
 
@@ -31,6 +35,14 @@ first-true (x ∷ xs) = refl
 is_outside-map : {A B : Type 0} (f : A → B) (xs : List A) → is_outside (map f xs) ≡ is_outside xs
 is_outside-map f [] = refl
 is_outside-map f (x ∷ xs) = refl
+
+some-count : {A : Type 0} (x : A) (xs : List A) → nat_eq (length (x ∷ xs)) 0 ≡ false
+some-count x xs = grind (arith, nat_tests)
+
+-- No layer is around exactly if their number is 0.
+pub outside-count : {A B : Type 0} (f : A → B) (xs : List A) (n : ℕ) → n ≡ length xs → nat_eq n 0 ≡ is_outside (map f xs)
+outside-count f [] n e = ap (λ m. nat_eq m 0) e
+outside-count f (x ∷ xs) n e = ap (λ m. nat_eq m 0) e ∙ some-count x xs
 
 is_outside-push : {A : Type 0} (xs : List A) (x : A) → is_outside (xs ++ x ∷ []) ≡ false
 is_outside-push [] x = refl
@@ -64,6 +76,16 @@ module _ {E : Type 0} (k : KeysView E) (p : PolicyView) where
         (subst (λ b. IsOpened k p b r x c) (sym (first-false ys)) o),
   )
 
+pub no_views : (vs : Vec VerifiedLayer Global) → vs.items ≡ [] → verified_views vs ≡ []
+no_views vs e = ap (map verified_view) e
+
+-- One more layer is opened.
+pub longer : (o i : Opened) (v : VerifiedView) → verified_views i.layers ≡ verified_views o.layers ++ v ∷ []
+    → length i.layers.items ≡ length o.layers.items + 1
+longer o i v e =
+    sym (length-map i.layers.items verified_view)
+    ∙ (ap length e ∙ (length_push (verified_views o.layers) v ∙ ap (λ n. n + 1) (length-map o.layers.items verified_view)))
+
 -- ---- the state of the loop
 
 -- The layers `xs` of the token `b`, at least one and at most four, are opened, and `o` says so.
@@ -77,9 +99,9 @@ pub record AreOpened {E : Type 0} (k : KeysView E) (p : PolicyView) (b : List �
 
 module _ {E : Type 0} (k : KeysView E) (p : PolicyView) (b : List ℕ) where
   pub first_opened : (vs : List VerifiedView) (n : Option Name) (o : Opened) → vs ≡ [] → n ≡ None → OpensNext k p vs n b (Ok o) → AreOpened k p b o
-  first_opened vs n o none no h =
+  first_opened vs n o none nobody h =
       let d = subst (λ us. OpensNext k p us n b (Ok o)) none h in
-      let e = subst (λ m. OpensNext k p [] m b (Ok o)) no d in
+      let e = subst (λ m. OpensNext k p [] m b (Ok o)) nobody d in
       record {
         xs = e.0 ∷ [];
         inside = refl;
@@ -102,6 +124,10 @@ module _ {E : Type 0} (k : KeysView E) (p : PolicyView) (b : List ℕ) where
 
   counted : (o : Opened) (a : AreOpened k p b o) → length a.xs ≡ length o.layers.items
   counted o a = sym (length-map a.xs seen) ∙ (ap length (sym a.views) ∙ length-map o.layers.items verified_view)
+
+  -- Fewer than four layers are opened, if their number isn't four.
+  pub below : (o : Opened) (a : AreOpened k p b o) (n : ℕ) → n ≡ length o.layers.items → (n ≡ 4 → ⊥) → length o.layers.items < 4
+  below o a n count not = let many : length a.xs ≡ length o.layers.items = counted o a in omega (arith, a.few, many, count, not)
 
   pub inner_refused :
       (o : Opened) (vs : List VerifiedView) (n : Option Name) (q : List ℕ) (e : TokenError E) → AreOpened k p b o → q ≡ o.content.items

@@ -13,7 +13,7 @@ use Rattle.coset_iana.specs.declared.content_formats.TheConstants.{COAP_CONTENT_
 use Rattle.cwt_verify.specs.Headers.{is_there_and}
 
 -- The CoAP content format with this number.
-abbrev pub format_of : ℤ → Option CoapContentFormat
+unfoldable pub format_of : ℤ → Option CoapContentFormat
 format_of i = first_numbered formats.number COAP_CONTENT_FORMATS i
 
 -- The media type that an item names: a text itself, or the content format with a number.

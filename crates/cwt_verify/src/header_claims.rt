@@ -10,6 +10,7 @@ ghost use Rattle.cwt_verify.specs.Opening.{verified_view};
 
 use crate::layer::VerifiedLayer;
 use coset::cbor::value::Value;
+use coset::laws::one_item;
 use coset::{CborSerializable, Header, Label, Result};
 use std::alloc::Global;
 
@@ -83,6 +84,7 @@ pub(crate) fn header_claims_agree(
     ensures answer { IfOk result (λ b. Agrees (map verified_view layers.now) payload.now b) }
     ensures refused { IfErr result (λ e. IsRefused any payload.now e) }
 {
+    one_item();
     if !layers.iter().any(layer_has_claims) {
         return Ok(true);
     }

@@ -285,11 +285,11 @@ fn open_macced<'k, K: Keys>(
 fn open_encrypted<'k, K: Keys>(
     alloc: Global,
     keys: &'k K,
-    message: CoseEncrypt0,
+    mut message: CoseEncrypt0,
 ) -> std::result::Result<OpenedLayer<'k>, LayerError<K::Error>>
     ensures { Opens (K.view keys.now) (encrypted (encrypt0_view message)) result }
 {
-    let Some(ciphertext) = &message.ciphertext else {
+    let Some(ciphertext) = message.ciphertext.take() else {
         return Err(LayerError::NoPayload);
     };
     let structure = match message.aad(alloc, &[]) {
@@ -300,7 +300,7 @@ fn open_encrypted<'k, K: Keys>(
         form: Form::Encrypt0,
         protected: &message.protected,
         unprotected: &message.unprotected,
-        proof: ciphertext,
+        proof: &ciphertext,
         structure: &structure,
     };
     match keys.decrypt(alloc, &sealed) {

@@ -1,2 +1,0 @@
--- Tests of a policy.
-use Rattle.std.proofs.Common.{◌≡◌, Bool}
