@@ -4,11 +4,11 @@ use Rattle.cwt_gate.proofs.Judging.{passed_on}
 use Rattle.cwt_gate.proofs.LettingIn.{refused_alone, refused_known}
 use Rattle.cwt_gate.proofs.claims.read_claims.Goals as goal
 
-pub returns-in_err-from_slice-in-Refused-clause-refused : goal.returns-in_err-from_slice-in-Refused-clause-refused
-returns-in_err-from_slice-in-Refused-clause-refused c =
-    let e = c.in_err-from_slice-in-Refused.field-0.0 in
+pub returns-in_err-claims-in-Refused-clause-refused : goal.returns-in_err-claims-in-Refused-clause-refused
+returns-in_err-claims-in-Refused-clause-refused c =
+    let e = c.in_err-claims-in-Refused.field-0.0 in
     passed_on (RefusesSlice (claims_by c.args.unassigned) c.args.bytes.now) c.from_residual.result e c.from_residual.ensures.1
-    (refused_alone c.args.unassigned c.args.bytes.now e c.in-Refused.is c.in_err-from_slice-in-Refused.ensures.refused)
+    (refused_alone c.args.unassigned c.args.bytes.now e c.in-Refused.is c.in_err-claims-in-Refused.ensures.refused)
 
 pub returns-in-LeftOut-clause-refused : goal.returns-in-LeftOut-clause-refused
 returns-in-LeftOut-clause-refused c =
