@@ -71,8 +71,7 @@ fn is_aud(key: Pull<'_>) -> bool
 
 /// Returns the elements of the array, if the pair is an audience in an array.
 fn aud_array<'a>(key: Pull<'_>, value: Pull<'a>) -> Option<Items<'a>>
-    ensures { option_map items_left result
-        ≡ aud_array (pull_item key.entry) (pull_item value.entry) }
+    ensures { option_map items_left result ≡ aud_array (pull_item key.entry) (pull_item value.entry) }
 {
     if is_aud(key) { value.items() } else { None }
 }
