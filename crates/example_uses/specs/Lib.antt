@@ -9,6 +9,7 @@ pub mod FindKey
 pub mod HeaderParts
 pub mod Inside
 pub mod KeySets
+pub mod LetIn
 pub mod Mac0
 pub mod MadeClaims
 pub mod MadeKeys
@@ -22,3 +23,4 @@ pub mod Sequence
 pub mod SharedKey
 pub mod Signers
 pub mod Store
+pub mod TokenKeys

@@ -1,3 +1,0 @@
-pub mod Keys
-pub mod Sealed
-pub mod Table

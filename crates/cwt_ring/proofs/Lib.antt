@@ -1,4 +1,0 @@
-mod Lists
-mod Trying
-mod Successes
-mod Asking

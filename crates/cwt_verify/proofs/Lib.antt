@@ -1,6 +1,0 @@
-mod Labels
-mod Opened
-mod PairTests
-mod Reading
-mod TypeNames
-mod Walking
