@@ -44,12 +44,17 @@ pub fn known(alloc: Global, words: &Words<'_>) -> Result<String> {
 
 /// Returns the text for these claims.
 fn tell_known(alloc: Global, known: KnownClaims) -> Result<String> {
-    let mut text = tell::value(alloc, Ok(known.claims))?;
-    if !known.audience.is_empty() {
+    let KnownClaims {
+        claims,
+        audience,
+        others,
+    } = known;
+    let mut text = tell::value(alloc, Ok(claims))?;
+    if !audience.is_empty() {
         text.push_str(" audience=")?;
-        text.push_str(&tell_names(alloc, known.audience)?)?;
+        text.push_str(&tell_names(alloc, audience)?)?;
     }
-    for (label, value) in known.others {
+    for (label, value) in others {
         text.push_str(" ")?;
         text.push_str(&tell::hexadecimal(alloc, &label.to_vec(alloc)?)?)?;
         text.push_str("=")?;

@@ -138,22 +138,27 @@ fn told_with(
 ) -> Result<String> {
     match answer {
         Ok(known) => {
-            let several = known.claims.audience.is_none() && !known.audience.is_empty();
-            let mut claims = tell::value(alloc, Ok(known.claims))?;
+            let KnownClaims {
+                claims,
+                audience,
+                others,
+            } = known;
+            let several = claims.audience.is_none() && !audience.is_empty();
+            let mut text = tell::value(alloc, Ok(claims))?;
             if several {
-                claims.push_str(" audience ")?;
-                claims.push_str(&array_of(alloc, known.audience)?)?;
+                text.push_str(" audience ")?;
+                text.push_str(&array_of(alloc, audience)?)?;
             }
-            if known.others.is_empty() {
-                return Ok(claims);
+            if others.is_empty() {
+                return Ok(text);
             }
-            let mut others = Vec::new(alloc);
-            for (label, value) in known.others {
-                others.push(label.to_cbor_value(alloc)?)?;
-                others.push(value)?;
+            let mut elements = Vec::new(alloc);
+            for (label, value) in others {
+                elements.push(label.to_cbor_value(alloc)?)?;
+                elements.push(value)?;
             }
-            let others = tell::hexadecimal(alloc, &Value::Array(others).to_vec(alloc)?)?;
-            Ok(format!(in alloc; "{claims} others {others}")?)
+            let others = tell::hexadecimal(alloc, &Value::Array(elements).to_vec(alloc)?)?;
+            Ok(format!(in alloc; "{text} others {others}")?)
         }
         Err(error) => Ok(format!(in alloc; "{error:?}")?),
     }
