@@ -1,4 +1,7 @@
+mod Innermost
+mod Judging
 mod Labels
+mod Missing
 mod Opened
 mod PairTests
 mod Reading

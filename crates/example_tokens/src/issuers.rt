@@ -14,7 +14,7 @@ const SERVICE: &str = "coap://light.example.com";
 ///
 /// # Errors
 /// The error of [`verify_for`].
-pub fn is_from_partner<C: Ciphers>(
+pub fn is_from_partner<C: Ciphers + Drop>(
     alloc: Global,
     server: &CoseKeySet,
     partner: &CoseKeySet,
