@@ -13,7 +13,7 @@ HERE = common.HERE
 WORD = re.compile(r"[A-Za-z_]\w*")
 LINK = re.compile(r"\]\(([^)#\s]+)(?:#[^)]*)?\)")
 # A path in backquotes, or in the text of a page: one that begins with a folder of the repository.
-PATH = re.compile(r"(?<![\w/.])((?:crates|tools|c|docs|edits|coset_\w+|cwt_gate|ffi_\w+|tool_\w+|test_\w+|example_\w+)/[\w./*-]+)")
+PATH = re.compile(r"(?<![\w/.])((?:crates|tools|c|docs|edits|coset_\w+|cwt_\w+|ffi_\w+|tool_\w+|test_\w+|example_\w+)/[\w./*-]+)")
 PROGRAM = re.compile(r"^In \[[^\]\n]*\]\(\.\./(crates/\w+/src/main\.rt)\):\n\n```rust\n(.*?)^```", re.M | re.S)
 
 

@@ -9,7 +9,6 @@ pub mod Found
 pub mod Issued
 pub mod KeySets
 pub mod Successes
-pub mod LetIn
 pub mod NamedAlgorithm
 pub mod OneByOne
 pub mod Opened

@@ -9,7 +9,6 @@ pub mod FindKey
 pub mod HeaderParts
 pub mod Inside
 pub mod KeySets
-pub mod LetIn
 pub mod Mac0
 pub mod MadeClaims
 pub mod MadeKeys
@@ -23,4 +22,3 @@ pub mod Sequence
 pub mod SharedKey
 pub mod Signers
 pub mod Store
-pub mod TokenKeys

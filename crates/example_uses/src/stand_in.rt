@@ -6,8 +6,6 @@ ghost use Rattle.example_uses.specs.Refusals.{IsNotBehind};
 ghost use Rattle.example_uses.specs.declared.cipher.Refused.TheVariants.{OutOfMemory};
 
 use crate::cipher::{DecryptionKey, Refused, SigningKey, VerifyingKey};
-use crate::token_keys::TokenCipher;
-use coset::CoseKey;
 use std::alloc::Global;
 
 /// A key that protects nothing, because its results can be made without it.
@@ -52,32 +50,5 @@ impl DecryptionKey for StandInKey {
             Ok(copy) => Ok(copy),
             Err(_) => Err(Refused::OutOfMemory),
         }
-    }
-}
-
-/// Verifies and decrypts in the same way, whichever key is given.
-impl TokenCipher for StandInKey {
-    ghost verifies = { λ self key tbs signature. signature ≡ tbs };
-
-    ghost verifies_tag = { λ self key tbm mac. mac ≡ tbm };
-
-    ghost decrypts = { λ self key aad ciphertext plaintext. ciphertext ≡ aad ++ plaintext };
-
-    fn verify(&self, _key: &CoseKey, signature: &[u8], tbs: &[u8]) -> Result<(), Refused> {
-        VerifyingKey::verify(self, signature, tbs)
-    }
-
-    fn verify_tag(&self, _key: &CoseKey, tag: &[u8], tbm: &[u8]) -> Result<(), Refused> {
-        VerifyingKey::verify(self, tag, tbm)
-    }
-
-    fn decrypt(
-        &self,
-        alloc: Global,
-        _key: &CoseKey,
-        ciphertext: &[u8],
-        aad: &[u8],
-    ) -> Result<Vec<u8>, Refused> {
-        DecryptionKey::decrypt(self, alloc, ciphertext, aad)
     }
 }

@@ -1,0 +1,46 @@
+//! The keys of a verifier. Rattle has no ciphers, so whoever has some implements this trait.
+
+ghost use Rattle.std.specs.Prelude.{IfOk, IfErr};
+ghost use Rattle.cwt_keys.specs.Keys.{KeysView, name_view};
+ghost use Rattle.cwt_keys.specs.Sealed.{seal_view};
+
+use crate::sealed::Sealed;
+use std::alloc::Global;
+
+/// The keys of a verifier. Each method finds a key for the layer, such as by the identifier in a
+/// header, and uses it.
+///
+/// An implementer states in `view` which layers the keys may accept, for whom, and which errors
+/// they may return. The methods have no default bodies, so an error comes only from keys that were
+/// asked.
+pub trait Keys {
+    /// The reason why no key is found, or why the key doesn't accept a layer.
+    type Error: Drop;
+
+    /// The view of the keys: the layers that they may accept, and the errors that they may return.
+    ghost view: { Self → KeysView Self.Error };
+
+    /// Verifies the signature or the MAC of a layer (`COSE_Sign1`, `COSE_Mac0`). Returns the name
+    /// of the issuer whose key accepted it, or `None` if that issuer has no name.
+    ///
+    /// # Errors
+    /// Any error that these keys may return for this layer (`refuses` of `view`).
+    fn verify<'k>(&'k self, sealed: &Sealed<'_>) -> Result<Option<&'k str>, Self::Error>
+        ensures accepted { IfOk result (λ n.
+            (view self.now).accepts (seal_view sealed.now) (name_view n)) }
+        ensures refused { IfErr result (λ e. (view self.now).refuses (seal_view sealed.now) e) };
+
+    /// Returns the plaintext of an encrypted layer (`COSE_Encrypt0`), and the name of the issuer
+    /// whose key decrypted it, or `None` if that issuer has no name.
+    ///
+    /// # Errors
+    /// Any error that these keys may return for this layer (`refuses` of `view`).
+    fn decrypt<'k>(
+        &'k self,
+        alloc: Global,
+        sealed: &Sealed<'_>,
+    ) -> Result<(Vec<u8>, Option<&'k str>), Self::Error>
+        ensures decrypted { IfOk result (λ x.
+            (view self.now).decrypts (seal_view sealed.now) x.0.items (name_view x.1)) }
+        ensures refused { IfErr result (λ e. (view self.now).refuses (seal_view sealed.now) e) };
+}

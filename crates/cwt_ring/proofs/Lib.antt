@@ -1,0 +1,4 @@
+mod Lists
+mod Trying
+mod Successes
+mod Asking

@@ -1,0 +1,9 @@
+mod Innermost
+mod Judging
+mod Labels
+mod Missing
+mod Opened
+mod PairTests
+mod Reading
+mod TypeNames
+mod Walking

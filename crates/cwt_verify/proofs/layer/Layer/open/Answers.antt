@@ -1,0 +1,14 @@
+use Rattle.std.proofs.Common.{sym, subst}
+use Rattle.cwt_verify.specs.Opening.{Opens}
+use Rattle.cwt_verify.specs.Layers.{layer_view}
+use Rattle.cwt_verify.proofs.layer.Layer.open.Goals as goal
+
+pub returns-in-Sign1 : goal.returns-in-Sign1
+returns-in-Sign1 g c = subst (λ l. Opens (g.K.Keys.view c.args.keys.now) (layer_view l) c.open_signed.result) (sym c.in-Sign1.is) c.open_signed.ensures
+
+pub returns-in-Mac0 : goal.returns-in-Mac0
+returns-in-Mac0 g c = subst (λ l. Opens (g.K.Keys.view c.args.keys.now) (layer_view l) c.open_macced.result) (sym c.in-Mac0.is) c.open_macced.ensures
+
+pub returns-in-Encrypt0 : goal.returns-in-Encrypt0
+returns-in-Encrypt0 g c =
+    subst (λ l. Opens (g.K.Keys.view c.args.keys.now) (layer_view l) c.open_encrypted.result) (sym c.in-Encrypt0.is) c.open_encrypted.ensures

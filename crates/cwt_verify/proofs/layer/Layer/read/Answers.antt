@@ -1,0 +1,32 @@
+use Rattle.cwt_verify.proofs.Reading.{unread}
+use Rattle.cwt_verify.proofs.layer.Layer.read.Goals as goal
+
+pub returns-in_err-from_pull-in-Sign1-clause-refused : goal.returns-in_err-from_pull-in-Sign1-clause-refused
+returns-in_err-from_pull-in-Sign1-clause-refused c =
+    (unread c.args.plain c.args.outermost c.from_residual-in_err-from_pull-in-Sign1.result c.in_ok-whole_item.ensures.whole c.layer_item-item.ensures
+    c.message_in-form.ensures c.in-Sign1.is c.in_err-from_pull-in-Sign1.ensures c.from_residual-in_err-from_pull-in-Sign1.ensures.1).1
+
+pub returns-in_err-from_pull-in-Mac0-clause-refused : goal.returns-in_err-from_pull-in-Mac0-clause-refused
+returns-in_err-from_pull-in-Mac0-clause-refused c =
+    (unread c.args.plain c.args.outermost c.from_residual-in_err-from_pull-in-Mac0.result c.in_ok-whole_item.ensures.whole c.layer_item-item.ensures
+    c.message_in-form.ensures c.in-Mac0.is c.in_err-from_pull-in-Mac0.ensures c.from_residual-in_err-from_pull-in-Mac0.ensures.1).1
+
+pub returns-in_err-from_pull-in-Encrypt0-clause-refused : goal.returns-in_err-from_pull-in-Encrypt0-clause-refused
+returns-in_err-from_pull-in-Encrypt0-clause-refused c =
+    (unread c.args.plain c.args.outermost c.from_residual-in_err-from_pull-in-Encrypt0.result c.in_ok-whole_item.ensures.whole c.layer_item-item.ensures
+    c.message_in-form.ensures c.in-Encrypt0.is c.in_err-from_pull-in-Encrypt0.ensures c.from_residual-in_err-from_pull-in-Encrypt0.ensures.1).1
+
+pub returns-in_err-from_pull-in-Sign1-clause-read : goal.returns-in_err-from_pull-in-Sign1-clause-read
+returns-in_err-from_pull-in-Sign1-clause-read c =
+    (unread c.args.plain c.args.outermost c.from_residual-in_err-from_pull-in-Sign1.result c.in_ok-whole_item.ensures.whole c.layer_item-item.ensures
+    c.message_in-form.ensures c.in-Sign1.is c.in_err-from_pull-in-Sign1.ensures c.from_residual-in_err-from_pull-in-Sign1.ensures.1).0
+
+pub returns-in_err-from_pull-in-Mac0-clause-read : goal.returns-in_err-from_pull-in-Mac0-clause-read
+returns-in_err-from_pull-in-Mac0-clause-read c =
+    (unread c.args.plain c.args.outermost c.from_residual-in_err-from_pull-in-Mac0.result c.in_ok-whole_item.ensures.whole c.layer_item-item.ensures
+    c.message_in-form.ensures c.in-Mac0.is c.in_err-from_pull-in-Mac0.ensures c.from_residual-in_err-from_pull-in-Mac0.ensures.1).0
+
+pub returns-in_err-from_pull-in-Encrypt0-clause-read : goal.returns-in_err-from_pull-in-Encrypt0-clause-read
+returns-in_err-from_pull-in-Encrypt0-clause-read c =
+    (unread c.args.plain c.args.outermost c.from_residual-in_err-from_pull-in-Encrypt0.result c.in_ok-whole_item.ensures.whole c.layer_item-item.ensures
+    c.message_in-form.ensures c.in-Encrypt0.is c.in_err-from_pull-in-Encrypt0.ensures c.from_residual-in_err-from_pull-in-Encrypt0.ensures.1).0

@@ -1,0 +1,11 @@
+pub mod Claims
+pub mod HeaderClaims
+pub mod Headers
+pub mod Layers
+pub mod Moment
+pub mod Opening
+pub mod Policy
+pub mod Texts
+pub mod Types
+pub mod Verify
+pub mod Walk

@@ -1,0 +1,143 @@
+-- The layers of a token, from the outermost in (RFC 8392, section 7.2).
+use Rattle.std.specs.Prelude.{◌≡◌, ◌≤◌, ◌<◌, ◌++◌, ◌||◌, ℕ, List, [], ◌∷◌, length, map, option_map, Bool, true, false, Option, Some, None, Result, Ok, Err, Vec}
+use Rattle.std.specs.Prelude.{if◌then◌else◌}
+use Rattle.std.specs.Borrow.{Bor}
+use Rattle.std.specs.Global.{Global}
+use Rattle.coset.specs.Results.{Describes, IsRefused}
+use Rattle.cwt_keys.specs.Keys.{KeysView, Name, name_view}
+use Rattle.cwt_verify.specs.Headers.{contradict}
+use Rattle.cwt_verify.specs.Layers.{LayerView, attached, begins_with_tag, form_of, layer, protected_of, unprotected_of}
+use Rattle.cwt_verify.specs.Opening.{HasContent, Refuses, VerifiedView, seen, verified_view}
+use Rattle.cwt_verify.specs.Policy.{PolicyView, allows, authenticates, named_number, understands}
+use Rattle.cwt_verify.specs.declared.error.LayerError.{LayerError}
+use Rattle.cwt_verify.specs.declared.error.LayerError.TheVariants.{Message, Headers, Algorithm, Critical, NoPayload, Keys}
+use Rattle.cwt_verify.specs.declared.error.TokenError.{TokenError}
+use Rattle.cwt_verify.specs.declared.error.TokenError.TheVariants.{Layer, TooDeep}
+use Rattle.cwt_verify.specs.declared.layer.OpenedLayer.{OpenedLayer}
+use Rattle.cwt_verify.specs.declared.layer.VerifiedLayer.{VerifiedLayer}
+use Rattle.cwt_verify.specs.declared.layers.Opened.{Opened}
+
+-- The greatest number of layers.
+abbrev pub MAX_LAYERS : ℕ
+MAX_LAYERS = 4
+
+-- ---- one layer
+
+-- Returns true if the layer's headers contradict each other.
+abbrev pub is_torn : LayerView → Bool
+is_torn l = contradict (protected_of l).header (unprotected_of l)
+
+-- Returns true if the policy allows the algorithm in the layer's protected header.
+abbrev pub is_allowed : PolicyView → LayerView → Bool
+is_allowed p l = allows p (form_of l) (protected_of l).header
+
+-- Returns true if each critical label of the layer is understood.
+abbrev pub is_clear : PolicyView → LayerView → Bool
+is_clear p l = understands p (protected_of l).header (unprotected_of l)
+
+-- The policy admits the layer.
+abbrev pub IsAdmitted : PolicyView → LayerView → Type 0
+IsAdmitted p l = (is_torn l ≡ false) × (is_allowed p l ≡ true) × (is_clear p l ≡ true)
+
+-- The bytes `q` are a layer, the outermost or another one, and `R` holds for it.
+abbrev pub IsLayer : PolicyView → Bool → List ℕ → (LayerView → Type 0) → Type 0
+IsLayer p outermost q R = (l : LayerView) × Describes (layer p.untagged_form outermost) q l × R l
+
+-- The first reason against the layer in the bytes `q`, or the fault if they are no layer.
+abbrev pub RefusesLayer : {E : Type 0} → KeysView E → PolicyView → Bool → List ℕ → LayerError E → Type 0
+RefusesLayer k p outermost q (Message e) = IsRefused (layer p.untagged_form outermost) q e
+RefusesLayer k p outermost q Headers = IsLayer p outermost q (λ l. is_torn l ≡ true)
+RefusesLayer k p outermost q (Algorithm a) =
+    IsLayer p outermost q (λ l. (is_torn l ≡ false) × (is_allowed p l ≡ false) × (a ≡ named_number (protected_of l).header))
+RefusesLayer k p outermost q Critical = IsLayer p outermost q (λ l. (is_torn l ≡ false) × (is_allowed p l ≡ true) × (is_clear p l ≡ false))
+RefusesLayer k p outermost q NoPayload = IsLayer p outermost q (λ l. IsAdmitted p l × (attached l ≡ None))
+RefusesLayer k p outermost q (Keys e) = IsLayer p outermost q (λ l. IsAdmitted p l × Refuses k l e)
+
+-- A layer, and the name of the issuer whose key accepted it.
+abbrev pub Accepted : Type 0
+Accepted = LayerView × Name
+
+-- The bytes `q` are the layer, the policy admits it, the keys accept it for the issuer of that name, and `c` is its
+-- content.
+abbrev pub IsOpened : {E : Type 0} → KeysView E → PolicyView → Bool → List ℕ → Accepted → List ℕ → Type 0
+IsOpened k p outermost q x c = Describes (layer p.untagged_form outermost) q x.0 × IsAdmitted p x.0 × HasContent k x.0 c x.1
+
+-- The result of opening one layer.
+abbrev pub OpensOne : {E : Type 0} → KeysView E → PolicyView → Bool → List ℕ → Result OpenedLayer (LayerError E) → Type 0
+OpensOne k p outermost q (Ok o) = (x : Accepted) × IsOpened k p outermost q x o.content.items × (verified_view o.verified ≡ seen x)
+OpensOne k p outermost q (Err e) = RefusesLayer k p outermost q e
+
+-- ---- nested layers
+
+-- Returns true if no layer is around.
+abbrev pub is_outside : {A : Type 0} → List A → Bool
+is_outside [] = true
+is_outside (x ∷ xs) = false
+
+-- Returns true if the bytes are a layer: the outermost, or bytes that begin with a tag.
+abbrev pub goes_on : Bool → List ℕ → Bool
+goes_on outermost q = outermost || begins_with_tag q
+
+-- The layers `xs`, from the outermost in, lead from the bytes `q` to `c`: each is the content of the one around it, and
+-- `c` is the content of the last.
+abbrev pub Leads : {E : Type 0} → KeysView E → PolicyView → Bool → List ℕ → List Accepted → List ℕ → Type 0
+Leads k p outermost q [] c = c ≡ q
+Leads k p outermost q (x ∷ xs) c = (r : List ℕ) × (goes_on outermost q ≡ true) × IsOpened k p outermost q x r × Leads k p false r xs c
+
+-- Some layers of the token `b` lead to the bytes `q`, and `R` holds for both. The bytes `q` are another layer exactly if
+-- `more` is true.
+abbrev pub Reaches : {E : Type 0} → KeysView E → PolicyView → List ℕ → Bool → (List Accepted → List ℕ → Type 0) → Type 0
+Reaches k p b more R = (xs : List Accepted) × (q : List ℕ) × Leads k p true b xs q × (goes_on (is_outside xs) q ≡ more) × R xs q
+
+-- The name of the issuer who vouches for a layer's content: that of the layer itself if it authenticates, else that of
+-- the layers around it, if there is one.
+abbrev pub vouched : PolicyView → VerifiedView → Option Name → Option Name
+vouched p v around = if authenticates p.authenticated_by v.form then Some v.issuer else around
+
+-- The first one that is there, of two.
+abbrev pub first_of : {A : Type 0} → Option A → Option A → Option A
+first_of None o = o
+first_of (Some x) o = Some x
+
+-- The name of the issuer whose key accepted the innermost layer that authenticates.
+abbrev pub voucher : PolicyView → List Accepted → Option Name
+voucher p [] = None
+voucher p (x ∷ xs) = first_of (voucher p xs) (vouched p (seen x) None)
+
+-- `e` is the first reason against the layer at this index, counted from the outermost.
+abbrev pub RefusesAt : {E : Type 0} → KeysView E → PolicyView → List ℕ → ℕ → LayerError E → Type 0
+RefusesAt k p b index e = Reaches k p b true (λ xs q. (length xs ≡ index) × (index < MAX_LAYERS) × RefusesLayer k p (is_outside xs) q e)
+
+-- Four layers are accepted, and their content is another one.
+abbrev pub IsTooDeep : {E : Type 0} → KeysView E → PolicyView → List ℕ → Type 0
+IsTooDeep k p b = Reaches k p b true (λ xs q. length xs ≡ MAX_LAYERS)
+
+-- At most four layers are accepted, and their content, for which `R` holds, is no further layer.
+abbrev pub Arrives : {E : Type 0} → KeysView E → PolicyView → List ℕ → (List Accepted → List ℕ → Type 0) → Type 0
+Arrives k p b R = Reaches k p b false (λ xs c. (length xs ≤ MAX_LAYERS) × R xs c)
+
+-- ---- the steps
+
+abbrev pub verified_views : Vec VerifiedLayer Global → List VerifiedView
+verified_views vs = map verified_view vs.items
+
+abbrev pub voucher_view : Option (Option (Bor (List ℕ))) → Option Name
+voucher_view o = option_map name_view o
+
+-- The result of opening the layer in the bytes `q`, which is inside these layers, of which this issuer vouches for `q`.
+abbrev pub OpensNext : {E : Type 0} → KeysView E → PolicyView → List VerifiedView → Option Name → List ℕ → Result Opened (TokenError E) → Type 0
+OpensNext k p vs name q (Ok o) =
+    (x : Accepted)
+    × IsOpened k p (is_outside vs) q x o.content.items
+    × (verified_views o.layers ≡ vs ++ seen x ∷ [])
+    × (voucher_view o.voucher ≡ vouched p (seen x) name)
+OpensNext k p vs name q (Err (Layer index e)) = (index ≡ length vs) × RefusesLayer k p (is_outside vs) q e
+OpensNext k p vs name q (Err e) = ⊥
+
+-- The result of opening all layers: the content of the innermost one, who vouches for it, and the layers.
+abbrev pub OpensAll : {E : Type 0} → KeysView E → PolicyView → List ℕ → Result Opened (TokenError E) → Type 0
+OpensAll k p b (Ok o) =
+    Arrives k p b (λ xs c. (c ≡ o.content.items) × (verified_views o.layers ≡ map seen xs) × (voucher_view o.voucher ≡ voucher p xs))
+OpensAll k p b (Err (Layer index e)) = RefusesAt k p b index e
+OpensAll k p b (Err TooDeep) = IsTooDeep k p b
+OpensAll k p b (Err e) = ⊥

@@ -1,0 +1,94 @@
+//! Claims in headers (RFC 9597), which must be in the payload too.
+
+ghost use Rattle.std.specs.Prelude.{◌≡◌, IfOk, IfErr, map};
+ghost use Rattle.coset.specs.Results.{IsRefused};
+ghost use Rattle.coset.specs.Shape.{any};
+ghost use Rattle.coset.specs.View.{value_item, value_pairs};
+ghost use Rattle.coset.specs.Views.{header_view};
+ghost use Rattle.cwt_verify.specs.HeaderClaims.{Agrees, agrees, has_claims, has_pair, layer_agrees, layer_has_claims, pairs_in};
+ghost use Rattle.cwt_verify.specs.Opening.{verified_view};
+
+use crate::layer::VerifiedLayer;
+use coset::cbor::value::Value;
+use coset::laws::one_item;
+use coset::{CborSerializable, Header, Label, Result};
+use std::alloc::Global;
+
+/// The label of claims in a header (RFC 9597).
+const CWT_CLAIMS: i64 = 15;
+
+/// Returns true if the pair is one of these.
+fn has_pair(pair: &(Value, Value), pairs: &[(Value, Value)]) -> bool
+    ensures { result ≡ has_pair (value_pairs pairs.now) (value_item pair.now.0)
+        (value_item pair.now.1) }
+{
+    pairs
+        .iter()
+        .any(|(key, value)| *key == pair.0 && *value == pair.1)
+}
+
+/// Returns true if the header has no claims, or if each of them is one of these pairs.
+fn agrees(header: &Header, pairs: &[(Value, Value)]) -> bool
+    ensures { result ≡ agrees (value_pairs pairs.now) (header_view header.now) }
+{
+    let Some(value) = header.get(&Label::Int(CWT_CLAIMS)) else {
+        return true;
+    };
+    let Some(claims) = value.as_map() else {
+        return false;
+    };
+    claims.iter().all(|pair| has_pair(pair, pairs))
+}
+
+/// Returns true if each claim in the headers of the layer is one of these pairs.
+fn layer_agrees(layer: &VerifiedLayer<'_>, pairs: &[(Value, Value)]) -> bool
+    ensures { result ≡ layer_agrees (value_pairs pairs.now) (verified_view layer.now) }
+{
+    agrees(&layer.protected.header, pairs) && agrees(&layer.unprotected, pairs)
+}
+
+/// Returns true if the header has claims.
+fn has_claims(header: &Header) -> bool
+    ensures { result ≡ has_claims (header_view header.now) }
+{
+    header.get(&Label::Int(CWT_CLAIMS)).is_some()
+}
+
+/// Returns true if a header of the layer has claims.
+fn layer_has_claims(layer: &VerifiedLayer<'_>) -> bool
+    ensures { result ≡ layer_has_claims (verified_view layer.now) }
+{
+    has_claims(&layer.protected.header) || has_claims(&layer.unprotected)
+}
+
+/// Returns the pairs of a map. Any other value has none.
+fn pairs_in(value: &Value) -> &[(Value, Value)]
+    ensures { value_pairs result.now ≡ pairs_in (value_item value.now) }
+{
+    match value {
+        Value::Map(pairs) => pairs,
+        _ => &[],
+    }
+}
+
+/// Returns true if each claim in the headers of the layers is one of the claims in `payload`.
+///
+/// # Errors
+/// - `OutOfMemory` if an allocation fails.
+/// - A fault in the payload, if it is no item.
+pub(crate) fn header_claims_agree(
+    alloc: Global,
+    layers: &[VerifiedLayer<'_>],
+    payload: &[u8],
+) -> Result<bool>
+    ensures answer { IfOk result (λ b. Agrees (map verified_view layers.now) payload.now b) }
+    ensures refused { IfErr result (λ e. IsRefused any payload.now e) }
+{
+    one_item();
+    if !layers.iter().any(layer_has_claims) {
+        return Ok(true);
+    }
+    let value = Value::from_slice(alloc, payload)?;
+    let pairs = pairs_in(&value);
+    Ok(layers.iter().all(|layer| layer_agrees(layer, pairs)))
+}

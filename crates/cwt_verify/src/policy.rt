@@ -1,0 +1,193 @@
+//! A verifier's requirements for a token, in addition to acceptance by its keys.
+
+ghost use Rattle.std.specs.Prelude.{◌≡◌, map, option_map};
+ghost use Rattle.coset.specs.LabelViews.{algorithm_view};
+ghost use Rattle.coset.specs.LabelData.{as_label};
+ghost use Rattle.coset.specs.Views.{critical_view, header_view};
+ghost use Rattle.cwt_verify.specs.Policy.{allows, authenticates, has_meaning, is_known, is_named, is_understood, named_number, number_of, policy_view, strict, understands};
+
+use crate::headers::{Critical, has_label};
+use coset::iana::{Algorithm, CwtClaimName, EnumI64, HeaderParameter};
+use coset::{Header, RegisteredLabelWithPrivate};
+use cwt_keys::{Form, is_for};
+
+/// The kinds of layers that authenticate the sender of a token.
+#[derive(Clone, Copy, Debug, PartialEq, Eq)]
+pub enum Authentication {
+    /// A layer with a signature.
+    Signature,
+    /// A layer with a signature or a MAC.
+    SignatureOrMac,
+    /// Any layer. An encrypted layer authenticates those who share its key (RFC 8152, section 5.3).
+    AnyLayer,
+}
+
+/// The audiences (`aud`) of the tokens that are accepted (RFC 8392, section 3.1.3).
+#[derive(Clone, Copy, Debug)]
+pub enum Audience<'a> {
+    /// Tokens without an audience.
+    Absent,
+    /// Tokens that have one of these names in their audience.
+    OneOf(&'a [&'a str]),
+    /// All tokens. The caller must compare `audience` of the result with its own names (RFC 7519,
+    /// section 4.1.3).
+    Unchecked,
+}
+
+/// A verifier's requirements for a token, in addition to acceptance by its keys.
+///
+/// [`Policy::strict`] is the safe choice for each field that isn't named:
+/// `Policy { algorithms: &[Algorithm::ES256], ..Policy::strict() }`.
+#[derive(Clone, Copy, Debug)]
+pub struct Policy<'a> {
+    /// The allowed algorithms. The protected header of each layer must name one of them that is for
+    /// the layer's form ([`is_for`]). An algorithm in the unprotected header doesn't count.
+    pub algorithms: &'a [Algorithm],
+    /// The audiences that are accepted.
+    pub audience: Audience<'a>,
+    /// The types that are accepted, such as `application/cwt`. If there is one, the protected header
+    /// of the innermost layer must name one of them (`typ`), as a media type or by its number (RFC
+    /// 9596). Upper and lower case are the same.
+    pub types: &'a [&'a str],
+    /// The claims that a token must have.
+    pub required: &'a [CwtClaimName],
+    /// The labels that the caller understands, out of those that a header may list as critical (RFC
+    /// 9052, section 3.1). The labels 1 to 6, 15 and 16 are always understood.
+    pub critical: &'a [RegisteredLabelWithPrivate<HeaderParameter>],
+    /// The form of an outermost layer without a tag. Sender and verifier must agree on it (RFC 8392,
+    /// section 7.2, step 3).
+    pub untagged_form: Form,
+    /// The layers that authenticate the sender. A token must have at least one of them.
+    pub authenticated_by: Authentication,
+    /// True if a token must have an expiration time (`exp`).
+    pub require_exp: bool,
+    /// True if a token is refused when it was issued later than now (`iat`).
+    pub refuse_future_iat: bool,
+    /// The age in seconds since the time of issue (`iat`) at which a token is refused. A token
+    /// without a time of issue is then refused too.
+    pub max_age: Option<u64>,
+    /// The number of seconds by which the clocks of issuer and verifier may differ. A token is
+    /// valid that much longer, and that much earlier.
+    pub leeway: u64,
+}
+
+impl<'a> Policy<'a> {
+    /// Returns a policy that accepts no token, because it allows no algorithm.
+    ///
+    /// Tokens with an audience are refused. There are no types, no required claims and no critical
+    /// labels. A layer without a tag has a signature, and a signature or a MAC authenticates. A
+    /// token must have an expiration time, and must not be issued later than now. The clocks don't
+    /// differ, and there is no greatest age.
+    pub fn strict() -> Policy<'a>
+        ensures { policy_view result ≡ strict }
+    {
+        Policy {
+            algorithms: &[],
+            audience: Audience::Absent,
+            types: &[],
+            required: &[],
+            critical: &[],
+            untagged_form: Form::Sign1,
+            authenticated_by: Authentication::SignatureOrMac,
+            require_exp: true,
+            refuse_future_iat: true,
+            max_age: None,
+            leeway: 0,
+        }
+    }
+}
+
+/// Returns the number of an algorithm, or `None` if it is a text.
+fn number_of(algorithm: &coset::Algorithm) -> Option<i64>
+    ensures { result ≡ number_of (algorithm_view algorithm.now) }
+{
+    match algorithm {
+        RegisteredLabelWithPrivate::Assigned(value) => Some(value.to_i64()),
+        RegisteredLabelWithPrivate::PrivateUse(number) => Some(*number),
+        RegisteredLabelWithPrivate::Text(_) => None,
+    }
+}
+
+/// Returns the number of the algorithm that the header names. Returns `None` if it names none, or
+/// by a text.
+pub(crate) fn named_number(header: &Header) -> Option<i64>
+    ensures { result ≡ named_number (header_view header.now) }
+{
+    match &header.alg {
+        Some(algorithm) => number_of(algorithm),
+        None => None,
+    }
+}
+
+/// Returns true if the label is one that this crate understands: 1 to 6, 15 or 16.
+fn is_known(label: &Critical) -> bool
+    ensures { result ≡ is_known (critical_view label.now) }
+{
+    match label {
+        RegisteredLabelWithPrivate::Assigned(parameter) => {
+            matches!(parameter.to_i64(), 1 | 2 | 3 | 4 | 5 | 6 | 15 | 16)
+        }
+        _ => false,
+    }
+}
+
+/// Returns true if a header names this algorithm.
+fn is_named(named: &Option<coset::Algorithm>, algorithm: Algorithm) -> bool
+    ensures { result ≡ is_named (option_map algorithm_view named.now) algorithm }
+{
+    match named {
+        Some(RegisteredLabelWithPrivate::Assigned(found)) => found.to_i64() == algorithm.to_i64(),
+        _ => false,
+    }
+}
+
+impl Policy<'_> {
+    /// Returns true if the header names an algorithm that the policy allows, and that is for layers
+    /// of this form.
+    pub(crate) fn allows(&self, form: Form, header: &Header) -> bool
+        ensures { result ≡ allows (policy_view self.now) form (header_view header.now) }
+    {
+        let named = &header.alg;
+        self.algorithms.iter().any(|allowed| is_named(named, *allowed) && is_for(*allowed, form))
+    }
+
+    /// Returns true if a layer of this form authenticates.
+    pub(crate) fn authenticates(&self, form: Form) -> bool
+        ensures { result ≡ authenticates (policy_view self.now).authenticated_by form }
+    {
+        match (self.authenticated_by, form) {
+            (Authentication::AnyLayer, _) => true,
+            (_, Form::Sign1) => true,
+            (Authentication::SignatureOrMac, Form::Mac0) => true,
+            _ => false,
+        }
+    }
+
+    /// Returns true if the caller or this crate understands the label.
+    fn has_meaning(&self, label: &Critical) -> bool
+        ensures { result ≡ has_meaning (policy_view self.now) (critical_view label.now) }
+    {
+        is_known(label) || self.critical.contains(label)
+    }
+
+    /// Returns true if the label is understood and the header contains it.
+    fn is_understood(&self, header: &Header, label: &Critical) -> bool
+        ensures { result ≡ is_understood (policy_view self.now) (header_view header.now)
+            (critical_view label.now) }
+    {
+        self.has_meaning(label) && has_label(header, label)
+    }
+
+    /// Returns true if each critical label of the protected header `header` is understood, and the
+    /// unprotected header lists none.
+    pub(crate) fn understands(&self, header: &Header, unprotected: &Header) -> bool
+        ensures { result ≡ understands (policy_view self.now) (header_view header.now)
+            (header_view unprotected.now) }
+    {
+        let are_understood = header
+            .crit
+            .iter()
+            .all(|label| self.is_understood(header, label));
+        are_understood && unprotected.crit.is_empty()
+    }
+}

@@ -1,0 +1,108 @@
+//! The results of the calls as text.
+
+use coset::cbor::value::Value;
+use coset::{AsCborValue, CborSerializable, Label, Result};
+use cwt_verify::{Form, TokenError, VerifiedLayer, VerifiedToken};
+use std::alloc::Global;
+use std::fmt::{Debug, Display};
+use test_lines::tell::{self, hexadecimal};
+
+/// Returns the names, separated by `|`, or `-` if there are none.
+///
+/// # Errors
+/// `OutOfMemory` if an allocation fails.
+fn names(alloc: Global, names: &[String]) -> Result<String> {
+    if names.is_empty() {
+        return Ok(String::from_str(alloc, "-")?);
+    }
+    let mut text = String::new(alloc);
+    for name in names {
+        if !text.is_empty() {
+            text.push_str("|")?;
+        }
+        text.push_str(name.as_str())?;
+    }
+    Ok(text)
+}
+
+/// Returns `@` and the name, or `-` if there is none.
+///
+/// # Errors
+/// `OutOfMemory` if an allocation fails.
+fn issuer(alloc: Global, name: Option<&str>) -> Result<String> {
+    match name {
+        Some(name) => Ok(format!(in alloc; "@{name}")?),
+        None => Ok(String::from_str(alloc, "-")?),
+    }
+}
+
+/// Returns the other claims as an array of labels and values, or `-` if there are none.
+///
+/// # Errors
+/// `OutOfMemory` if an allocation fails.
+fn others(alloc: Global, others: Vec<(Label, Value)>) -> Result<String> {
+    if others.is_empty() {
+        return Ok(String::from_str(alloc, "-")?);
+    }
+    let mut elements = Vec::new(alloc);
+    for (label, value) in others {
+        elements.push(label.to_cbor_value(alloc)?)?;
+        elements.push(value)?;
+    }
+    hexadecimal(alloc, &Value::Array(elements).to_vec(alloc)?)
+}
+
+/// Returns the name of the form, as a line spells it.
+fn form(form: Form) -> &'static str {
+    match form {
+        Form::Sign1 => "sign",
+        Form::Mac0 => "mac",
+        Form::Encrypt0 => "enc",
+    }
+}
+
+/// Returns the layer's form, its protected bytes, its unprotected header and its issuer.
+///
+/// # Errors
+/// `OutOfMemory` if an allocation fails.
+fn layer(alloc: Global, layer: VerifiedLayer<'_>) -> Result<String> {
+    let issuer = issuer(alloc, layer.issuer)?;
+    let protected = match &layer.protected.original_data {
+        Some(bytes) => hexadecimal(alloc, bytes)?,
+        None => String::from_str(alloc, "none")?,
+    };
+    let unprotected = hexadecimal(alloc, &layer.unprotected.to_vec(alloc)?)?;
+    let form = form(layer.form);
+    Ok(format!(in alloc; " {form}/{protected}/{unprotected}/{issuer}")?)
+}
+
+/// Returns the parts of a token that was accepted.
+///
+/// # Errors
+/// `OutOfMemory` if an allocation fails.
+fn accepted(alloc: Global, token: VerifiedToken<'_>) -> Result<String> {
+    let audience = names(alloc, &token.audience)?;
+    let issuer = issuer(alloc, token.issuer)?;
+    let others = others(alloc, token.others)?;
+    let claims = tell::value(alloc, Ok(token.claims))?;
+    let mut text = format!(in alloc; "{claims} aud {audience} others {others} iss {issuer}")?;
+    text.push_str(" layers")?;
+    for verified in token.layers {
+        text.push_str(&layer(alloc, verified)?)?;
+    }
+    Ok(text)
+}
+
+/// Returns the parts of a token that was accepted, or both texts of the reason why it wasn't.
+///
+/// # Errors
+/// `OutOfMemory` if an allocation fails.
+pub fn told<E: Debug + Display + Drop>(
+    alloc: Global,
+    answer: std::result::Result<VerifiedToken<'_>, TokenError<E>>,
+) -> Result<String> {
+    match answer {
+        Ok(token) => accepted(alloc, token),
+        Err(error) => Ok(format!(in alloc; "{error:?}; {error}")?),
+    }
+}
