@@ -20,7 +20,7 @@ use coset::iana::EnumI64;
 use cwt_verify::{Authentication, Form, LayerError, TokenError};
 use ffi_query::Status;
 use ffi_token::{
-    LayerView, Opened, OpenedLayers, Parts, Refusal, Text, fit, form_number, open_token,
+    LayerView, Opened, OpenedLayers, Parts, Refusal, Text, form_number, key_fits, open_token,
 };
 use std::alloc::Global;
 
@@ -452,7 +452,7 @@ pub extern "C" fn coset_key_fits(
                 partial_iv,
                 proof,
             };
-            reply_fit(fit(alloc, key, &parts, out), len)
+            reply_fit(key_fits(alloc, key, &parts, out), len)
         }
         None => misused(0, len),
     }

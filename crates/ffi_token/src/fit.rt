@@ -37,12 +37,21 @@ pub struct Parts<'a> {
 fn header_of(alloc: Global, parts: &Parts<'_>) -> std::result::Result<Header, AllocError>
     ensures { IfOk result (λ h. header_view h ≡ header_with (parts_view parts.now)) }
 {
-    let mut header = Header::new(alloc);
-    header.alg = Some(label(parts.algorithm));
-    header.key_id = Vec::from_slice(alloc, parts.key_id)?;
-    header.iv = Vec::from_slice(alloc, parts.iv)?;
-    header.partial_iv = Vec::from_slice(alloc, parts.partial_iv)?;
-    Ok(header)
+    let key_id = Vec::from_slice(alloc, parts.key_id)?;
+    let iv = Vec::from_slice(alloc, parts.iv)?;
+    let partial_iv = Vec::from_slice(alloc, parts.partial_iv)?;
+    Ok(Header {
+        alg: Some(label(parts.algorithm)),
+        crit: Vec::new(alloc),
+        content_type: None,
+        key_id,
+        iv,
+        partial_iv,
+        counter_signatures: Vec::new(alloc),
+        countersignatures_v2: Vec::new(alloc),
+        countersignature0_v2: None,
+        rest: Vec::new(alloc),
+    })
 }
 
 /// Returns the nonce by which the key fits a layer with these parts, or `None` if it doesn't fit.
@@ -83,7 +92,7 @@ fn nonce_for(alloc: Global, key: &CoseKey, parts: &Parts<'_>) -> Result<Option<V
 /// - `Cose` if the bytes aren't a key, or if an allocation fails.
 ///
 /// `out` is then unchanged, and so it is if the key doesn't fit.
-pub fn fit(
+pub fn key_fits(
     alloc: Global,
     key: &[u8],
     parts: &Parts<'_>,

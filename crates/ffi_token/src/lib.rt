@@ -3,7 +3,7 @@
 //! Such a caller has its own cryptography, and can't pass a function. It calls [`open_token`] with
 //! the layers that it opened so far, at first with none. The result says which layer waits. The
 //! caller opens that layer and calls again, until it gets the token or a reason against it. To open
-//! a layer it may ask [`fit`] which key fits.
+//! a layer it may ask [`key_fits`] which key fits.
 //!
 //! Nothing is kept between calls. A layer counts as opened only if the caller gives back the bytes
 //! that were written for it. So a layer opened for one token opens nothing of another.
@@ -18,7 +18,7 @@ mod text;
 mod token;
 mod written;
 
-pub use fit::{Parts, fit};
+pub use fit::{Parts, key_fits};
 pub use layer::{Layer, LayerView, Waiting};
 pub use opened::{Opened, OpenedLayers, form_number};
 pub use refusal::Refusal;

@@ -15,10 +15,10 @@ returns-in-Some c =
     let partial = c.args.partial_iv.now in
     let proof = c.args.proof.now in
     let old = c.args.out.now in
-    let new = c.fit.new.out in
-    let r = c.fit.result in
+    let new = c.key_fits.new.out in
+    let r = c.key_fits.result in
     let answers : ReturnsFit c.args.key.now (parts_of f c.args.algorithm id iv partial proof) old new r =
-    subst (λ (n : ℤ). ReturnsFit c.args.key.now (parts_of f n id iv partial proof) old new r) (to_z-of_z w64 c.args.algorithm c.ranges.algorithm) c.fit.ensures in
+    subst (λ (n : ℤ). ReturnsFit c.args.key.now (parts_of f n id iv partial proof) old new r) (to_z-of_z w64 c.args.algorithm c.ranges.algorithm) c.key_fits.ensures in
     let status : to_z w32 (of_z w32 c.reply_fit.result) ≡ fit_status r = search rules in
     let same = sym c.in-Some.is ∙ (c.within-3.ensures ∙ (c.within-query.ensures ∙ (c.within.ensures ∙ c.form_of.ensures))) in
     replied
