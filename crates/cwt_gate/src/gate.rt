@@ -12,7 +12,8 @@ use std::alloc::Global;
 
 /// Returns the claims of a token that is valid at `now`, if `verify` accepts its signature.
 ///
-/// `verify_token` of the crate `cwt_verify` also makes the checks that are left to the caller here.
+/// `verify_token` of the crate `cwt_verify` is the safe choice. It also makes the checks that are
+/// left to the caller here, except the one for replay.
 ///
 /// `now` is in seconds since 1970 began in UTC. The token is a message with one signature
 /// (`COSE_Sign1`). It is plain, under its tag, or under the tag of web tokens and then its own (RFC
@@ -31,7 +32,8 @@ use std::alloc::Global;
 /// - that the key belongs to the issuer (`iss`; RFC 8725, section 3.8).
 /// - that the caller is in the audience (`aud`; RFC 7519, section 4.1.3).
 /// - the type of the token (`typ`; RFC 8725, section 3.11), and claims in headers (RFC 9597).
-/// - that `exp` or another claim is present, the time of issue (`iat`), and replay (`cti`).
+/// - that `exp` or another claim is present, and the time of issue (`iat`).
+/// - that the token wasn't used before (replay; `cti`).
 ///
 /// The claims are refused if `aud` is an array, or if a claim's number is neither assigned nor for
 /// private use. RFC 8392, sections 3 and 3.1.3, allows both.
