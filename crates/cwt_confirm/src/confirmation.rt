@@ -85,11 +85,7 @@ fn may_be(key: &CoseKey, key_id: Option<&[u8]>) -> bool
 ///
 /// # Errors
 /// The first of `Incomplete`, `PrivateKey`, `KeyInTheClear` and `AnotherKeyId` that applies.
-fn check_key(
-    key: &CoseKey,
-    key_id: Option<&[u8]>,
-    concealed: bool,
-) -> Result<(), ConfirmationError>
+fn check_key(key: &CoseKey, key_id: Option<&[u8]>, concealed: bool) -> Result<(), ConfirmationError>
     ensures { IsFirst (key_reasons concealed (option_map (λ b. b.now) key_id.entry)
         (key_view key.now)) result }
 {

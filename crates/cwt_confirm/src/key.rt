@@ -119,7 +119,9 @@ fn has_required(key: &CoseKey, kty: KeyType) -> bool
     ensures { result ≡ has_required kty (key_view key.now) }
 {
     has_algorithm(key, kty)
-        && required(kty).iter().all(|(label, kind)| has_member(key, *label, *kind))
+        && required(kty)
+            .iter()
+            .all(|(label, kind)| has_member(key, *label, *kind))
 }
 
 /// Returns true if IANA assigned the key's type, and the key has each member that the type

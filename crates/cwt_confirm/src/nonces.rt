@@ -119,10 +119,7 @@ fn nonces_in(alloc: Global, value: &Value) -> Result<Vec<&[u8]>, NonceError>
 /// # Errors
 /// - `OutOfMemory` if an allocation fails.
 /// - `NotNonces` if the claim is anything else.
-pub fn nonces<'a>(
-    alloc: Global,
-    token: &'a VerifiedToken<'_>,
-) -> Result<Vec<&'a [u8]>, NonceError>
+pub fn nonces<'a>(alloc: Global, token: &'a VerifiedToken<'_>) -> Result<Vec<&'a [u8]>, NonceError>
     ensures { ReadsNonces (nonces_of (token_view token.now)) result }
 {
     match token.claims.get(&ClaimName::Assigned(CwtClaimName::Nonce)) {

@@ -48,10 +48,7 @@ fn for_proofs(mut key: CoseKey) -> CoseKey
 /// # Errors
 /// - `Confirmation` with the error of [`confirmation`].
 /// - `NoKey` if the token has no key in the clear.
-fn proof_key<E: Drop>(
-    alloc: Global,
-    token: &VerifiedToken<'_>,
-) -> Result<CoseKey, NotPossessed<E>>
+fn proof_key<E: Drop>(alloc: Global, token: &VerifiedToken<'_>) -> Result<CoseKey, NotPossessed<E>>
     ensures { ReadsProofKey (token_view token.now) result }
 {
     match confirmation(alloc, token) {

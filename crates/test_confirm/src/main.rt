@@ -22,8 +22,8 @@
 #![tactic(auto)]
 
 mod ciphers;
-mod told;
 mod tokens;
+mod told;
 
 use crate::ciphers::Faked;
 use crate::tokens::token;
