@@ -15,25 +15,35 @@
  *   make KIND PROTECTED CAP UNPROTECTED HAS CONTENT PROOF
  *   add KIND IN CAP MEMBER | write KIND IN CAP | canonical_key ORDER IN CAP
  *   deeper 0 IN CAP | lengths 0 IN CAP
- *   token 0 IN CAP NOW RULES SIGNATURES MACS CIPHERS CRITICAL ISS AUD ANSWERS
+ *   token 0 IN CAP NOW RULES ALGS CRITICAL REQUIRED AUDIENCES TYPES ANSWERS
+ *   fits FORM KEY CAP ALG KID IV PARTIAL_IV PROOF
  *   text STATUS | issued 0 KID CAP ISS SUB AUD CTI EXP NBF IAT SIGNED SIGNATURE
  *
  * Bytes, and labels and values that aren't integers, are hexadecimal. `-` stands for no bytes, and is passed as NULL.
- * ALGS, KNOWN and the lists of `token` are integers with commas between them.
+ * ALGS, KNOWN, CRITICAL and REQUIRED are integers with commas between them. AUDIENCES and TYPES are texts with commas
+ * between them, each `t` and its bytes.
  *
  * - `verified` calls verify.c. The signature is good if ALG, KID, SIGNED and SIGNATURE are those of the question.
  * - `issued` calls issue.c. The signature is SIGNATURE if the bytes to sign are SIGNED.
  * - `safe` is the call of coset_verify.h for the kind. The answer is yes if the question has INPUT, PROOF and KID. A
  *   ciphertext is then decrypted as the IV, and the ciphertext's bytes, each xor 5a.
- * - `token` is coset_token_judge, with a policy of these lists and names. RULES are the numbers of coset_rules after
- *   its size, with commas. ANSWERS are the answers for the layers, with commas: yes, no, or a plaintext.
+ * - `token` is coset_token_verify, with a policy of these lists. RULES are the seven numbers of coset_rules after its
+ *   size, with commas. ANSWERS are the answers for the layers, with commas: `yes`, `no`, or `p` and a plaintext. After
+ *   the answer may follow `@` and the name of the issuer.
+ * - `fits` is coset_key_fits. KID, IV and PARTIAL_IV are those of the layer.
  *
  * Each line of output has the status and the number. Then comes the whole buffer of CAP bytes and 8 more, each of which
  * was ee before. For `verified` the buffer has the payload at its front, and nothing else. `safe` prints the payload or
  * plaintext alone, and `spans` the four texts. Before the status, `spans` prints how many of three texts are in the
- * input. For `sign1`, `message` and `spans` the numbers of the view follow, which were 77 before. `token` prints the
- * status, the claims, and the number of layers that were asked about. Then it prints the proof and the input of each,
- * and the rest of each question.
+ * input. For `sign1`, `message` and `spans` the numbers of the view follow, which were 77 before.
+ *
+ * `token` prints the status, and then for COSET_OK:
+ * - the claims; the texts of the audience, each `t` and its bytes, with commas; the others; `t` and the issuer's name,
+ *   or `-`,
+ * - the layers with commas: FORM/PROTECTED/UNPROTECTED/ISSUER.
+ *
+ * For any other status it prints index, algorithm and claim of the layer. In both cases follow the number of layers that
+ * were asked about, the proof and the input of each, and the rest of each question.
  *
  * Each input is in memory of its own. With REFUSE=N in the environment, the N-th request for memory of each call is
  * refused. */
