@@ -55,18 +55,19 @@ def parameters(function):
 def public(text):
     """Returns the public names of a Python module: for functions with the names of their parameters, for others with None.
 
-    The methods of a public class are among them."""
+    The methods of a public class are among them, and how it is made and called."""
     found = {}
     for it in ast.parse(text).body:
         if isinstance(it, ast.FunctionDef):
             found[it.name] = parameters(it)
         elif isinstance(it, ast.ClassDef):
-            methods = [one for one in it.body if isinstance(one, ast.FunctionDef)]
-            found |= {it.name: None, **{f"{it.name}.{one.name}": parameters(one) for one in methods if not it.name.startswith("_")}}
+            methods = [one for one in it.body if isinstance(one, ast.FunctionDef) and not it.name.startswith("_")]
+            of_class = {one.name: parameters(one) for one in methods if one.name in ("__init__", "__call__") or one.name[0] != "_"}
+            found |= {it.name: None, **{f"{it.name}.{name}": given for name, given in of_class.items()}}
         elif isinstance(it, ast.Assign | ast.AnnAssign):
             targets = it.targets if isinstance(it, ast.Assign) else [it.target]
             found |= {name.id: None for target in targets for name in ast.walk(target) if isinstance(name, ast.Name)}
-    return {name: given for name, given in found.items() if not name.startswith("_") and "._" not in name.replace(".__", ".")}
+    return {name: given for name, given in found.items() if not name.startswith("_")}
 
 
 def unlike():

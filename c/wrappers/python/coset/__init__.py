@@ -54,8 +54,10 @@ class Status(enum.IntEnum):
     """The statuses of the header, by their names without COSET_. str() is the name."""
 
     OK, SHORT, MEMORY, ENDS, MALFORMED, DEEP, EXTRANEOUS, UNEXPECTED, DUPLICATE, OUT_OF_RANGE, UNREGISTERED, NOT_PRIVATE = range(0, 12)
-    ABSENT, MISUSE, TYPE, EMPTY, NOT_ALLOWED, CRITICAL, REFUSED, LAYER, TOO_DEEP, UNAUTHENTICATED, NOT_CLAIMS = range(12, 23)
-    NO_EXPIRATION, EXPIRED, NOT_YET_VALID, ISSUED_LATER, TOO_OLD, ISSUER, AUDIENCE = range(23, 30)
+    ABSENT, MISUSE, TYPE, EMPTY, NOT_ALLOWED, CRITICAL = range(12, 18)
+    REFUSED = 18  # of coset_verify.h
+    LAYER, TOO_DEEP, UNAUTHENTICATED, NOT_CLAIMS, NO_EXPIRATION, EXPIRED, NOT_YET_VALID, ISSUED_LATER, TOO_OLD = range(19, 28)
+    ISSUER, AUDIENCE = range(28, 30)
     HEADERS, TOKEN_TYPE, HEADER_CLAIMS, MISSING, UNFIT = range(30, 35)
 
     def __str__(self):
@@ -193,7 +195,7 @@ class VerifiedToken(namedtuple("VerifiedToken", "claims audience others issuer l
     """A verified token:
     - `claims` are its claims, a CLAIMS. An `aud` that is an array is left out, and so are `others`.
     - `audience` has the names in `aud`, which is a text or an array of texts.
-    - `others` are the claims whose numbers or names IANA hasn't assigned, an ITEM: a map.
+    - `others` are the claims whose numbers are neither assigned by IANA nor for private use, an ITEM: a map.
     - `issuer` is the name of the issuer whose key accepted the innermost layer that authenticates, or None.
     - `layers` has a VerifiedLayer for each layer, from the outermost in."""
 
@@ -814,6 +816,15 @@ def _layer(view, text):
     )
 
 
+def _issuer(name):
+    """Returns the name of an issuer, or None, if it is one of these."""
+    if not isinstance(name, (str, type(None))):
+        raise TypeError("an issuer's name is a text or None")
+    if name == "":
+        raise ValueError("an issuer's name is empty")
+    return name
+
+
 def _accepted(form, said):
     """Returns True for a signature or a MAC, the plaintext of a ciphertext, or None for a refusal. Any other answer is
     an error."""
@@ -833,9 +844,9 @@ def _answered(layer, said):
     Raises InvalidToken if the answer is a refusal."""
     name = None
     if isinstance(said, tuple):
-        if len(said) != 2 or not isinstance(said[1], (str, type(None))):
+        if len(said) != 2:
             raise TypeError("the answer is one value, or a pair of it and the issuer's name")
-        said, name = said
+        said, name = said[0], _issuer(said[1])
     accepted = _accepted(layer.form, said)
     if accepted is None:
         raise InvalidToken(Status.REFUSED, layer.index)
@@ -969,9 +980,7 @@ class KeyRing:
             from coset.crypto import CIPHERS as ciphers
         self._ciphers, self._keys = ciphers, []
         for name, keys in issuers.items():
-            if not isinstance(name, (str, type(None))):
-                raise TypeError("an issuer's name is a text or None")
-            self._keys += [(name, key) for key in _readable(_bytes(keys)[0])]
+            self._keys += [(_issuer(name), key) for key in _readable(_bytes(keys)[0])]
 
     def __call__(self, layer):
         """Tries each key that fits the layer, in order. Returns True or the plaintext, with the name of the key's
