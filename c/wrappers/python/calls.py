@@ -3,6 +3,7 @@ result is `ok` and a value, or the error."""
 import sys
 
 import coset
+from accept import accepted
 from issue import issued
 from verify import verified
 
@@ -103,6 +104,13 @@ class Script:
         return f"{len(self.heard)} {self.asked.hex()} {','.join(self.heard) or '-'}"
 
 
+def told_token(token):
+    """Returns the words for a verified token."""
+    audience = ",".join("t" + one.encode().hex() for one in token.audience) or "-"
+    layers = ",".join("/".join([str(it.form), it.protected.hex(), it.unprotected.hex(), name(it.issuer)]) for it in token.layers)
+    return f"{token.claims.hex()} {audience} {token.others.hex()} {name(token.issuer)} {layers}"
+
+
 def opened(given, now, rules, algorithms, critical, required, audiences, types, said):
     """Returns the result of `verify_token` and the questions that it asked, as calls.c describes them. After a refusal,
     prints the layer and the number in place of the token, and returns None."""
@@ -117,9 +125,19 @@ def opened(given, now, rules, algorithms, critical, required, audiences, types, 
         told = ["-" if it is None else str(it) for it in (refused.layer, refused.number)]
         print(_REFUSED[refused.reason], *told, script.told())
         return None
-    audience = ",".join("t" + one.encode().hex() for one in token.audience) or "-"
-    layers = ",".join("/".join([str(it.form), it.protected.hex(), it.unprotected.hex(), name(it.issuer)]) for it in token.layers)
-    return f"{token.claims.hex()} {audience} {token.others.hex()} {name(token.issuer)} {layers} {script.told()}"
+    return f"{told_token(token)} {script.told()}"
+
+
+def acceptance(given, now, issuer, keys, *words):
+    """Returns the token that `accepted` accepts by a set of keys of this issuer. The signature is good if it and the
+    structure are those of the words."""
+    class Signed:
+        verify = staticmethod(lambda key, algorithm, input, proof: [input.hex(), proof.hex()] == list(words))
+
+    try:
+        return told_token(accepted(given, {data(issuer).decode(): data(keys)}, int(now), Signed()))
+    except coset.InvalidToken as refused:
+        print(_REFUSED[refused.reason])
 
 
 def fits(form, key, algorithm, key_id, iv, partial_iv, proof):
@@ -162,6 +180,7 @@ _SEVERAL = {
     "spans": message,
     "safe": safe,
     "token": lambda _, given, *words: opened(given, *words),
+    "accepted": lambda _, given, *words: acceptance(given, *words),
     "fits": fits,
     "verified": lambda _, given, *words: verification(given, *words),
     "issued": lambda _, key_id, *words: token(key_id, *words),

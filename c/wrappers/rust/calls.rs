@@ -1,6 +1,7 @@
 //! Makes the calls that it reads through the safe wrapper, as `c/wrappers/c/calls.c` does, and prints
 //! their results (`tools/c`). A result is `ok` and a value, or the error.
 
+mod accept;
 mod coset;
 mod issue;
 mod verify;
@@ -311,6 +312,14 @@ fn token(w: &[&str]) -> String {
     }
 }
 
+/// Returns the token that `accepted` accepts by a set of keys of this issuer. The signature is good if
+/// it and the structure are those of the words.
+fn accepted(w: &[&str]) -> Result<String, InvalidToken> {
+    let (issuer, set) = (text(w[5]), bytes(w[6]));
+    let is_signed = |_: &[u8], layer: &Layer<'_>| [hex(layer.input), hex(layer.proof)] == [w[7], w[8]];
+    accept::accepted(&bytes(w[2]), &[(&issuer, &set)], w[4].parse().unwrap(), is_signed).map(|token| told_token(&token))
+}
+
 /// Returns the nonce by which the key fits the layer, as calls.c describes it.
 fn fits(w: &[&str]) -> String {
     let texts = [5, 6, 7, 8].map(|place| bytes(w[place]));
@@ -398,6 +407,10 @@ fn main() {
         match words[0] {
             "token" => println!("{}", token(&words)),
             "fits" => println!("{}", fits(&words)),
+            "accepted" => match accepted(&words) {
+                Ok(token) => println!("ok {token}"),
+                Err(error) => println!("{:?}", error.reason),
+            },
             _ => match answer(&words) {
                 Ok(answer) => println!("ok {answer}"),
                 Err(error) => println!("{error:?}"),
