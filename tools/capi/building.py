@@ -17,7 +17,7 @@ FLAGS = ["-std=c11", "-O2", "-Wall", "-Wextra", "-Werror", "-fPIC", f"-I{HERE}/c
 TOOLS = ("cc", "ar", "ld", "objcopy")
 # The arguments with which a program calls an export, by type.
 CALLED_WITH = {"Global": "alloc", "u32": "0", "i32": "0", "i64": "0", "usize": "0", "&[u8]": 'b""', "&mut [u8]": "&mut out",
-               "&mut usize": "&mut len", "&mut i64": "&mut value", "&[i64]": "&[0]", "&Rules": "&rules", "&[Opened]": "&[]",
+               "&mut usize": "&mut len", "&mut i64": "&mut value", "&[i64]": "&[0]", "&Rules": "&rules", "&[Opened]": "&[]", "&[Text<'_>]": "&[]",
                "&mut Layer": "&mut layer", "&mut View": "&mut view", "&mut Message": "&mut message", "&[Pair]": "&[pair]",
                "&mut Spans": "&mut spans", "&mut Span": "&mut ffi_query::Span { at: 0, len: 0 }"}
 # The variables among them that are structs: the variable, the module and the struct.

@@ -1,4 +1,6 @@
+pub mod Fits
 pub mod Opened
 pub mod Rules
 pub mod Tokens
 pub mod Waiting
+pub mod Written
