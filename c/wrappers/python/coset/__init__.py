@@ -17,7 +17,6 @@ import enum
 import math
 import os
 import struct
-import threading
 import time
 from collections import namedtuple
 
@@ -612,17 +611,13 @@ def countersign_structure(kind, data, label, signer=b"", external_aad=b"", detac
     return _written(_library.coset_countersign_structure, _kind(kind), *given, detached is not None, *content)
 
 
-class _Room(threading.local):
-    """Memory for the structure, its length and the view of a message, and the addresses of these. A thread uses it for
-    all its calls."""
-
-    def __init__(self):
-        out, length, view = ctypes.create_string_buffer(4096), ctypes.c_size_t(), ctypes.create_string_buffer(ctypes.sizeof(_Spans))
-        self.parts = memoryview(out).cast("B"), length, view, *map(ctypes.addressof, (out, length, view))
-
-
-_room = _Room()
-_numbers = struct.Struct("@qIIIIIIINNNNNNN").unpack_from  # those of _Spans
+# The numbers of _Spans, and a length after them.
+_numbers = struct.Struct("@qIIIIIIINNNNNNNN").unpack_from
+_LENGTH_AT = ctypes.sizeof(_Spans)
+_TEXT_AT = _LENGTH_AT + ctypes.sizeof(ctypes.c_size_t)
+# Memory for these numbers and for the usual texts. Each call has its own, since a signal handler may make calls inside of it.
+_USUAL = 4096
+_Held = ctypes.c_char * (_TEXT_AT + _USUAL)
 _message_spans, _made = _library.coset_message_spans, tuple.__new__
 
 
@@ -634,30 +629,28 @@ def _seen(shape, kind, data, index, critical, external_aad, detached):
     aad, aad_len = (external_aad, len(external_aad)) if type(external_aad) is bytes else _bytes(external_aad)
     content, content_len = (b"", 0) if detached is None else _bytes(detached)
     known = (ctypes.c_int64 * len(critical))(*map(_int64, critical)) if critical else None
-    out, length, view, out_at, length_at, view_at = _room.parts
     # The structure has all arguments once, with heads. Texts that have no place in the message may follow it.
-    room, needed = 4096, 2 * data_len + aad_len + content_len + 128
+    room = max(_USUAL, 2 * data_len + aad_len + content_len + 128)
     while True:
-        if needed > room:
-            held = ctypes.create_string_buffer(needed)
-            out, out_at, room = memoryview(held).cast("B"), ctypes.addressof(held), needed
+        held = _Held() if room == _USUAL else (ctypes.c_char * (_TEXT_AT + room))()
+        at = ctypes.addressof(held)
         status = _message_spans(
             kind, data, data_len, index, aad, aad_len, detached is not None, content, content_len, known, len(critical),
-            out_at, room, length_at, view_at,
+            at + _TEXT_AT, room, at + _LENGTH_AT, at,
         )
         if status != _SHORT:
             break
-        needed = length.value
+        room = _numbers(held)[-1]
     if status != _OK:
         _raise(status)
-    algorithm, form, key_id_map, labels, is_tagged, is_proof, is_held, is_key, signed, at, n, held_at, held_n, key_at, key_n = _numbers(view)
-    proof = held = key = data
-    if not (is_proof and is_held and is_key):
-        text = out[: length.value].tobytes()
-        proof, held, key = (data if is_input else text for is_input in (is_proof, is_held, is_key))
+    algorithm, form, key_id_map, labels, is_tagged, is_proof, is_content, is_key, signed, at, n, content_at, content_n, key_at, key_n, length = _numbers(held)
+    proof = content = key = data
+    if not (is_proof and is_content and is_key):
+        text = held[_TEXT_AT : _TEXT_AT + length]
+        proof, content, key = (data if is_input else text for is_input in (is_proof, is_content, is_key))
     return _made(shape, (
         algorithm if form == INT else None, form, key_id_map or None, labels if shape is Message else labels != NONE, is_tagged != 0,
-        out[:signed].tobytes(), proof[at : at + n], held[held_at : held_at + held_n], key[key_at : key_at + key_n],
+        held[_TEXT_AT : _TEXT_AT + signed], proof[at : at + n], content[content_at : content_at + content_n], key[key_at : key_at + key_n],
     ))
 
 
@@ -696,10 +689,11 @@ def verify(kind, data, algorithms, verify, index=0, critical=(), external_aad=b"
     decides which signers are enough."""
     if _kind(kind) & 0xFF not in (SIGN1, SIGN, MAC0, MAC):
         raise Misuse("a kind without a signature or a tag")
-    found = message(kind, data, index, critical, external_aad, detached)
+    own = None if detached is None else _bytes(detached)[0]
+    found = message(kind, data, index, critical, external_aad, own)
     if verify(_asked(found, algorithms, found.proof)) is not True:
         raise Refused("the signature or the tag is refused")
-    return found.content if detached is None else bytes(detached)
+    return found.content if own is None else own
 
 
 def _found(call, *arguments):
@@ -718,14 +712,15 @@ def decrypt(kind, data, algorithms, decrypt, critical=(), external_aad=b"", deta
     arguments are those of `verify`."""
     if _kind(kind) & 0xFF != ENCRYPT0:
         raise Misuse("a kind of another call")
+    data, own = _bytes(data)[0], None if detached is None else _bytes(detached)[0]
     found = message(kind, data, 0, critical, external_aad)
     ivs = [_found(label_bytes, kind, data, which, 5) for which in (IN_PROTECTED, IN_UNPROTECTED)]
     carried = _found(part, kind, data, CIPHERTEXT)
-    if carried is not None and detached is not None:
+    if carried is not None and own is not None:
         raise Misuse("a ciphertext that the message carries and that is given too")
-    if carried is None and detached is None:
+    if carried is None and own is None:
         raise Absent("the ciphertext is detached")
-    question = _asked(found, algorithms, bytes(detached) if carried is None else carried)
+    question = _asked(found, algorithms, own if carried is None else carried)
     plain = decrypt(question, ivs[1] if ivs[0] is None else ivs[0])
     if plain is None:
         raise Refused("the ciphertext is refused")
