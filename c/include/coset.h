@@ -376,6 +376,9 @@ typedef struct coset_text {
   size_t len;
 } coset_text;
 
+/* Initializes a coset_text with a string literal. */
+#define COSET_LITERAL(literal) {literal, sizeof(literal) - 1}
+
 /* A verifier's requirements for a token, besides the lists. If all fields but size are zero, these hold:
  * - A layer without a tag is a COSE_Sign1, and a signature or a MAC must authenticate.
  * - The token must expire, and must not be issued later than now.
@@ -407,8 +410,8 @@ typedef struct coset_opened {
   size_t proof_len;
   size_t plaintext;     /* for COSET_ENCRYPT0 the offset of the plaintext, and its length; else 0 */
   size_t plaintext_len;
-  size_t issuer;        /* the offset of the name of the issuer whose key opened the layer, in UTF-8, and its length */
-  size_t issuer_len;    /* both are 0 if that issuer has no name */
+  size_t issuer;        /* the offset of the name of the issuer whose key opened the layer, in UTF-8 */
+  size_t issuer_len;    /* the length of that name, or 0 if the issuer has no name */
 } coset_opened;
 
 /* The layer that waits (COSET_LAYER), or the layer or claim that a refusal is about. All other numbers are zeros. */

@@ -1,6 +1,6 @@
 /* Opens the layers of web tokens with OpenSSL 3: a coset_opener for coset_token_verify, over the keys of issuers.
  *
- *   static const coset_issuer issuers[] = {{{"coap://as.example.com", 21}, keys, sizeof keys}};
+ *   static const coset_issuer issuers[] = {{COSET_LITERAL("coap://as.example.com"), keys, sizeof keys}};
  *   coset_openssl_ring ring = {issuers, 1};
  *   status = coset_token_verify(in, in_len, now, &policy, coset_openssl_open, &ring, work, cap, &token);
  *
@@ -70,7 +70,7 @@ enum {
 
 /* An issuer, and its keys. The bytes must remain while the ring is in use. */
 typedef struct coset_issuer {
-  coset_text name;     /* iss must be this name, if a token has it; chars is NULL if the issuer has no name */
+  coset_text name;     /* iss must be this name, if a token has it; empty if the issuer has no name */
   const uint8_t *keys; /* a COSET_KEY_SET; keys in it that can't be read are skipped (RFC 9052, section 7) */
   size_t keys_len;
 } coset_issuer;

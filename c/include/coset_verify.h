@@ -351,7 +351,7 @@ enum {
 
 /* Verifies or decrypts the layer by a key that fits (coset_key_fits), and that the caller trusts. Returns:
  * - 1 if the layer is authentic. For COSET_ENCRYPT0 the plaintext is then in `plain`, which has `cap` bytes, and `*len`
- *   is its length. `*issuer` is the name of the key's issuer. It has no name if `issuer->chars` remains NULL.
+ *   is its length. `*issuer` is the name of the key's issuer, or remains empty if that issuer has no name.
  * - COSET_NO_ROOM if `cap` is too small. `*len` may be the size that is needed.
  * - 0 otherwise. Any other result counts as 0. */
 typedef int (*coset_opener)(void *context, const coset_layer_question *question, uint8_t *plain, size_t cap, size_t *len,
@@ -468,7 +468,7 @@ static inline coset_status coset_work_ask(struct coset_work *work, const coset_l
   opened->offset = work->used;
   opened->structure_len = layer->structure_len, opened->proof_len = layer->proof_len;
   opened->plaintext = layer->form == COSET_ENCRYPT0 ? at : 0, opened->plaintext_len = plain;
-  opened->issuer = name.chars ? at + plain : 0, opened->issuer_len = name.len;
+  opened->issuer = name.len ? at + plain : 0, opened->issuer_len = name.len;
   for (i = 0; i < name.len; i++) work->at[at + plain + i] = (uint8_t)name.chars[i];
   work->used = *needed;
   return COSET_OK;

@@ -17,9 +17,9 @@ FLAGS = ["-std=c11", "-O2", "-Wall", "-Wextra", "-Werror", "-fPIC", f"-I{HERE}/c
 TOOLS = ("cc", "ar", "ld", "objcopy")
 # The arguments with which a program calls an export, by type.
 CALLED_WITH = {"Global": "alloc", "u32": "0", "i32": "0", "i64": "0", "usize": "0", "&[u8]": 'b""', "&mut [u8]": "&mut out",
-               "&mut usize": "&mut len", "&mut i64": "&mut value", "&[i64]": "&[0]", "&Rules": "&rules", "&[Opened]": "&[]", "&[Text<'_>]": "&[]",
-               "&mut Layer": "&mut layer", "&mut View": "&mut view", "&mut Message": "&mut message", "&[Pair]": "&[pair]",
-               "&mut Spans": "&mut spans", "&mut Span": "&mut ffi_query::Span { at: 0, len: 0 }"}
+               "&mut usize": "&mut len", "&mut i64": "&mut value", "&[i64]": "&[0]", "&Rules": "&rules", "&[Opened]": "&[]",
+               "&[Text<'_>]": "&[]", "&mut Layer": "&mut layer", "&mut View": "&mut view", "&mut Message": "&mut message",
+               "&[Pair]": "&[pair]", "&mut Spans": "&mut spans", "&mut Span": "&mut ffi_query::Span { at: 0, len: 0 }"}
 # The variables among them that are structs: the variable, the module and the struct.
 ZEROS = (("view", "sign1", "View"), ("message", "message", "Message"), ("pair", "pairs", "Pair"), ("spans", "spans", "Spans"),
          ("rules", "token", "Rules"), ("layer", "token", "Layer"))
@@ -155,7 +155,7 @@ def own_heap(folder, objects, check):
 
 def build_callers(folder, objects):
     """Builds the programs that make calls."""
-    sources = [f"{WRAPPERS}/c/{name}.c" for name in ("calls", "verify", "issue")]
+    sources = [f"{WRAPPERS}/c/{name}.c" for name in ("calls", "token", "verify", "issue")]
     run(["cc", *FLAGS, "-o", "calls_c", *sources, "text.o", *objects], cwd=folder)
     if shutil.which("c++"):
         run(["c++", "-Wall", "-Wextra", "-Werror", "-fsyntax-only", "-x", "c++", f"{HERE}/c/include/coset_verify.h"])

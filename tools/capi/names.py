@@ -9,8 +9,9 @@ SOURCES = ("lib", "countersign", "elements", "making", "message", "numbers", "pa
 # The types of C as the exports write them.
 WORDS = {"uint32_t": "u32", "int32_t": "i32", "int64_t": "i64", "size_t": "usize", "const uint8_t *": "&[u8]",
          "uint8_t *": "&mut [u8]", "const coset_opened *": "&[Opened]", "const coset_rules *": "&Rules",
-         "const coset_pair *": "&[Pair]", "const coset_text *": "&[Text<'_>]", "coset_layer *": "&mut Layer", "size_t *": "&mut usize", "int64_t *": "&mut i64",
-         "const int64_t *": "&[i64]", "coset_sign1_view *": "&mut View", "coset_message_view *": "&mut Message",
+         "const coset_pair *": "&[Pair]", "const coset_text *": "&[Text<'_>]", "coset_layer *": "&mut Layer",
+         "size_t *": "&mut usize", "int64_t *": "&mut i64", "const int64_t *": "&[i64]",
+         "coset_sign1_view *": "&mut View", "coset_message_view *": "&mut Message",
          "coset_message_spans_view *": "&mut Spans", "coset_span *": "&mut Span"}
 # The types among them that the next argument, a length, belongs to.
 SLICES = ("[u8]", "[i64]", "[Opened]", "[Pair]", "[Text<'_>]")
@@ -19,7 +20,8 @@ PROTOTYPE = r"(COSET_CALL\(([\d, ]+)\)\s*)?coset_status (coset_\w+)\(([^)]*)\);"
 POINTERS = {"*const u8": "const uint8_t *", "*mut u8": "uint8_t *", "*mut usize": "size_t *", "*mut i64": "int64_t *",
             "*const i64": "const int64_t *", "*const Opened": "const coset_opened *", "*const Rules": "const coset_rules *",
             "*mut Layer": "coset_layer *", "*mut View": "coset_sign1_view *", "*mut Message": "coset_message_view *",
-            "*const Pair": "const coset_pair *", "*const Text": "const coset_text *", "*mut Spans": "coset_message_spans_view *", "*mut Span": "coset_span *"}
+            "*const Pair": "const coset_pair *", "*const Text": "const coset_text *",
+            "*mut Spans": "coset_message_spans_view *", "*mut Span": "coset_span *"}
 # The structs by their names in the sources and in the Rust wrapper, in C, and in the Python wrapper if that has them.
 STRUCTS = (("View", "coset_sign1_view", None), ("Message", "coset_message_view", None), ("Span", "coset_span", "_Span"),
            ("Pair", "coset_pair", "_Pair"), ("Spans", "coset_message_spans_view", "_Spans"), ("Rules", "coset_rules", "_Rules"),

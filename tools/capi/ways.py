@@ -105,7 +105,7 @@ def called(given, folder, objects, wrong):
     """Makes all calls. Returns the first faults, and a line with the numbers of calls."""
     build_callers(folder, objects)
     calls = [*rows.calls(wrong.check), *examples.calls(wrong.check), *tokens.calls()]
-    every = [*calls, *misuses.calls(), *depths.calls(calls)]
+    every = [*calls, *tokens.calls_from_c(wrong.check), *misuses.calls(), *depths.calls(calls)]
     lines, wanted = calling.from_c(f"{folder}/calls_c", every, wrong.check)
     calling.lengths(f"{folder}/calls_c", wrong.check)
     told = [f"calls {len(calls)}", f"from C {len(lines)}"]

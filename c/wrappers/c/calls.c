@@ -39,6 +39,7 @@
  *   identifier, the algorithm and the nonce.
  * - `room` is the same as `token`, with no memory to work in, and then with as much as the call said, until that is enough. It
  *   prints the status and that size, which must not be above MOST.
+ * - `openssl` and `roomy` are `token` and `room` with OpenSSL's ciphers, and SETS in place of ANSWERS.
  * - `open` is coset_token_open. The first of its RULES is the size. OPENED are the opened layers with commas, each its
  *   eight numbers with `/` between them. After the buffer follow the ten numbers of the layer.
  * - `fits` is coset_key_fits. KID, IV and PARTIAL_IV are those of the layer.
@@ -392,11 +393,12 @@ int main(void) {
     coset_message_view message = {77, 77, 77, 77, 77, 77, 77, 77, 77};
     memset(out, 0xee, room);
     left = refused ? atol(refused) : -1;
-    if (!strcmp(call, "token") || !strcmp(call, "ring") || !strcmp(call, "room") || !strcmp(call, "open") ||
-        !strcmp(call, "fits") || !strcmp(call, "deeper") || !strcmp(call, "lengths")) {
-      if (*call == 't' || !strcmp(call, "ring")) token_call(word, in, cap);
-      else if (*call == 'o') open_call(word, in, cap);
-      else if (*call == 'r') room_call(word, in, cap);
+    int is_token = !strcmp(call, "token") || !strcmp(call, "ring") || !strcmp(call, "openssl");
+    int is_room = !strcmp(call, "room") || !strcmp(call, "roomy"), is_open = !strcmp(call, "open");
+    if (is_token || is_room || is_open || !strcmp(call, "fits") || !strcmp(call, "deeper") || !strcmp(call, "lengths")) {
+      if (is_token) token_call(word, in, cap);
+      else if (is_room) room_call(word, in, cap);
+      else if (is_open) open_call(word, in, cap);
       else if (*call == 'f') fits_call(word, in, cap);
       else if (*call == 'd') deeper(in);
       else lengths(in, out, cap);

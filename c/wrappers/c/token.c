@@ -1,4 +1,8 @@
-/* The calls of calls.c for web tokens: `token`, `ring`, `room`, `open` and `fits`. */
+/* The calls of calls.c for web tokens: `token`, `ring`, `room`, `open` and `fits`. With WITH_OPENSSL defined (tools/c) also
+ * `openssl` and `roomy`, whose layers are opened by coset_openssl.h. */
+#ifdef WITH_OPENSSL
+#include "coset_openssl.h"
+#endif
 #include "coset_verify.h"
 #include "words.h"
 #include <inttypes.h>
@@ -130,7 +134,7 @@ static int is_opened(void *context, const coset_layer_question *question, uint8_
   heard(script, question);
   script->answers += n + (answer[n] == ',');
   if (*answer == 'p') text = spelled(answer + 1);
-  if (text.len > cap) return free(text.at), COSET_NO_ROOM;
+  if (text.len > cap) return *len = text.len, free(text.at), COSET_NO_ROOM;
   if (text.len) memcpy(plain, text.at, text.len);
   *len = text.len;
   free(text.at);
@@ -200,12 +204,40 @@ static int by_ring(void *context, const coset_layer_question *question, uint8_t 
   return is;
 }
 
+/* Opens the layer by coset_openssl_open, with the sets as its ring. It must leave no error in OpenSSL's queue. */
+static int by_openssl(void *context, const coset_layer_question *question, uint8_t *plain, size_t cap, size_t *len,
+                      coset_text *issuer) {
+#ifdef WITH_OPENSSL
+  struct script *script = context;
+  coset_issuer issuers[MOST];
+  coset_openssl_ring ring = {issuers, 0};
+  for (const char *set = script->sets; *set; set += strcspn(set, ","), set += *set == ',') {
+    struct bytes name = spelled(*set == 't' ? set + 1 : "-"), keys = spelled(strchr(set, ':') + 1);
+    issuers[ring.len++] = (coset_issuer){{(const char *)name.at, name.len}, keys.at, keys.len};
+  }
+  const int said = coset_openssl_open(&ring, question, plain, cap, len, issuer);
+  if (ERR_peek_error()) exit(2);
+  if (issuer->len) memcpy(script->name, issuer->chars, issuer->len);
+  if (issuer->chars) issuer->chars = (const char *)script->name;
+  for (size_t i = 0; i < ring.len; i++) free((void *)(uintptr_t)issuers[i].name.chars), free((void *)(uintptr_t)issuers[i].keys);
+  return script->count++, said;
+#else
+  return (void)context, (void)question, (void)plain, (void)cap, (void)len, (void)issuer, 0;
+#endif
+}
+
+/* Returns the caller's function for a call. */
+static coset_opener opener_of(const char *call) {
+  return !strcmp(call, "ring") ? by_ring : !strcmp(call, "openssl") || !strcmp(call, "roomy") ? by_openssl : is_opened;
+}
+
 /* ---- The calls */
 
 /* Returns the status of coset_token_verify, with memory to work in that is in a block of its own. -3: it isn't cleared
  * after a refusal, -4: the token has something after a refusal, or lies elsewhere. */
-static int32_t verify(const struct line *line, char **word, coset_opener opener, struct script *script, size_t cap,
-                      uint8_t **work, coset_token *token) {
+static int32_t verify(const struct line *line, char **word, struct script *script, size_t cap, uint8_t **work,
+                      coset_token *token) {
+  const coset_opener opener = opener_of(word[0]);
   int32_t status;
   memset(script, 0, sizeof *script);
   memset(token, 0x77, sizeof *token);
@@ -312,14 +344,15 @@ void token_call(char **word, struct bytes in, size_t cap) {
   struct script *script = malloc(sizeof *script);
   coset_token told;
   uint8_t *work;
-  const int32_t status = verify(line, word, *word[0] == 'r' ? by_ring : is_opened, script, cap, &work, &told);
+  const int32_t status = verify(line, word, script, cap, &work, &told);
   left = -1;
   printf("%" PRId32 " %zu", status, told.needed);
   if (status == COSET_OK) tell_token(&told);
   else if (status > 0 && status != COSET_MEMORY)
     printf(" %zu %" PRId64 " %" PRId64, told.layer.index, told.layer.algorithm, told.layer.claim);
   if (status >= 0 && status != COSET_MEMORY)
-    printf(" %zu %s %s", script->count, script->count ? script->asked : "-", script->count ? script->layers : "-");
+    printf(" %zu %s %s", script->count, *script->asked ? script->asked : "-",
+           *script->layers ? script->layers : "-");
   puts("");
   free(work), free(script), free_line(line);
 }
@@ -333,11 +366,11 @@ void room_call(char **word, struct bytes in, size_t most) {
   uint8_t *work;
   size_t cap = 0;
   int32_t status;
-  while ((status = verify(line, word, is_opened, script, cap, &work, &told)) == COSET_SHORT) cap = told.needed, free(work);
+  while ((status = verify(line, word, script, cap, &work, &told)) == COSET_SHORT) cap = told.needed, free(work);
   free(work);
-  const int32_t more = verify(line, word, is_opened, script, cap + 1000, &work, &told);
+  const int32_t more = verify(line, word, script, cap + 1000, &work, &told);
   free(work);
-  const int32_t less = cap ? verify(line, word, is_opened, script, cap - 1, &work, &told) : COSET_SHORT;
+  const int32_t less = cap ? verify(line, word, script, cap - 1, &work, &told) : COSET_SHORT;
   if (cap) free(work);
   if (status >= 0 && less != COSET_SHORT) status = cap ? -5 : status;
   if (status >= 0 && cap && told.needed != cap) status = -5;
