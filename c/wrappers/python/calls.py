@@ -98,10 +98,10 @@ class Script:
         if said == "no":
             return None
         answer = True if layer.form != coset.ENCRYPT0 else data(said[1:]) if said[0] == "p" else b""
-        return (answer, issuer) if issuer else answer
+        return (answer, data(issuer).decode()) if issuer else answer
 
     def told(self):
-        return f"{len(self.heard)} {self.asked.hex()} {','.join(self.heard) or '-'}"
+        return f"{len(self.heard)} {self.asked.hex() or '-'} {','.join(self.heard) or '-'}"
 
 
 def told_token(token):

@@ -2,6 +2,7 @@
 that the package `cryptography` signs, authenticates or encrypts."""
 import os
 import random
+import re
 import struct
 import subprocess
 import sys
@@ -13,7 +14,8 @@ from cryptography.hazmat.primitives import hashes, hmac
 from cryptography.hazmat.primitives.asymmetric import ec, ed448, ed25519, padding, rsa, utils
 from cryptography.hazmat.primitives.ciphers import aead
 
-sys.path.append(os.path.join(os.path.dirname(os.path.abspath(__file__)), "..", "..", "..", "tools"))
+HERE = os.path.dirname(os.path.abspath(__file__))
+sys.path.append(os.path.join(HERE, "..", "..", "..", "tools"))
 from capi.vectors import named  # noqa: E402
 
 CALLS = {"tokens": 0}
@@ -159,9 +161,9 @@ def by_curve(algorithm, hash_, number, curve, key_id=b"", compressed=False):
     return Maker(algorithm, coset.SIGN1, {1: 2, -1: number, -2: x, -3: sign if compressed else y}, seal, key_id)
 
 
-def by_edwards(number, kind, key_id=b""):
+def by_edwards(number, kind, key_id=b"", algorithm=coset.EDDSA):
     private = kind.generate()
-    return Maker(coset.EDDSA, coset.SIGN1, {1: 1, -1: number, -2: private.public_key().public_bytes_raw()}, private.sign, key_id)
+    return Maker(algorithm, coset.SIGN1, {1: 1, -1: number, -2: private.public_key().public_bytes_raw()}, private.sign, key_id)
 
 
 RSA_KEY = rsa.generate_private_key(65537, 2048)
@@ -202,7 +204,10 @@ def makers():
     """Returns a maker for each algorithm of `coset.crypto`, and for each curve."""
     found = [by_curve(algorithm, SHA[size], number, curve, compressed=compressed) for algorithm, size in ((-7, 256), (-35, 384), (-36, 512))
              for number, curve in CURVES.items() for compressed in (False, True)]
+    found += [by_curve(-47, SHA[256], 8, ec.SECP256K1()), by_curve(-47, SHA[256], 8, ec.SECP256K1(), compressed=True)]
+    found += [by_curve(-9, SHA[256], 1, CURVES[1]), by_curve(-51, SHA[384], 2, CURVES[2]), by_curve(-52, SHA[512], 3, CURVES[3])]
     found += [by_edwards(6, ed25519.Ed25519PrivateKey), by_edwards(7, ed448.Ed448PrivateKey)]
+    found += [by_edwards(6, ed25519.Ed25519PrivateKey, b"", -19), by_edwards(7, ed448.Ed448PrivateKey, b"", -53)]
     found += [by_rsa(-37 - i, SHA[size], True) for i, size in enumerate(SHA)] + [by_rsa(-257 - i, SHA[size], False) for i, size in enumerate(SHA)]
     found += [by_hmac(4, SHA[256], 8), by_hmac(5, SHA[256], 32), by_hmac(6, SHA[384], 48), by_hmac(7, SHA[512], 64)]
     found += [by_aead(1, 16, aead.AESGCM), by_aead(2, 24, aead.AESGCM), by_aead(3, 32, aead.AESGCM), by_aead(24, 32, aead.ChaCha20Poly1305)]
@@ -211,6 +216,9 @@ def makers():
 
 
 MAKERS = makers()
+with open(os.path.join(HERE, "..", "..", "include", "coset_openssl.h"), encoding="utf-8") as file:
+    numbers = {name: int(number) for name, number in re.findall(r"COSET_(\w+) = (-?\d+)", file.read())}
+assert set(numbers.values()) == {maker.algorithm for maker in MAKERS} and all(getattr(coset, name) == it for name, it in numbers.items())
 CLAIMS = coset.put_all(coset.CLAIMS, b"", {1: "me", 4: 2000, 5: 1000, 6: 1000})
 ANY = {"authenticated_by": coset.BY_ANY, "now": 1500}
 for maker in MAKERS:
@@ -426,7 +434,7 @@ for point in ((x, flipped(y, 0)), (y, x), (flipped(x, 0), y), (bytes(32), bytes(
     assert refused(token, coset.KeyRing({"as": key_set(key)}), ALL, now=1) == (coset.Status.REFUSED, 0)
 
 # Each algorithm without a cipher is refused.
-for algorithm in (-47, -9, -19, 14, 25, 99):
+for algorithm in (-46, -48, -65535, -65534, 14, 25, 99):
     assert CIPHERS.verify(ONE.key, algorithm, b"", bytes(64)) is False
     assert CIPHERS.decrypt(ENC.key, algorithm, bytes(12), b"", bytes(16)) is None
 
@@ -445,7 +453,7 @@ for call in (lambda: coset.crypto.CIPHERS.verify(key, -7, b"", bytes(64)), lambd
     else:
         sys.exit("no ImportError")
 """
-subprocess.run([sys.executable, "-c", program], check=True, cwd=os.path.dirname(os.path.abspath(__file__)))
+subprocess.run([sys.executable, "-c", program], check=True, cwd=HERE)
 
 told = {"bits of the RFC's tokens": flips, "moments": outcomes}
 print(f"tokens {CALLS['tokens']}, algorithms {len({maker.algorithm for maker in MAKERS})}, {told}")

@@ -237,11 +237,17 @@ fn token_form(number: u64) -> TokenForm {
     [TokenForm::Sign1, TokenForm::Mac0, TokenForm::Encrypt0][number as usize / 2]
 }
 
-/// The answers for the layers of a token, and the questions that were asked.
+/// The answers for the layers of a token, with the names of issuers, and the questions that were
+/// asked.
 struct Script<'a> {
-    answers: std::str::Split<'a, char>,
+    answers: std::slice::Iter<'a, (&'a str, Option<String>)>,
     asked: String,
     heard: Vec<String>,
+}
+
+/// Returns the word, or `-` for an empty one.
+fn or_none(word: String) -> String {
+    if word.is_empty() { "-".to_string() } else { word }
 }
 
 impl<'a> Script<'a> {
@@ -252,29 +258,26 @@ impl<'a> Script<'a> {
         let map = layer.key_id_map.map_or(0, |map| map as u32);
         let texts = [layer.key_id, layer.iv, layer.partial_iv].map(|text| hex(text.unwrap_or_default())).join("/");
         self.heard.push(format!("{}/{}/{map}/{texts}", layer.form as u32, layer.algorithm));
-        let word = self.answers.next().unwrap_or("no");
-        let (said, issuer) = word.split_once('@').map_or((word, None), |(said, issuer)| (said, Some(issuer)));
+        let (said, issuer) = self.answers.next().map_or(("no", None), |(said, issuer)| (*said, issuer.as_deref()));
         let plaintext = said.strip_prefix('p').map(bytes).unwrap_or_default();
         let is_encrypted = layer.form == TokenForm::Encrypt0;
         (said != "no").then_some(Opened { plaintext: is_encrypted.then_some(plaintext), issuer })
     }
 
     fn told(&self) -> String {
-        let heard = if self.heard.is_empty() { "-".to_string() } else { self.heard.join(",") };
-        format!("{} {} {heard}", self.heard.len(), self.asked)
+        format!("{} {} {}", self.heard.len(), or_none(self.asked.clone()), or_none(self.heard.join(",")))
     }
 }
 
 /// Returns the words for a verified token.
 fn told_token(token: &VerifiedToken) -> String {
     let audience: Vec<String> = token.audience.iter().map(|name| named(Some(name))).collect();
-    let audience = if audience.is_empty() { "-".to_string() } else { audience.join(",") };
     let layers: Vec<String> = token
         .layers
         .iter()
         .map(|it| format!("{}/{}/{}/{}", it.form as u32, hex(&it.protected), hex(&it.unprotected), named(it.issuer.as_deref())))
         .collect();
-    let parts = [hex(&token.claims), audience, hex(&token.others), named(token.issuer.as_deref()), layers.join(",")];
+    let parts = [hex(&token.claims), or_none(audience.join(",")), hex(&token.others), named(token.issuer.as_deref()), layers.join(",")];
     parts.join(" ")
 }
 
@@ -299,7 +302,9 @@ fn token(w: &[&str]) -> String {
         max_age: (numbers[1] != 0).then_some(numbers[1]),
         leeway: numbers[0],
     };
-    let mut script = Script { answers: w[11].split(','), asked: String::new(), heard: Vec::new() };
+    let said = |word| str::split_once(word, '@').map_or((word, None), |(said, issuer)| (said, Some(text(issuer))));
+    let answers: Vec<(&str, Option<String>)> = w[11].split(',').map(said).collect();
+    let mut script = Script { answers: answers.iter(), asked: String::new(), heard: Vec::new() };
     let result = coset::verify_token(&bytes(w[2]), w[4].parse().unwrap(), &policy, |layer| script.answer(layer));
     let number = |number: Option<i64>| number.map_or("-".to_string(), |number| number.to_string());
     match result {

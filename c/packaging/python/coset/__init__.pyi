@@ -69,7 +69,13 @@ BY_ANY: int
 ES256: int
 ES384: int
 ES512: int
+ES256K: int
+ESP256: int
+ESP384: int
+ESP512: int
 EDDSA: int
+ED25519: int
+ED448: int
 PS256: int
 PS384: int
 PS512: int

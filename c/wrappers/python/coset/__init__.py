@@ -41,7 +41,8 @@ NONE, INT, TEXT, BYTES, ENCODED = range(0, 5)  # forms in which a message names 
 UNDERSTOOD, NOT_UNDERSTOOD = range(1, 3)  # what there is of labels that must be understood; NONE where there are none
 
 # The algorithms for which `coset.crypto` has ciphers, by their numbers (IANA, "COSE Algorithms").
-ES256, ES384, ES512, EDDSA = -7, -35, -36, -8
+ES256, ES384, ES512, ES256K, ESP256, ESP384, ESP512 = -7, -35, -36, -47, -9, -51, -52
+EDDSA, ED25519, ED448 = -8, -19, -53
 PS256, PS384, PS512, RS256, RS384, RS512 = -37, -38, -39, -257, -258, -259
 HMAC_256_64, HMAC_256_256, HMAC_384_384, HMAC_512_512 = 4, 5, 6, 7
 A128GCM, A192GCM, A256GCM, CHACHA20_POLY1305 = 1, 2, 3, 24

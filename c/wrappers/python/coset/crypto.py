@@ -1,6 +1,7 @@
 """Ciphers for `coset.KeyRing`, over the package `cryptography`, which is imported when a cipher needs it.
 
-- Signatures: ES256, ES384, ES512, EdDSA with Ed25519 and Ed448, PS256, PS384, PS512, RS256, RS384, RS512.
+- Signatures: ES256, ES384, ES512, ES256K, ESP256, ESP384, ESP512; EdDSA, Ed25519, Ed448; PS256, PS384, PS512, RS256,
+  RS384, RS512.
 - MACs: HMAC 256/64, 256/256, 384/384 and 512/512, which need Python's own `hmac` alone.
 - Encryption: AES-GCM, AES-CCM and ChaCha20/Poly1305.
 
@@ -16,7 +17,8 @@ _LABEL_CRV, _LABEL_X, _LABEL_Y, _LABEL_K, _LABEL_N, _LABEL_E = -1, -2, -3, -1, -
 _FALSE, _TRUE = b"\xf4", b"\xf5"
 
 # The hash functions of the algorithms, by their names in `hashlib` and in upper case in `cryptography`.
-_ECDSA = {coset.ES256: "sha256", coset.ES384: "sha384", coset.ES512: "sha512"}
+_ECDSA = {coset.ES256: "sha256", coset.ES384: "sha384", coset.ES512: "sha512", coset.ES256K: "sha256"}
+_ECDSA |= {coset.ESP256: "sha256", coset.ESP384: "sha384", coset.ESP512: "sha512"}
 _PSS = {coset.PS256: "sha256", coset.PS384: "sha384", coset.PS512: "sha512"}
 _PKCS1 = {coset.RS256: "sha256", coset.RS384: "sha384", coset.RS512: "sha512"}
 # The hash function of a MAC, and the number of bytes to which the MAC is truncated.
@@ -27,7 +29,7 @@ _HMAC = {
     coset.HMAC_512_512: ("sha512", 64),
 }
 # The curves of EC2 keys (RFC 9053, section 7.1), with the length of a coordinate in bytes.
-_CURVES = {1: ("SECP256R1", 32), 2: ("SECP384R1", 48), 3: ("SECP521R1", 66)}
+_CURVES = {1: ("SECP256R1", 32), 2: ("SECP384R1", 48), 3: ("SECP521R1", 66), 8: ("SECP256K1", 32)}
 # The curves of OKP keys for EdDSA (RFC 9053, section 7.2).
 _ED25519, _ED448 = 6, 7
 _GCM = (coset.A128GCM, coset.A192GCM, coset.A256GCM)
@@ -108,7 +110,12 @@ def _verify_rsa(key, algorithm, input, proof):
     rsa.RSAPublicNumbers(e, n).public_key().verify(proof, input, padded, hash_)
 
 
-_VERIFIERS = {**dict.fromkeys(_ECDSA, _verify_ecdsa), coset.EDDSA: _verify_eddsa, **dict.fromkeys([*_PSS, *_PKCS1], _verify_rsa)}
+_EDDSA = (coset.EDDSA, coset.ED25519, coset.ED448)
+_VERIFIERS = {
+    **dict.fromkeys(_ECDSA, _verify_ecdsa),
+    **dict.fromkeys(_EDDSA, _verify_eddsa),
+    **dict.fromkeys([*_PSS, *_PKCS1], _verify_rsa),
+}
 
 
 def _aead(key, algorithm):
