@@ -11,7 +11,7 @@ import tempfile
 
 from capi import calling
 from capi.building import FLAGS, WRAPPERS, run
-from capi.kinds import ABSENT, NAMES, OK, REFUSED
+from capi.kinds import NAMES, OK, REFUSED
 from capi.tokens import listed, policy_of, rows, text
 from cbor import byte_string, decode, encode, head
 
@@ -75,7 +75,7 @@ class Sealer:
         if self.tag == 16:
             return start + byte_string(self.prove(item([CONTEXTS[16], protected, b""]), content))
         proof = self.prove(item([CONTEXTS[self.tag], protected, b"", content]), None)
-        return start + byte_string(proof) + b"" if False else start + byte_string(content) + byte_string(proof)
+        return start + byte_string(content) + byte_string(proof)
 
 
 def ecdsa(algorithm, curve, number, compressed=False):
@@ -244,7 +244,7 @@ def wrong_signatures(calls):
         key = mac(algorithm, bytes(length), 64)
         for cut in (0, 1, 7, 8, 16, 31, 32, 33, 48, 64):
             token = reproved(key, lambda it, cut=cut: it[:cut]).seal(payload)
-            if cut == tag:
+            if min(cut, getattr(hashlib, HASHES[algorithm])().digest_size) == tag:
                 calls.good(token, keys_of(key.public), payload)
             else:
                 calls.bad(token, keys_of(key.public))
@@ -267,8 +267,7 @@ def short_rsa(calls):
                 break
             number += 1
         calls.good(token, keys_of(key.public), payload)
-        shorter = key.seal(payload)[:-259] + head(2, 255) + token[-255:]
-        calls.bad(shorter, keys_of(key.public))
+        calls.bad(token[:-259] + head(2, 255) + token[-255:], keys_of(key.public))
 
 
 def wrong_points(calls):
@@ -278,9 +277,10 @@ def wrong_points(calls):
         key, size = ecdsa(algorithm, curve, 12345), SIZES[curve]
         token, x, y = key.seal(payload), key.public[-2], key.public[-3]
         off = (int.from_bytes(y, "big") ^ 1).to_bytes(size, "big")
-        for member, value in ((-3, off), (-2, off), (-2, bytes(size)), (-3, bytes(size)), (-2, b"\xff" * size), (-3, b"\xff" * size),
-                              (-3, x), (-2, y[1:]), (-3, y[1:]), (-3, b""), (-2, b""), (-3, b"\0" + y), (-3, not y[-1] & 1),
-                              (-3, 2), (-3, "y"), (-1, 1 if curve != "P-256" else 2), (-1, 6), (-1, 4)):
+        many = b"\xff" * size
+        for member, value in ((-3, off), (-2, off), (-2, bytes(size)), (-3, bytes(size)), (-2, many), (-3, many), (-3, x),
+                              (-2, y[1:]), (-3, y[1:]), (-3, b""), (-2, b""), (-3, b"\0" + y), (-3, not y[-1] & 1), (-3, 2),
+                              (-3, "y"), (-1, 1 if curve != "P-256" else 2), (-1, 8 if curve == "P-256" else 6), (-1, 4)):
             calls.bad(token, keys_of({**key.public, member: value}))
         both = {**key.public, -2: bytes(size), -3: bytes(size)}
         calls.bad(token, keys_of(both))
@@ -322,11 +322,12 @@ def rings(calls):
     """Adds rings with keys that can't be read, without ciphers, of other algorithms, and nested tokens by several issuers."""
     payload = claims()
     signer, macer, cipher = ecdsa(-7, "P-256", 5), mac(5, bytes(range(32))), aead(10, bytes(range(16)), bytes(range(13)))
-    odd = [b"\xa1\x01\x18\x63", b"\xa1\x02\x41\x01", b"\x01", b"\xf6", b"\xa2\x01\x04\x01\x04", item({1: 4, 2: b"k", 3: 14, -1: bytes(16)})]
+    odd = [b"\xa1\x01\x18\x63", b"\xa1\x02\x41\x01", b"\x01", b"\xf6", b"\xa2\x01\x04\x01\x04",
+           item({1: 4, 2: b"k", 3: 14, -1: bytes(16)})]
     for key in (signer, macer, cipher):
         token = key.seal(payload)
         calls.good(token, keys_of(*odd, key.public), payload)
-        calls.good(token, head(4, 0)[:0] + b"\x9f" + keys_of(*odd, key.public)[1:] + b"\xff", payload)
+        calls.good(token, b"\x9f" + keys_of(*odd, key.public)[1:] + b"\xff", payload)
         calls.bad(token, keys_of(*odd))
         for data in (b"", b"\x80", b"\x9f\xff", b"\xa0", b"\x01", keys_of(key.public)[:-1], keys_of(key.public) + b"\0"):
             calls.bad(token, data)
@@ -347,28 +348,100 @@ def rings(calls):
         calls.good(outer.seal(signer.seal(payload)), both, payload)
         calls.good(outer.seal(cipher.seal(macer.seal(signer.seal(payload)))), both, payload)
         calls.bad(outer.seal(signer.seal(payload)), [(AS, keys_of(signer.public))])
+    by_key = ANY.replace("by=any,", "")
     calls.bad(signer.seal(macer.seal(payload)), both, ISSUER)
-    calls.good(signer.seal(cipher.seal(payload)), both, payload)
-    calls.bad(cipher.seal(payload), both, NAMES.index("Unauthenticated"), policy=ANY.replace("by=any,", ""))
-
-
-# The hexadecimal of A.2.2 says alg 10. Its diagnostic notation says alg 4, by which A.4 and A.7 are made.
-MISPRINT = (b"\x03\x0a", b"\x03\x04")
+    calls.bad(signer.seal(cipher.seal(payload)), both, ISSUER)
+    calls.good(signer.seal(cipher.seal(payload)), both, payload, policy=by_key)
+    calls.bad(cipher.seal(payload), both, NAMES.index("Unauthenticated"), policy=by_key)
 
 
 def examples(calls):
-    """Adds A.3 to A.7 of RFC 8392, with each bit changed in turn."""
-    policy = "by=any,algs=-7|4|10,aud=coap://light.example.com"
+    """Adds A.3 to A.7 of RFC 8392 with the keys of A.2, and the same with each bit changed in turn. Returns their number.
+
+    The bits of the label of kid aren't changed: the unprotected header isn't signed, so the token would be a good one without kid.
+    The rows of A.4 and A.7 have alg 4 in the key of A.2.2, as its diagnostic notation. Its hexadecimal has 10."""
     seen = set()
-    for row, answer in rows("ring"):
-        _, sets, _, now, _, spelled = row
-        data = bytes.fromhex(spelled)
-        if "6578616d706c652e636f6d" not in spelled and "41d584367c200000" not in spelled or not answer.startswith("ok") or data in seen:
-            continue
-        seen.add(data)
-        issuers = [(word.rpartition(":")[0] or None, bytes.fromhex(word.rpartition(":")[2])) for word in sets.split(",")]
-        own = policy if "6578616d706c652e636f6d" in spelled or data[0] == 0xd0 else policy + ",forever"
-        calls.good(data, issuers, bytes.fromhex(answer.split()[1]), issuer=issuers[0][0], policy=own, now=int(now))
-        for bit in range(8 * len(data)):
-            calls.add(flipped(data, bit), issuers, None, policy=own, now=int(now))
+    for (_, sets, _, now, policy, spelled), answer in rows("ring"):
+        if len(now) == 10 and answer.startswith("ok ") and spelled not in seen:
+            seen.add(spelled)
+            data, issuers = bytes.fromhex(spelled), [word.rpartition(":") for word in sets.split(",")]
+            issuers = [(name or None, bytes.fromhex(keys)) for name, _, keys in issuers]
+            calls.good(data, issuers, bytes.fromhex(answer.split()[1]), issuer=issuers[0][0], policy=policy, now=int(now))
+            label = max(data.find(start) for start in (b"\xa1\x04", b"\xa2\x04")) + 1
+            for bit in range(8 * len(data)):
+                if bit // 8 != label:
+                    calls.bad(flipped(data, bit), issuers, "changed", policy=policy, now=int(now))
     return len(seen)
+
+
+# ---- Making them
+
+
+def lacking():
+    """Returns what isn't installed, or None."""
+    ran = subprocess.run(["cc", "-E", "-x", "c", "-"], input="#include <openssl/param_build.h>\n", capture_output=True, text=True)
+    if ran.returncode:
+        return "the header of OpenSSL 3"
+    return None if importlib.util.find_spec("cryptography") else "cryptography for Python"
+
+
+def made(program, calls, check, **more):
+    """Makes the calls, and compares the answers."""
+    for asked, want, got in zip(calls.lines, calls.wanted, calling.answers([program], calls.lines, check, **more)):
+        is_right = got.split()[0] not in ("0", "1") if want[0] == "changed" else calling.agrees(got.split(), want)
+        check(is_right, f"OpenSSL: {asked}: {got} and not {want}")
+
+
+def accepted(folder, check):
+    """Runs the program of docs/C.md with tokens of both issuers. Returns the number of tokens."""
+    keys = [ecdsa(-7, "P-256", 5), mac(5, bytes(range(32))), ecdsa(-7, "P-256", 6)]
+    audience, here = "coap://light.example.com", int(datetime.datetime.now().timestamp())
+    with tempfile.TemporaryDirectory() as files:
+        def run_with(token):
+            for name, data in (("as", keys_of(keys[0].public, keys[1].public)), ("hub", keys_of(keys[2].public)), ("token", token)):
+                with open(f"{files}/{name}", "wb") as file:
+                    file.write(data)
+            return subprocess.run([f"{folder}/accept", *(f"{files}/{it}" for it in ("as", "hub", "token"))], capture_output=True, text=True)
+        tries = 0
+        for place, key in enumerate(keys):
+            name = HUB if place == 2 else AS
+            for status, change in ((0, {}), (0, {4: here - 50}), (1, {4: here - 70}), (1, {3: "coap://x"}), (1, {1: "x"}), (1, {5: here + 70})):
+                token = key.seal(item({1: name, 2: "erikw", 3: audience, 4: here + 100, **change}))
+                for data, wanted in ((token, status), (flipped(token, 8 * len(token) - 1), 1)):
+                    ran = run_with(data)
+                    is_right = ran.returncode == wanted and ran.stdout == ("" if wanted else f"{name} says erikw\n")
+                    check(is_right, f"accept: {data.hex()}: {ran.returncode} {ran.stdout}{ran.stderr} and not {wanted}")
+                    tries += 1
+    return tries
+
+
+def tried(folder, objects, check):
+    """Makes all calls of this file. Returns a list with their number, or with what is lacking."""
+    if lacking():
+        return [f"without {lacking()} the calls of coset_openssl.h are left out"]
+    names = ("calls", "token", "verify", "issue")
+    sources = [f"{WRAPPERS}/c/{name}.c" for name in names]
+    run(["cc", *FLAGS, "-Wpedantic", "-DWITH_OPENSSL", "-o", "calls_openssl", *sources, "text.o", *objects, "-lcrypto"], cwd=folder)
+    run(["cc", *FLAGS, "-o", "accept", f"{WRAPPERS}/c/accept.c", "libcoset.a", "-lcrypto"], cwd=folder)
+    calls = Calls()
+    for add in (every_algorithm, wrong_signatures, short_rsa, wrong_points, rings):
+        add(calls)
+    few = Calls()
+    few.lines, few.wanted = calls.lines[::40], calls.wanted[::40]
+    count = examples(calls)
+    check(count == 5, f"RFC 8392 has five examples, and not {count}")
+    made(f"{folder}/calls_openssl", calls, check)
+    refused = 0
+    for number in range(0, 400, 7):
+        refused += refusals(f"{folder}/calls_openssl", few, number, check)
+    return [f"with OpenSSL {len(calls.lines)}, refused {refused}, by the program of docs/C.md {accepted(folder, check)}"]
+
+
+def refusals(program, calls, number, check):
+    """Refuses an allocation of each call. No other token is then accepted. Returns how many allocations were refused."""
+    refused = 0
+    for asked, want, got in zip(calls.lines, calls.wanted, calling.answers([program], calls.lines, check, env={**os.environ, "REFUSE": str(number)})):
+        is_less = got.split()[0] in ("2", str(REFUSED)) and want[0] != got.split()[0]
+        refused += is_less
+        check(is_less or calling.agrees(got.split(), want) or asked.startswith("roomy "), f"OpenSSL, refused {number}: {asked}: {got}")
+    return refused
