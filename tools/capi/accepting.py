@@ -1,8 +1,11 @@
-"""The calls of `accepted`, by which c/wrappers/rust/accept.rs and c/wrappers/python/accept.py accept a web token, with the token of
-RFC 8392, appendix A.3, and the keys of appendix A.2."""
+"""The calls for web tokens that are made from Rust and Python alone.
+
+- `accepted` of c/wrappers/rust/accept.rs and c/wrappers/python/accept.py accepts the token of RFC 8392, appendix A.3, with the keys
+  of appendix A.2.
+- `ring` and `keys` are for the rows of test_verify: which keys of a ring are tried, and which keys of a set can be read."""
 from capi.kinds import AUDIENCE, EXPIRED, ISSUER, NOT_YET_VALID, OK, REFUSED, pairs_of
-from capi.tokens import Verified, text
-from capi.vectors import named, token
+from capi.tokens import Verified, rings, rows, text
+from capi.vectors import named, status_of, token
 from cbor import decode, encode
 
 LEEWAY, NBF, EXP = 60, 1443944944, 1444064944
@@ -21,8 +24,8 @@ def accepted():
     return found
 
 
-def calls():
-    """Yields the calls, from Rust and Python alone."""
+def acceptances():
+    """Yields the calls of `accepted`."""
     data, signed = token()[:2]
     signature, keys = decode(data)[0][2][1][3][1], [bytes.fromhex(row[1]) for row, _ in named("rfc8392-a.2")]
     key_set = bytes([0x80 + len(keys) + 1]) + UNREADABLE + b"".join(keys)
@@ -34,3 +37,13 @@ def calls():
         yield ("accepted", 0, b"\xd8\x3d" + data, words, status, accepted() if status == OK else None)
     other = data.replace(b"coap://light", b"coap://night")
     yield ("accepted", 0, other, [NBF, AS, key_set, signed.replace(b"coap://light", b"coap://night"), signature], AUDIENCE, None)
+
+
+def calls():
+    """Yields all calls of this file."""
+    yield from acceptances()
+    for row, answer in rows("ring"):
+        yield from rings(row, answer)
+    for (_, keys), answer in rows("keys"):
+        is_read, data = answer.startswith("ok"), bytes.fromhex(keys.replace("-", ""))
+        yield ("keys", 0, data, [], OK if is_read else status_of("error: " + answer), answer[3:] if is_read else None)

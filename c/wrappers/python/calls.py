@@ -111,11 +111,52 @@ def told_token(token):
     return f"{token.claims.hex()} {audience} {token.others.hex()} {name(token.issuer)} {layers}"
 
 
-def opened(given, now, rules, algorithms, critical, required, audiences, types, said):
+class Ring:
+    """A ring of keys with ciphers that a line describes, and their calls. SETS has the issuers with commas between them: the
+    name, `:` and a set of keys. SAYS has the calls that are accepted: each the identifier of its key, or `#` and its number.
+    The plaintext that may follow after `:` is given once."""
+
+    def __init__(self, sets, says):
+        named = [word.split(":") for word in sets.split(",")]
+        self.ring = coset.KeyRing([(None if issuer == "-" else data(issuer[1:]).decode(), data(keys)) for issuer, keys in named], self)
+        self.rules = [(*rule.split(":"), "")[:2] for rule in says.split(",")]
+        self.asked, self.heard = b"", []
+
+    def __call__(self, layer):
+        before = len(self.heard)
+        try:
+            said = self.ring(layer)
+        except coset.InvalidToken as refused:
+            assert (refused.reason, refused.layer, len(self.heard)) == (coset.Status.UNFIT, layer.index, before)
+            return None
+        assert len(self.heard) > before
+        return said
+
+    def plaintext(self, key, algorithm, nonce, input, proof):
+        """Returns the plaintext if this call of a cipher is accepted, else None."""
+        key_id = coset.label_bytes(coset.KEY, key, coset.IN_ITEM, 2).hex() if coset.has(coset.KEY, key, coset.IN_ITEM, 2) else "-"
+        number = f"#{len(self.heard)}"
+        self.asked += proof + input
+        self.heard.append(f"{key_id}/{algorithm}/{nonce.hex() or '-'}")
+        for place, (rule, plain) in enumerate(self.rules):
+            if rule in (key_id, number):
+                self.rules[place] = rule, ""
+                return data(plain)
+        return None
+
+    def verify(self, key, algorithm, input, proof):
+        return self.plaintext(key, algorithm, b"", input, proof) is not None
+
+    def decrypt(self, key, algorithm, nonce, aad, ciphertext):
+        return self.plaintext(key, algorithm, nonce, aad, ciphertext)
+
+    told = Script.told
+
+
+def opened(script, given, now, rules, algorithms, critical, required, audiences, types):
     """Returns the result of `verify_token` and the questions that it asked, as calls.c describes them. After a refusal,
     prints the layer and the number in place of the token, and returns None."""
     leeway, age, form, by, any_audience, forever, later = map(int, rules.split(","))
-    script = Script(said)
     try:
         token = coset.verify_token(
             given, script, integers(algorithms), audience=texts(audiences), types=texts(types), required=integers(required),
@@ -179,7 +220,9 @@ _SEVERAL = {
     "message": message,
     "spans": message,
     "safe": safe,
-    "token": lambda _, given, *words: opened(given, *words),
+    "token": lambda _, given, *words: opened(Script(words[-1]), given, *words[:-1]),
+    "ring": lambda _, given, *words: opened(Ring(*words[-2:]), given, *words[:-2]),
+    "keys": lambda _, given, *words: " ".join(key.hex() for key in coset.readable_keys(given)),
     "accepted": lambda _, given, *words: acceptance(given, *words),
     "fits": fits,
     "verified": lambda _, given, *words: verification(given, *words),

@@ -1,5 +1,5 @@
-"""Tests of `verify_token`, `KeyRing`, `key_fits` and `coset.crypto`: with the examples of RFC 8392, appendix A, and with tokens
-that the package `cryptography` signs, authenticates or encrypts."""
+"""Tests of `verify_token`, `KeyRing`, `key_fits` and `coset.crypto`. The tokens are the examples of RFC 8392, appendix A, and new
+ones: the package `cryptography` signs, authenticates or encrypts them."""
 import os
 import random
 import re
@@ -403,7 +403,7 @@ assert coset.key_fits(ONE.key, layer._replace(form=coset.SIGN1, algorithm=-7, ke
 raised(coset.Misuse, coset.key_fits, ENC.key, layer._replace(form=2))
 raised(coset.Fault, coset.key_fits, b"\xa0", layer)
 
-# Keys of a set that can't be read are skipped: one of an unknown type, one without a type, one with a label twice, one that is no map.
+# Keys of a set that can't be read are skipped: of an unknown type, without a type, with a label twice, or no map.
 unreadable = [b"\xa1\x01\x18\x63", b"\xa0", b"\xa2\x01\x04\x01\x04", b"\x01", b"\xa1\x01\x61x"]
 mixed = bytes([0x80 + len(unreadable) + 1]) + b"".join(unreadable) + ONE.key
 assert verified(token, coset.KeyRing({"as": mixed}), ALL, now=1).issuer == "as"

@@ -5,8 +5,8 @@
 - MACs: HMAC 256/64, 256/256, 384/384 and 512/512, which need Python's own `hmac` alone.
 - Encryption: AES-GCM, AES-CCM and ChaCha20/Poly1305.
 
-A key for another algorithm is refused. Nothing here decides which key fits: call the ciphers only with a key and a
-nonce for which `coset.key_fits` says so.
+A key for another algorithm is refused. The ciphers don't decide which key fits. Call them only with a key that
+`coset.key_fits` accepts, and with the nonce that it returns.
 """
 import hmac
 from importlib import import_module
@@ -152,8 +152,8 @@ class Ciphers:
         return True
 
     def decrypt(self, key, algorithm, nonce, aad, ciphertext):
-        """Returns the plaintext of the ciphertext, which ends with its tag. Returns None if the ciphertext isn't
-        authentic by the key, a KEY, or if there is no cipher for the algorithm."""
+        """Returns the plaintext of the ciphertext, which ends with its tag. The key is a KEY. Returns None if the
+        ciphertext isn't authentic, or if there is no cipher for the algorithm."""
         try:
             cipher = _aead(key, algorithm)
             return None if cipher is None else cipher.decrypt(nonce, ciphertext, aad)
