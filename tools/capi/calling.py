@@ -1,9 +1,9 @@
 """Makes calls through the programs of c/wrappers, and compares their output with the right results."""
 import subprocess
 
-from capi.kinds import CRITICAL, LAYER, MISUSE, NAMES, NOT_ALLOWED, OK, REFUSED, SHORT
+from capi.kinds import CRITICAL, HEADERS, LAYER, MISSING, MISUSE, NAMES, NOT_ALLOWED, OK, REFUSED, SHORT
 from capi.messages import Told
-from capi.tokens import Verified
+from capi.tokens import Refused, Verified
 from capi.vectors import token
 from sources import read
 
@@ -141,10 +141,24 @@ def lengths(program, check):
 # ---- from Rust and Python
 
 
+# The statuses against a layer of a token. The others are against the whole token.
+OF_LAYER = (*range(3, 13), NOT_ALLOWED, CRITICAL, REFUSED, HEADERS)
+
+
+def refusal_told(status, refused):
+    """Returns the right output of calls.rs and calls.py for a token that is refused: the reason, the layer if it is against one, and
+    the number of the algorithm that isn't allowed or of the claim that is missing."""
+    index, algorithm, claim = refused.words
+    number = {NOT_ALLOWED: algorithm if algorithm != "0" else "-", MISSING: claim}.get(status, "-")
+    return " ".join([NAMES[status], index if status in OF_LAYER else "-", number, *refused.asked])
+
+
 def told_by_wrapper(status, answer):
     """Returns the right output of calls.rs and calls.py."""
     if status == -1:
         return "ok no"
+    if isinstance(answer, Refused):
+        return refusal_told(status, answer)
     if status != OK:
         return NAMES[status]
     if isinstance(answer, Verified):

@@ -106,7 +106,7 @@ def compare_functions(sources, check):
 def compare_python(check):
     """Compares the constants of the Python wrapper with the header's."""
     numbers = {n: int(v, 0) for n, v in re.findall(CONSTANT, header())}
-    python = read("c", "wrappers", "python", "coset.py")
+    python = read("c", "wrappers", "python", "coset", "__init__.py")
     for names, first in re.findall(r"^([A-Z0-9_, ]+) = (?:map\(Kind, )?range\((\w+), \w+\)", python, re.M):
         for place, name in enumerate(names.strip().split(", ")):
             parts = [name] if "COSET_" + name in numbers else name.rsplit("_", 1)
@@ -118,7 +118,7 @@ def compare_structs(sources, check):
     """Compares the fields of the header's structs with those of the sources and of the wrappers."""
     sources += read("crates", "ffi_token", "src", "opened.rt") + read("crates", "ffi_query", "src", "elements.rt")
     rust = read("c", "wrappers", "rust", "coset.rs").partition("mod c {")[2]
-    python = read("c", "wrappers", "python", "coset.py")
+    python = read("c", "wrappers", "python", "coset", "__init__.py")
     types = {"int64": "i64", "uint32": "u32", "uint64": "u64", "size_t": "usize"}
     for struct, in_c, in_python in STRUCTS:
         fields = [(name, {**WORDS, "uint64_t": "u64"}[type_]) for type_, name in

@@ -2,13 +2,14 @@
 
 Each function gets the arguments of the command, the folder of the library, its object files, and a list of what is wrong. It
 returns the lines to print."""
+import importlib.util
 import os
 import shutil
 import subprocess
 import sys
 import tempfile
 
-from capi import (attack, calling, depths, examples, install, limits, memory, misuses, openers, openssl, rows, shapes,
+from capi import (accepting, attack, calling, depths, examples, install, limits, memory, misuses, openers, openssl, rows, shapes,
                   tokens)
 from capi.building import HERE, WRAPPERS, build_callers, own_heap, run
 from capi.vectors import token
@@ -87,19 +88,32 @@ def with_memory(given, folder, lines, wanted, wrong):
     return told
 
 
+def python_tests(library, wrong):
+    """Runs the tests of the Python package. Returns their lines. Those with signatures need the package `cryptography`."""
+    told = []
+    for name in ("tests", "nested_tests", "token_tests"):
+        if name == "token_tests" and not importlib.util.find_spec("cryptography"):
+            told.append("there is no cryptography for Python")
+            continue
+        ran = subprocess.run([sys.executable, f"{WRAPPERS}/python/{name}.py"], capture_output=True, text=True, **library)
+        wrong.check(ran.returncode == 0, f"c/wrappers/python/{name}.py: {ran.stderr[-1000:]}")
+        told += ran.stdout.splitlines()
+    return told
+
+
 def by_wrappers(given, folder, calls, wrong):
     """Makes the calls from Rust and Python. Returns the numbers of calls."""
     rust, python = [f"{folder}/calls_rust"], [sys.executable, f"{WRAPPERS}/python/calls.py"]
     library = {"env": {**os.environ, "COSET_LIBRARY": f"{folder}/libcoset.so", "PYTHONDONTWRITEBYTECODE": "1"}}
     programs = {"Rust": (rust, {})} if shutil.which("rustc") else {}
     programs["Python"] = (python, library)
+    calls = [*calls, *accepting.calls()]
     for name, (command, more) in programs.items():
         calling.from_wrapper(name, command, calls, wrong.check, **more)
     memory.wiped(folder, wrong.check)
-    ran = subprocess.run([sys.executable, f"{WRAPPERS}/python/tests.py"], capture_output=True, text=True, **library)
-    wrong.check(ran.returncode == 0, f"c/wrappers/python/tests.py: {ran.stderr[-1000:]}")
+    tested = python_tests(library, wrong)
     calling.texts(given.quick, [([f"{folder}/calls_c"], {}), *programs.values()], wrong.check)
-    return [f"from {name} {len(calls)}" for name in programs]
+    return [*(f"from {name} {len(calls)}" for name in programs), *tested]
 
 
 def called(given, folder, objects, wrong):

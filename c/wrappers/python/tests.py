@@ -34,8 +34,15 @@ assert coset.Kind(coset.SIGN1 + coset.EITHER) is coset.Kind.SIGN1_EITHER
 assert type(raised(coset.part, coset.SIGN1, bytes.fromhex("8440a0f640"), (1 << 32) + 1)) is coset.Misuse
 
 # A call's result is computed once, because the buffer is as large as a result may be.
-made, calls = coset.ctypes.create_string_buffer, []
-coset.ctypes.create_string_buffer = lambda room: calls.append(room) or made(room)
+calls = []
+
+
+def counted(call):
+    return lambda *arguments: calls.append(call) or call(*arguments)
+
+
+coset._message_spans = counted(coset._message_spans)
+coset._library.coset_make, coset._library.coset_part = counted(coset._library.coset_make), counted(coset._library.coset_part)
 token = coset.make(coset.SIGN1, b"\xa1\x01\x26", b"", bytes(100_000), bytes(64))
 assert coset.sign1(coset.SIGN1, token, bytes(5_000)).payload == bytes(100_000) and len(calls) == 2
 assert coset.part(coset.SIGN1, token, coset.PAYLOAD) == bytes(100_000) and len(calls) == 3
