@@ -421,7 +421,8 @@ typedef struct coset_layer {
   int64_t algorithm;    /* COSET_LAYER: one of those that you allow. COSET_NOT_ALLOWED: the one that the layer names,
                            or 0 if it names none by a number */
   int64_t claim;        /* COSET_MISSING: the number of the required claim */
-  size_t index;         /* COSET_LAYER, and a refusal of a layer: its index from the outermost, which is 0 */
+  size_t index;         /* COSET_LAYER, and a refusal of a layer or COSET_MEMORY while one is read: its index from the
+                           outermost, which is 0 */
   size_t structure_len; /* COSET_LAYER: the lengths of the five texts */
   size_t proof_len;
   size_t key_id_len;    /* the last three are 0 if there is none */

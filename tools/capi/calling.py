@@ -83,7 +83,7 @@ def told_by_c(call, status, answer, cap):
         return ["levels", str(answer)]
     if call in TOKENS:
         return [str(status), "0", *answer.words, *answer.asked]
-    if call == "room":
+    if call in ("room", "answers"):
         return [str(status)]
     if call == "open":
         return opening_told(status, answer, cap)
@@ -105,7 +105,7 @@ def rooms(call, answer):
     """Returns the sizes of buffers for a call: just large enough, one byte too small, and larger."""
     if call == "verified":
         return [4096]
-    if call in ("safe", "spans", *TOKENS):
+    if call in ("safe", "spans", "answers", *TOKENS):
         return [LARGE]
     if call == "room":
         return [answer]

@@ -230,11 +230,16 @@ def openings(data, now, policy, layers, status, result):
     yield ("open", 0, data, [*words, *opened_words(layers)], status, told)
 
 
-def most_room(data, layers, result):
-    """Returns the size of the memory to work in that is enough, as docs/C.md says: nine times the token's length, and for each
-    layer 64 bytes and three times the name of its issuer. To that adds the length of an audience that is one text."""
-    names = sum(len(layer.answer.name or b"") for layer in layers if layer.answer)
-    return 9 * len(data) + 64 * max(1, len(layers)) + 3 * names + (len(result) if isinstance(result, bytes) else 0)
+def enough_room(data, names, audience=b""):
+    """Returns the size of the memory to work in that is enough, as docs/C.md says. `names` are the issuers of the layers, and
+    `audience` is aud if that is one text."""
+    return 9 * len(data) + 64 * max(1, len(names)) + 3 * sum(map(len, names)) + len(audience)
+
+
+def audience_of(result):
+    """Returns aud of a token that was accepted, if it is one text."""
+    claims = dict(pairs_of(decode(bytes.fromhex(result.words[0]))[0])) if isinstance(result, Verified) else {}
+    return claims[("int", 3)][1] if ("int", 3) in claims else b""
 
 
 def verifications(row, answer):
@@ -297,6 +302,7 @@ def calls_from_c(check):
             texts = b"".join(layer.proof + layer.structure for layer in layers).hex() or "-"
             check(result.asked[1] == texts, f"the questions of {' '.join(row)}")
             yield from openings(data, now, policy, layers, status, result)
-            yield ("room", 0, data, [now, *policy, said], status, most_room(data, layers, result))
+            names = [layer.answer.name or b"" for layer in layers]
+            yield ("room", 0, data, [now, *policy, said], status, enough_room(data, names, audience_of(result)))
     for row, answer in rows("ring"):
         yield from rings(row, answer)

@@ -9,7 +9,8 @@ import subprocess
 import sys
 import tempfile
 
-from capi import accepting, attack, calling, depths, examples, install, limits, memory, misuses, rows, tokens
+from capi import (accepting, attack, calling, depths, examples, install, limits, memory, misuses, openers, openssl, rows, shapes,
+                  tokens)
 from capi.building import HERE, WRAPPERS, build_callers, own_heap, run
 from capi.vectors import token
 from cbor import decode
@@ -119,7 +120,8 @@ def called(given, folder, objects, wrong):
     """Makes all calls. Returns the first faults, and a line with the numbers of calls."""
     build_callers(folder, objects)
     calls = [*rows.calls(wrong.check), *examples.calls(wrong.check), *tokens.calls()]
-    every = [*calls, *tokens.calls_from_c(wrong.check), *misuses.calls(), *depths.calls(calls)]
+    of_tokens = [*tokens.calls_from_c(wrong.check), *openers.calls(), *shapes.calls()]
+    every = [*calls, *of_tokens, *misuses.calls(), *depths.calls(calls)]
     lines, wanted = calling.from_c(f"{folder}/calls_c", every, wrong.check)
     calling.lengths(f"{folder}/calls_c", wrong.check)
     told = [f"calls {len(calls)}", f"from C {len(lines)}"]

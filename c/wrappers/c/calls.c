@@ -32,7 +32,8 @@
  *   ciphertext is then decrypted as the IV, and the ciphertext's bytes, each xor 5a.
  * - `token` is coset_token_verify, with a policy of these lists. RULES are the seven numbers of coset_rules after its
  *   size, with commas. ANSWERS are the answers for the layers, with commas: `yes`, `no`, or `p` and a plaintext. After
- *   the answer may follow `@` and the name of the issuer. token.c has more answers.
+ *   the answer may follow `@` and the name of the issuer. `answers` is the same, with answers that no caller should give
+ *   (token.c).
  * - `ring` asks each key of the sets that fits. SETS are issuers with commas, each a name as `t` and its bytes, or `-`,
  *   then `:` and a set of keys. SAYS are the calls that are accepted, with commas, or `none`: the identifier of the key, or
  *   `#` and the call's number, and then `:` and a plaintext. The last word of the result has the calls with commas: the
@@ -393,7 +394,7 @@ int main(void) {
     coset_message_view message = {77, 77, 77, 77, 77, 77, 77, 77, 77};
     memset(out, 0xee, room);
     left = refused ? atol(refused) : -1;
-    int is_token = !strcmp(call, "token") || !strcmp(call, "ring") || !strcmp(call, "openssl");
+    int is_token = !strcmp(call, "token") || !strcmp(call, "answers") || !strcmp(call, "ring") || !strcmp(call, "openssl");
     int is_room = !strcmp(call, "room") || !strcmp(call, "roomy"), is_open = !strcmp(call, "open");
     if (is_token || is_room || is_open || !strcmp(call, "fits") || !strcmp(call, "deeper") || !strcmp(call, "lengths")) {
       if (is_token) token_call(word, in, cap);

@@ -5,10 +5,11 @@ ghost use Rattle.std.specs.Option.{option_and_then};
 ghost use Rattle.ffi_query.specs.Status.{refusal_status};
 ghost use Rattle.ffi_query.specs.declared.refusal.Refusal.TheVariants as answers;
 ghost use Rattle.ffi_token.specs.Fits.{ReturnsFit};
-ghost use Rattle.ffi_token.specs.Rules.{policy_in, rules_view, texts_view};
+ghost use Rattle.ffi_token.specs.Rules.{policy_in, rules_view};
+ghost use Rattle.ffi_token.specs.Texts.{texts_view};
 ghost use Rattle.ffi_token.specs.Tokens.{ReturnsToken};
 ghost use Rattle.ffi_c.specs.Replies.{IsMisuse};
-ghost use Rattle.ffi_c.specs.Tokens.{RepliesFit, RepliesToken, age_of, authentication_of, claims_number, error_number, fit_length, fit_status, form_of, layer_at, layer_number, layer_of, no_layer, number_or_0, reason_of, rules_in, token_length, token_number, token_status, untagged_of};
+ghost use Rattle.ffi_c.specs.Tokens.{RepliesFit, RepliesToken, age_of, authentication_of, claims_number, error_number, fit_length, fit_status, form_of, layer_at, layer_number, layer_of, no_layer, number_or_0, parts_of, rules_in, token_length, token_number, token_status, untagged_of};
 
 use crate::lengths::{within, within_layers, within_numbers, within_texts};
 use crate::numbers::{COSET_ENCRYPT0, COSET_MAC0, COSET_SIGN1};

@@ -1,9 +1,8 @@
 -- The layers that a caller opened.
 use Rattle.std.specs.Prelude.{◌≡◌, ◌==◌, ◌&&◌, ◌+◌, ℕ, List, [], ◌∷◌, length}
-use Rattle.std.specs.Prelude.{drop, take, nat_lt, Bool, true, false, Option, Some, None, if◌then◌else◌}
+use Rattle.std.specs.Prelude.{drop, take, nat_lt, Bool, true, false, is_some, Option, Some, None, if◌then◌else◌}
 use Rattle.std.specs.Cmp.Lexicographic.{pointwise}
 use Rattle.std.specs.Option.{option_and_then, option_map_or}
-use Rattle.std.specs.Str.{is_utf8}
 use Rattle.coset.specs.Shape.{both}
 use Rattle.cwt_keys.specs.Keys.{KeysView, Name}
 use Rattle.cwt_keys.specs.Sealed.{SealView}
@@ -12,6 +11,7 @@ use Rattle.cwt_keys.specs.declared.form.Form.TheVariants.{Sign1, Mac0, Encrypt0}
 use Rattle.ffi_token.specs.declared.layer.Waiting.{Waiting}
 use Rattle.ffi_token.specs.declared.layer.Waiting.TheVariants.{Layer, OutOfMemory}
 use Rattle.ffi_token.specs.declared.opened.Opened.{Opened}
+use Rattle.ffi_token.specs.Texts.{text_in}
 use Rattle.ffi_token.specs.Waiting.{IsLayer}
 
 -- The number of a form in `coset.h`.
@@ -39,10 +39,14 @@ is_of b s o =
     && is_at b o.offset o.structure_len s.structure
     && is_at b (o.offset + o.structure_len) o.proof_len s.proof
 
--- The name that the bytes are: no name if they are empty. The outer `None` means that they aren't UTF-8.
+-- The name that the bytes b are: no name if they are empty. The outer `None` means that they aren't UTF-8.
+abbrev pub name_of : List ℕ → Option (List ℕ) → Option Name
+name_of [] t = Some None
+name_of (c ∷ cs) None = None
+name_of (c ∷ cs) (Some t) = Some (Some t)
+
 abbrev pub name_in : List ℕ → Option Name
-name_in [] = Some None
-name_in (c ∷ cs) = if is_utf8 (c ∷ cs) then Some (Some (c ∷ cs)) else None
+name_in b = name_of b (text_in b)
 
 -- The name of the issuer that o names, if it is in b.
 abbrev pub name_at : List ℕ → Opened → Option Name
@@ -50,7 +54,7 @@ name_at b o = option_and_then name_in (slice_at b o.issuer o.issuer_len)
 
 -- The name of the issuer is UTF-8, or isn't in b.
 abbrev pub has_text : List ℕ → Opened → Bool
-has_text b o = option_map_or is_utf8 (slice_at b o.issuer o.issuer_len) true
+has_text b o = option_map_or (λ s. is_some (text_in s)) (slice_at b o.issuer o.issuer_len) true
 
 -- The plaintext and the name of the issuer that o names, if o names this layer.
 abbrev pub content_in : List ℕ → SealView → Opened → Option (List ℕ × Name)

@@ -1,7 +1,6 @@
 -- A verifier's requirements for a token, with algorithms, labels and claims as numbers.
-use Rattle.std.specs.Prelude.{◌≡◌, ◌&&◌, ◌||◌, not, ℕ, ℤ, List, [], ◌∷◌, filter, filter_map, map, Bool, true, false, is_some, Option, Some, None, if◌then◌else◌}
+use Rattle.std.specs.Prelude.{◌≡◌, ◌&&◌, ◌||◌, not, ℕ, ℤ, List, [], ◌∷◌, filter_map, map, Bool, true, false, is_some, Option, Some, None, if◌then◌else◌}
 use Rattle.std.specs.List.{list_all}
-use Rattle.std.specs.Str.{is_utf8}
 use Rattle.coset.specs.LabelData.{RegisteredLabelView, assigned, private_use}
 use Rattle.coset.specs.Registry.{first_numbered}
 use Rattle.coset.specs.Views.{critical_view}
@@ -16,9 +15,9 @@ use Rattle.coset_iana.specs.declared.headers.TheConstants.{HEADER_PARAMETERS}
 use Rattle.cwt_keys.specs.declared.form.Form.{Form}
 use Rattle.cwt_verify.specs.Policy.{AudienceView, PolicyView, absent, one_of, unchecked}
 use Rattle.cwt_verify.specs.declared.policy.Authentication.{Authentication}
+use Rattle.ffi_token.specs.Texts.{are_texts, text_in, texts_view}
 use Rattle.ffi_token.specs.declared.rules.Lists.{Lists}
 use Rattle.ffi_token.specs.declared.rules.Rules.{Rules}
-use Rattle.ffi_token.specs.declared.rules.Text.{Text}
 
 -- The view of rules: the texts are bytes, which may not be UTF-8.
 pub record RulesView : Type 0 where
@@ -34,9 +33,6 @@ pub record RulesView : Type 0 where
   pub refuse_future_iat : Bool
   pub max_age : Option ℕ
   pub leeway : ℕ
-
-abbrev pub texts_view : List Text → List (List ℕ)
-texts_view ts = map (λ t. t.bytes.now) ts
 
 abbrev pub rules_view : Rules → RulesView
 rules_view r = record {
@@ -81,10 +77,6 @@ claim_of = first_numbered claim_names.number CWT_CLAIM_NAMES
 abbrev pub are_assigned : {T : Type 0} → (ℤ → Option T) → List ℤ → Bool
 are_assigned value_of is = list_all (λ i. is_some (value_of i)) is
 
--- Each text is UTF-8.
-abbrev pub are_texts : List (List ℕ) → Bool
-are_texts ts = list_all is_utf8 ts
-
 -- ---- the policy
 
 -- No audiences are given, or the audience is checked.
@@ -102,14 +94,14 @@ has_meaning r =
 abbrev pub audience_of : Bool → List (List ℕ) → AudienceView
 audience_of true ts = unchecked
 audience_of false [] = absent
-audience_of false (t ∷ ts) = one_of (filter is_utf8 (t ∷ ts))
+audience_of false (t ∷ ts) = one_of (filter_map text_in (t ∷ ts))
 
 -- The policy that rules with a meaning describe. Numbers and texts without one are left out.
 abbrev pub policy_with : RulesView → PolicyView
 policy_with r = record {
   algorithms = filter_map algorithm_of r.algorithms;
   audience = audience_of r.any_audience r.audiences;
-  types = filter is_utf8 r.types;
+  types = filter_map text_in r.types;
   required = filter_map claim_of r.required;
   critical = map parameter_named r.critical;
   untagged_form = r.untagged_form;
@@ -129,5 +121,5 @@ pub record ListsOf (r : RulesView) (l : Lists) : Type 0 where
   pub algorithms : l.algorithms.items ≡ filter_map algorithm_of r.algorithms
   pub critical : map critical_view l.critical.items ≡ map parameter_named r.critical
   pub required : l.required.items ≡ filter_map claim_of r.required
-  pub audiences : map (λ s. s.now) l.audiences.items ≡ filter is_utf8 r.audiences
-  pub types : map (λ s. s.now) l.types.items ≡ filter is_utf8 r.types
+  pub audiences : map (λ s. s.now) l.audiences.items ≡ filter_map text_in r.audiences
+  pub types : map (λ s. s.now) l.types.items ≡ filter_map text_in r.types

@@ -14,6 +14,7 @@ mod layer;
 mod opened;
 mod refusal;
 mod rules;
+mod text;
 mod token;
 mod written;
 
@@ -21,5 +22,6 @@ pub use fit::{Parts, fit};
 pub use layer::{Layer, LayerView, Waiting};
 pub use opened::{Opened, OpenedLayers, form_number};
 pub use refusal::Refusal;
-pub use rules::{Rules, Text};
+pub use rules::Rules;
+pub use text::Text;
 pub use token::open_token;

@@ -8,6 +8,7 @@ ghost use Rattle.cwt_keys.specs.Sealed.{seal_view};
 ghost use Rattle.ffi_token.specs.Opened.{content_in, form_number, has_text, is_at, is_of, name_at, name_in, opened_in, slice_at};
 
 use crate::layer::{Waiting, wait_for};
+use crate::text::text_in;
 use cwt_keys::{Form, Keys, Sealed};
 use std::alloc::Global;
 
@@ -100,9 +101,9 @@ fn name_in(bytes: &[u8]) -> Option<Option<&str>>
     if bytes.is_empty() {
         return Some(None);
     }
-    match std::str::from_utf8(bytes) {
-        Ok(name) => Some(Some(name)),
-        Err(_) => None,
+    match text_in(bytes) {
+        Some(name) => Some(Some(name)),
+        None => None,
     }
 }
 
@@ -139,7 +140,7 @@ fn has_text(bytes: &[u8], opened: &Opened) -> bool
     ensures { result ≡ has_text bytes.now opened.now }
 {
     match slice_at(bytes, opened.issuer, opened.issuer_len) {
-        Some(name) => std::str::from_utf8(name).is_ok(),
+        Some(name) => text_in(name).is_some(),
         None => true,
     }
 }

@@ -1,28 +1,20 @@
 //! A verifier's requirements for a token, with algorithms, labels and claims as numbers.
 
-ghost use Rattle.std.specs.Prelude.{◌≡◌, IfOk, filter, filter_map, map};
-ghost use Rattle.std.specs.Str.{is_utf8};
+ghost use Rattle.std.specs.Prelude.{◌≡◌, IfOk, filter_map, map};
 ghost use Rattle.coset.specs.LabelViews.{registered_or_private_view};
 ghost use Rattle.cwt_verify.specs.Verify.{VerifiesToken};
 ghost use Rattle.ffi_token.specs.Opened.{opened_view};
-ghost use Rattle.ffi_token.specs.Rules.{ListsOf, are_assigned, are_texts, has_meaning, named, policy_with, rules_view, texts_view};
+ghost use Rattle.ffi_token.specs.Rules.{ListsOf, are_assigned, has_meaning, named, policy_with, rules_view};
 
 use crate::layer::Waiting;
 use crate::opened::OpenedLayers;
+use crate::text::{Text, are_texts, names};
 use coset::iana::{Algorithm, CwtClaimName, EnumI64, HeaderParameter};
 use coset::{CoseError, RegisteredLabelWithPrivate};
 use cwt_verify::{
     Audience, Authentication, Form, LayerError, Policy, TokenError, VerifiedToken, verify_token,
 };
 use std::alloc::{AllocError, Global};
-
-/// A text of a caller, which may not be UTF-8: `coset_text` of `c/include/coset.h`.
-#[repr(C)]
-#[derive(Clone, Copy, Debug)]
-pub struct Text<'a> {
-    /// The bytes of the text.
-    pub bytes: &'a [u8],
-}
 
 /// A verifier's requirements for a token: a [`Policy`] in numbers. They have a meaning only if
 /// [`has_meaning`](Rules::has_meaning) says so.
@@ -98,39 +90,10 @@ fn are_assigned<T: EnumI64 + Drop>(numbers: &[i64]) -> bool
 fn values<T: EnumI64 + Drop>(alloc: Global, numbers: &[i64]) -> Result<Vec<T>, AllocError>
     ensures { IfOk result (λ values. values.items ≡ filter_map T.value_of numbers.now) }
 {
-    let mut values = Vec::new(alloc);
-    for number in numbers {
-        if let Some(value) = T::from_i64(*number) {
-            values.push(value)?;
-        }
-    }
-    Ok(values)
-}
-
-/// Returns true if each text is UTF-8.
-fn are_texts(texts: &[Text<'_>]) -> bool
-    ensures { result ≡ are_texts (texts_view texts.now) }
-{
-    texts
+    numbers
         .iter()
-        .all(|text| std::str::from_utf8(text.bytes).is_ok())
-}
-
-/// Returns the texts, without those that aren't UTF-8.
-///
-/// # Errors
-/// `AllocError` if an allocation fails.
-fn names<'a>(alloc: Global, texts: &[Text<'a>]) -> Result<Vec<&'a str>, AllocError>
-    ensures { IfOk result (λ names. map (λ s. s.now) names.items
-        ≡ filter is_utf8 (texts_view texts.now)) }
-{
-    let mut names = Vec::new(alloc);
-    for text in texts {
-        if let Ok(name) = std::str::from_utf8(text.bytes) {
-            names.push(name)?;
-        }
-    }
-    Ok(names)
+        .filter_map(|number| T::from_i64(*number))
+        .collect(alloc)
 }
 
 /// The lists of a policy.
