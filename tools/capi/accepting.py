@@ -2,9 +2,10 @@
 
 - `accepted` of c/wrappers/rust/accept.rs and c/wrappers/python/accept.py accepts the token of RFC 8392, appendix A.3, with the keys
   of appendix A.2.
-- `ring` and `keys` are for the rows of test_verify: which keys of a ring are tried, and which keys of a set can be read."""
-from capi.kinds import AUDIENCE, EXPIRED, ISSUER, NOT_YET_VALID, OK, REFUSED, pairs_of
-from capi.tokens import Verified, rings, rows, text
+- `ring` and `keys` are for the rows of test_verify: which keys of a ring are tried, and which keys of a set can be read.
+- `token` gets an answer of the wrong type: a plaintext for a signature or a MAC, or none for a ciphertext."""
+from capi.kinds import AUDIENCE, EXPIRED, ISSUER, MISUSE, NOT_YET_VALID, OK, REFUSED, pairs_of
+from capi.tokens import Refused, Verified, rings, rows, text, verifications
 from capi.vectors import named, status_of, token
 from cbor import decode, encode
 
@@ -39,9 +40,22 @@ def acceptances():
     yield ("accepted", 0, other, [NBF, AS, key_set, signed.replace(b"coap://light", b"coap://night"), signature], AUDIENCE, None)
 
 
+def wrong_answers():
+    """Yields calls for the accepted tokens of test_verify, with one wrong answer in place of the answer for each layer."""
+    for row, answer in rows("verify"):
+        for call, layers in verifications(row, answer) if answer.startswith("ok") else ():
+            name, number, data, words, *_ = call
+            for place, layer in enumerate(layers):
+                said = ",".join([*words[-1].split(",")[:place], "wrong"])
+                texts = b"".join(it.proof + it.structure for it in layers[: place + 1]).hex()
+                facts = ",".join(it.facts() for it in layers[: place + 1])
+                yield (name, number, data, [*words[:-1], said], MISUSE, Refused([place, 0, 0], [str(place + 1), texts, facts]))
+
+
 def calls():
     """Yields all calls of this file."""
     yield from acceptances()
+    yield from wrong_answers()
     for row, answer in rows("ring"):
         yield from rings(row, answer)
     for (_, keys), answer in rows("keys"):

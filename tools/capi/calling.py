@@ -141,8 +141,9 @@ def lengths(program, check):
 # ---- from Rust and Python
 
 
-# The statuses against a layer of a token. The others are against the whole token.
-OF_LAYER = (*range(3, 13), NOT_ALLOWED, CRITICAL, REFUSED, HEADERS)
+# The statuses against a layer of a token. The others are against the whole token. A wrapper reports an answer of the wrong type as
+# the misuse of a layer.
+OF_LAYER = (*range(3, 14), NOT_ALLOWED, CRITICAL, REFUSED, HEADERS)
 
 
 def refusal_told(status, refused):

@@ -84,7 +84,7 @@ def name(issuer):
 
 
 class Script:
-    """The answers for the layers of a token, and the questions that were asked."""
+    """The answers for the layers of a token, and the questions that were asked. The answer `wrong` has the wrong type."""
 
     def __init__(self, word):
         self.answers, self.asked, self.heard = iter(word.split(",")), b"", []
@@ -97,6 +97,8 @@ class Script:
         said, _, issuer = next(self.answers, "no").partition("@")
         if said == "no":
             return None
+        if said == "wrong":
+            return b"" if layer.form != coset.ENCRYPT0 else True
         answer = True if layer.form != coset.ENCRYPT0 else data(said[1:]) if said[0] == "p" else b""
         return (answer, data(issuer).decode()) if issuer else answer
 
@@ -165,6 +167,9 @@ def opened(script, given, now, rules, algorithms, critical, required, audiences,
     except coset.InvalidToken as refused:
         told = ["-" if it is None else str(it) for it in (refused.layer, refused.number)]
         print(_REFUSED[refused.reason], *told, script.told())
+        return None
+    except TypeError:
+        print("Misuse", len(script.heard) - 1, "-", script.told())
         return None
     return f"{told_token(token)} {script.told()}"
 

@@ -13,6 +13,7 @@ from coset.crypto import CIPHERS
 from cryptography.hazmat.primitives import hashes, hmac
 from cryptography.hazmat.primitives.asymmetric import ec, ed448, ed25519, padding, rsa, utils
 from cryptography.hazmat.primitives.ciphers import aead
+from cryptography.hazmat.primitives.serialization import Encoding, PublicFormat
 
 HERE = os.path.dirname(os.path.abspath(__file__))
 sys.path.append(os.path.join(HERE, "..", "..", "..", "tools"))
@@ -163,7 +164,7 @@ def by_curve(algorithm, hash_, number, curve, key_id=b"", compressed=False):
 
 def by_edwards(number, kind, key_id=b"", algorithm=coset.EDDSA):
     private = kind.generate()
-    return Maker(algorithm, coset.SIGN1, {1: 1, -1: number, -2: private.public_key().public_bytes_raw()}, private.sign, key_id)
+    return Maker(algorithm, coset.SIGN1, {1: 1, -1: number, -2: private.public_key().public_bytes(Encoding.Raw, PublicFormat.Raw)}, private.sign, key_id)
 
 
 RSA_KEY = rsa.generate_private_key(65537, 2048)

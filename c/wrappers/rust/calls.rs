@@ -238,7 +238,7 @@ fn token_form(number: u64) -> TokenForm {
 }
 
 /// The answers for the layers of a token, with the names of issuers, and the questions that were
-/// asked.
+/// asked. The answer `wrong` has a plaintext if it should have none, and the other way round.
 struct Script<'a> {
     answers: std::slice::Iter<'a, (&'a str, Option<String>)>,
     asked: String,
@@ -260,7 +260,7 @@ impl<'a> Script<'a> {
         self.heard.push(format!("{}/{}/{map}/{texts}", layer.form as u32, layer.algorithm));
         let (said, issuer) = self.answers.next().map_or(("no", None), |(said, issuer)| (*said, issuer.as_deref()));
         let plaintext = said.strip_prefix('p').map(bytes).unwrap_or_default();
-        let is_encrypted = layer.form == TokenForm::Encrypt0;
+        let is_encrypted = (layer.form == TokenForm::Encrypt0) != (said == "wrong");
         (said != "no").then_some(Opened { plaintext: is_encrypted.then_some(plaintext), issuer })
     }
 }

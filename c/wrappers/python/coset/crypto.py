@@ -45,6 +45,9 @@ _CCM = {
     coset.AES_CCM_64_128_256: 16,
 }
 
+# The errors for a key that doesn't have the members of the algorithm.
+_UNFIT = coset.Fault, coset.WrongType, LookupError
+
 
 def _imported(module):
     """Returns a module of the package `cryptography`."""
@@ -129,9 +132,20 @@ def _aead(key, algorithm):
 
 
 def _refusals():
-    """Returns the errors by which `cryptography` refuses a signature, a ciphertext, a key or an algorithm."""
+    """Returns the errors for a signature, a ciphertext, a key or an algorithm that is refused."""
     exceptions = _imported("exceptions")
-    return exceptions.InvalidSignature, exceptions.InvalidTag, exceptions.UnsupportedAlgorithm, ValueError, OverflowError, LookupError
+    refused = exceptions.InvalidSignature, exceptions.InvalidTag, exceptions.UnsupportedAlgorithm, ValueError, OverflowError
+    return *refused, *_UNFIT
+
+
+def _is_mac(key, algorithm, input, proof):
+    """Returns True if the proof is the MAC of the input. Both are compared in constant time."""
+    name, length = _HMAC[algorithm]
+    try:
+        secret = _member(key, _LABEL_K)
+    except _UNFIT:
+        return False
+    return hmac.compare_digest(hmac.digest(secret, input, name)[:length], proof)
 
 
 class Ciphers:
@@ -141,8 +155,7 @@ class Ciphers:
         """Returns True if the proof is a signature or a MAC of the input by the key, a KEY. Returns False if not, or if
         there is no cipher for the algorithm."""
         if algorithm in _HMAC:
-            name, length = _HMAC[algorithm]
-            return hmac.compare_digest(hmac.digest(_member(key, _LABEL_K), input, name)[:length], proof)
+            return _is_mac(key, algorithm, input, proof)
         if algorithm not in _VERIFIERS:
             return False
         try:
