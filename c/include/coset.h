@@ -450,11 +450,13 @@ typedef struct coset_layer {
  *                      layers : [+ verified_layer] ]
  *   verified_layer = [ form : 1 / 3 / 5, protected : bstr, unprotected : header_map, issuer : tstr / nil ]
  *
- * claims are without the others, and without aud if that is an array. audience are the texts of aud. others are the
- * claims whose numbers are neither assigned by IANA nor for private use. issuer is the name of the issuer whose key authenticated the token, and iss
- * is that name if the token has it. layers begin with the outermost one. protected is the content of the protected
- * header's byte string, as received.
+ * - claims are without the others, and without aud if that is an array.
+ * - audience are the texts of aud.
+ * - others are the claims whose numbers are neither assigned by IANA nor for private use.
+ * - issuer is the name of the issuer whose key authenticated the token. If the token has iss, that is the same name.
+ * - layers begin with the outermost one. protected is the content of the protected header's byte string, as received.
  *
+ * The arguments:
  * - algorithms are those that you allow, each in layers of its own form. The status is COSET_MISUSE if IANA hasn't
  *   assigned one of these numbers, or one of `required`.
  * - critical are the labels that you understand, besides 1 to 6, 15 and 16.
@@ -464,8 +466,8 @@ typedef struct coset_layer {
  *   isn't looked at.
  *
  * The status is COSET_MISUSE also if a number of the rules has no meaning, or if a text or the name of an opened layer's
- * issuer isn't UTF-8. Also: COSET_SHORT, COSET_ABSENT if a layer carries no payload or ciphertext, and the statuses from
- * COSET_NOT_ALLOWED to COSET_MISSING. */
+ * issuer isn't UTF-8. Also: COSET_SHORT, COSET_ABSENT if a layer carries no payload or ciphertext, and the statuses
+ * from COSET_NOT_ALLOWED to COSET_MISSING. */
 COSET_CALL(1, 21, 22)
 coset_status coset_token_open(const coset_rules *rules, const int64_t *algorithms, size_t algorithms_len,
                               const int64_t *critical, size_t critical_len, const int64_t *required, size_t required_len,

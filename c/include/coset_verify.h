@@ -476,14 +476,14 @@ static inline coset_status coset_work_ask(struct coset_work *work, const coset_l
 
 /* Verifies a token at `now`, in seconds since 1970 began in UTC, and returns the status.
  *
- * If the status is COSET_OK, `opener` said yes to each layer, and the token meets the policy. `*token` has its parts. After
- * any other status the pointers of `*token` are NULL, and `work` has zeros, unless `cap` is above PTRDIFF_MAX.
- * COSET_REFUSED means that `opener` said no.
+ * If the status is COSET_OK, `opener` said yes to each layer, and the token meets the policy. `*token` then has its
+ * parts. After any other status the pointers of `*token` are NULL, and `work` has zeros, unless `cap` is above
+ * PTRDIFF_MAX. COSET_REFUSED means that `opener` said no.
  *
  * `work` needs room for the texts of each layer, plaintexts, names of issuers, and the verified token. Nine times the
- * token's length and 64 bytes for each of its layers are enough, if the names are short (docs/C.md: A web token). If
- * `work` is too small, the status is COSET_SHORT, and token->needed says how much the next step needs. A later step may
- * need more. */
+ * token's length and 64 bytes for each of its layers are enough, if the names of issuers and audience are short
+ * (docs/C.md: The room). If `work` is too small, the status is COSET_SHORT, and token->needed says how much the next
+ * step needs. It is more than `cap`. A later step may need more. */
 static inline coset_status coset_token_verify(const uint8_t *in, size_t in_len, int64_t now, const coset_token_policy *policy,
                                               coset_opener opener, void *context, uint8_t *work, size_t cap,
                                               coset_token *token) {

@@ -10,7 +10,7 @@ import subprocess
 import tempfile
 
 from capi import calling
-from capi.building import FLAGS, WRAPPERS, run
+from capi.building import FLAGS, WRAPPERS, has_openssl, run
 from capi.kinds import NAMES, OK, REFUSED
 from capi.tokens import listed, policy_of, rows, text
 from cbor import byte_string, decode, encode, head
@@ -379,8 +379,7 @@ def examples(calls):
 
 def lacking():
     """Returns what isn't installed, or None."""
-    ran = subprocess.run(["cc", "-E", "-x", "c", "-"], input="#include <openssl/param_build.h>\n", capture_output=True, text=True)
-    if ran.returncode:
+    if not has_openssl():
         return "the header of OpenSSL 3"
     return None if importlib.util.find_spec("cryptography") else "cryptography for Python"
 
@@ -401,11 +400,13 @@ def accepted(folder, check):
             for name, data in (("as", keys_of(keys[0].public, keys[1].public)), ("hub", keys_of(keys[2].public)), ("token", token)):
                 with open(f"{files}/{name}", "wb") as file:
                     file.write(data)
-            return subprocess.run([f"{folder}/accept", *(f"{files}/{it}" for it in ("as", "hub", "token"))], capture_output=True, text=True)
+            words = [f"{folder}/accept", *(f"{files}/{it}" for it in ("as", "hub", "token"))]
+            return subprocess.run(words, capture_output=True, text=True, check=False)
         tries = 0
         for place, key in enumerate(keys):
             name = HUB if place == 2 else AS
-            for status, change in ((0, {}), (0, {4: here - 50}), (1, {4: here - 70}), (1, {3: "coap://x"}), (1, {1: "x"}), (1, {5: here + 70})):
+            for status, change in ((0, {}), (0, {4: here - 50}), (1, {4: here - 70}), (1, {3: "coap://x"}), (1, {1: "x"}),
+                                   (1, {5: here + 70})):
                 token = key.seal(item({1: name, 2: "erikw", 3: audience, 4: here + 100, **change}))
                 for data, wanted in ((token, status), (flipped(token, 8 * len(token) - 1), 1)):
                     ran = run_with(data)
@@ -440,7 +441,8 @@ def tried(folder, objects, check):
 def refusals(program, calls, number, check):
     """Refuses an allocation of each call. No other token is then accepted. Returns how many allocations were refused."""
     refused = 0
-    for asked, want, got in zip(calls.lines, calls.wanted, calling.answers([program], calls.lines, check, env={**os.environ, "REFUSE": str(number)})):
+    told = calling.answers([program], calls.lines, check, env={**os.environ, "REFUSE": str(number)})
+    for asked, want, got in zip(calls.lines, calls.wanted, told):
         is_less = got.split()[0] in ("2", str(REFUSED)) and want[0] != got.split()[0]
         refused += is_less
         check(is_less or calling.agrees(got.split(), want) or asked.startswith("roomy "), f"OpenSSL, refused {number}: {asked}: {got}")

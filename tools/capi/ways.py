@@ -79,6 +79,8 @@ def with_memory(given, folder, lines, wanted, wrong):
     """Makes some calls from C with refused allocations, with little stack and under valgrind. Returns the numbers of calls."""
     program, few = f"{folder}/calls_c", slice(None, None, max(1, len(lines) // 400))
     told = [f"refused {memory.refusals(program, lines[few], wanted[few], wrong.check)}"]
+    of_tokens = [pair for pair in zip(lines, wanted) if pair[0].startswith(("token ", "open ", "fits "))][::40]
+    told.append(f"of token calls {memory.refusals(program, *zip(*of_tokens), wrong.check)}")
     if not given.quick:
         with tempfile.TemporaryDirectory() as hostile:
             told.append(f"within 1 MB of stack {memory.within_stack(program, hostile, wrong.check)}")
@@ -125,6 +127,7 @@ def called(given, folder, objects, wrong):
     lines, wanted = calling.from_c(f"{folder}/calls_c", every, wrong.check)
     calling.lengths(f"{folder}/calls_c", wrong.check)
     told = [f"calls {len(calls)}", f"from C {len(lines)}"]
+    told += openssl.tried(folder, objects, wrong.check)
     told += of_library(given, folder, objects, wrong)
     told += with_memory(given, folder, lines, wanted, wrong)
     told += by_wrappers(given, folder, calls, wrong)
