@@ -3,8 +3,10 @@
 - `accepted` of c/wrappers/rust/accept.rs and c/wrappers/python/accept.py accepts the token of RFC 8392, appendix A.3, with the keys
   of appendix A.2.
 - `ring` and `keys` are for the rows of test_verify: which keys of a ring are tried, and which keys of a set can be read.
-- `token` gets an answer of the wrong type: a plaintext for a signature or a MAC, or none for a ciphertext."""
-from capi.kinds import AUDIENCE, EXPIRED, ISSUER, MISUSE, NOT_YET_VALID, OK, REFUSED, pairs_of
+- `token` gets an answer of the wrong type: a plaintext for a signature or a MAC, or none for a ciphertext.
+- The calls of openssl.py are made with the ciphers of coset.crypto."""
+from capi import calling, openssl
+from capi.kinds import AUDIENCE, EXPIRED, ISSUER, MISUSE, NAMES, NOT_YET_VALID, OK, REFUSED, UNFIT, pairs_of
 from capi.tokens import Refused, Verified, rings, rows, text, verifications
 from capi.vectors import named, status_of, token
 from cbor import decode, encode
@@ -61,3 +63,24 @@ def calls():
     for (_, keys), answer in rows("keys"):
         is_read, data = answer.startswith("ok"), bytes.fromhex(keys.replace("-", ""))
         yield ("keys", 0, data, [], OK if is_read else status_of("error: " + answer), answer[3:] if is_read else None)
+
+
+def is_as_openssl(want, got):
+    """Returns true if coset.crypto accepts what coset_openssl.h accepts, with the same claims and issuer, or refuses it likewise."""
+    name, *told = got.split()
+    if want[0] == "changed":
+        return name not in ("ok", "Short", "Memory")
+    if want[0] == str(OK):
+        return name == "ok" and (told[0], told[3]) == (want[2], want[5])
+    return name in ([NAMES[REFUSED], NAMES[UNFIT]] if want[0] == str(REFUSED) else [NAMES[int(want[0])]])
+
+
+def by_ciphers(command, check, **more):
+    """Makes the calls of openssl.py from Python. Returns their number."""
+    calls = openssl.Calls()
+    for add in (openssl.every_algorithm, openssl.wrong_signatures, openssl.short_rsa, openssl.wrong_points, openssl.rings, openssl.examples):
+        add(calls)
+    made = [(line, want) for line, want in zip(calls.lines, calls.wanted) if line.startswith("openssl ")]
+    for (line, want), got in zip(made, calling.answers(command, [line for line, _ in made], check, **more)):
+        check(is_as_openssl(want, got), f"coset.crypto: {line}: {got} and not {want}")
+    return len(made)

@@ -155,6 +155,29 @@ class Ring:
     told = Script.told
 
 
+class Crypto:
+    """A ring of keys with the ciphers of coset.crypto. A set that isn't an array counts as empty, as in coset_openssl.h, and an empty
+    name as none."""
+
+    def __init__(self, sets):
+        named = [word.split(":") for word in sets.split(",")]
+        self.ring = coset.KeyRing([(None if issuer in ("-", "t") else data(issuer[1:]).decode(), self.keys(keys)) for issuer, keys in named])
+
+    @staticmethod
+    def keys(word):
+        try:
+            coset.readable_keys(data(word))
+        except coset.Fault:
+            return b"\x80"
+        return data(word)
+
+    def __call__(self, layer):
+        return self.ring(layer)
+
+    def told(self):
+        return "-"
+
+
 def opened(script, given, now, rules, algorithms, critical, required, audiences, types):
     """Returns the result of `verify_token` and the questions that it asked, as calls.c describes them. After a refusal,
     prints the layer and the number in place of the token, and returns None."""
@@ -227,6 +250,7 @@ _SEVERAL = {
     "safe": safe,
     "token": lambda _, given, *words: opened(Script(words[-1]), given, *words[:-1]),
     "ring": lambda _, given, *words: opened(Ring(*words[-2:]), given, *words[:-2]),
+    "openssl": lambda _, given, *words: opened(Crypto(words[-1]), given, *words[:-1]),
     "keys": lambda _, given, *words: " ".join(key.hex() for key in coset.readable_keys(given)),
     "accepted": lambda _, given, *words: acceptance(given, *words),
     "fits": fits,

@@ -105,11 +105,14 @@ def _verify_eddsa(key, _, input, proof):
 
 
 def _verify_rsa(key, algorithm, input, proof):
-    """The salt of PS256 and its kind is as long as the hash (RFC 8230, section 2)."""
+    """The salt of PS256 and its kind is as long as the hash (RFC 8230, section 2). A signature is as long as the modulus
+    (RFC 8017, section 8.1.2)."""
     rsa, padding = _imported("hazmat.primitives.asymmetric.rsa"), _imported("hazmat.primitives.asymmetric.padding")
     hash_ = _hash(_PSS.get(algorithm) or _PKCS1[algorithm])
     padded = padding.PSS(padding.MGF1(hash_), hash_.digest_size) if algorithm in _PSS else padding.PKCS1v15()
     n, e = (int.from_bytes(_member(key, name), "big") for name in (_LABEL_N, _LABEL_E))
+    if len(proof) != (n.bit_length() + 7) // 8:
+        raise ValueError("a signature of another length")
     rsa.RSAPublicNumbers(e, n).public_key().verify(proof, input, padded, hash_)
 
 
