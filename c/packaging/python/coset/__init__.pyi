@@ -164,7 +164,7 @@ class Layer(NamedTuple):
     proof: bytes
     iv: bytes | None
     partial_iv: bytes | None
-    index: int
+    index: int  # type: ignore[assignment]
 
 class VerifiedLayer(NamedTuple):
     form: int
@@ -272,7 +272,11 @@ class _Ciphers(Protocol):
     def decrypt(self, key: bytes, algorithm: int, nonce: bytes, aad: bytes, ciphertext: bytes) -> _Bytes | None: ...
 
 class KeyRing:
-    def __init__(self, issuers: dict[str | None, _Bytes] | Iterable[tuple[str | None, _Bytes]], ciphers: _Ciphers | None = None) -> None: ...
+    def __init__(
+        self,
+        issuers: Mapping[str, _Bytes] | Mapping[str | None, _Bytes] | Iterable[tuple[str | None, _Bytes]],
+        ciphers: _Ciphers | None = None,
+    ) -> None: ...
     def __call__(self, layer: Layer) -> tuple[bool | bytes, str | None] | None: ...
 
 def verify_token(

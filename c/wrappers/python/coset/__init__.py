@@ -19,6 +19,7 @@ import os
 import struct
 import time
 from collections import namedtuple
+from collections.abc import Mapping
 
 
 class Kind(enum.IntEnum):
@@ -985,7 +986,7 @@ class KeyRing:
         if ciphers is None:
             from coset.crypto import CIPHERS as ciphers
         self._ciphers, self._keys = ciphers, []
-        for name, keys in issuers.items() if isinstance(issuers, dict) else issuers:
+        for name, keys in issuers.items() if isinstance(issuers, Mapping) else issuers:
             self._keys += [(_issuer(name), key) for key in readable_keys(keys)]
 
     def __call__(self, layer):
@@ -1078,7 +1079,7 @@ def put_all(kind, data, pairs):
     `pairs` is a dict, or labels with values. A label is an int or a str. A value is an int, a str, bytes, or
     Encoded, one item of CBOR."""
     parts = bytearray()
-    told = [_pair(name, value, parts) for name, value in (pairs.items() if isinstance(pairs, dict) else pairs)]
+    told = [_pair(name, value, parts) for name, value in (pairs.items() if isinstance(pairs, Mapping) else pairs)]
     return _written(_library.coset_put_all, _kind(kind), *_bytes(data), (_Pair * len(told))(*told), len(told), *_bytes(parts))
 
 
