@@ -878,8 +878,10 @@ def _token_open(given, data, now, layers, known):
 
 def _refuse(status, view):
     """Raises the error of a status other than success."""
-    if status in (_MEMORY, _MISUSE):
-        _raise(status)
+    if status == _MISUSE:
+        raise Misuse("an algorithm or a required claim isn't assigned, a number has no meaning, or there are audiences with any_audience")
+    if status == _MEMORY:
+        raise MemoryError
     number = {_NOT_ALLOWED: view.algorithm or None, _MISSING: view.claim}.get(status)
     raise InvalidToken(status, view.index if status in _OF_LAYER else None, number)
 
