@@ -456,5 +456,7 @@ for call in (lambda: coset.crypto.CIPHERS.verify(key, -7, b"", bytes(64)), lambd
 """
 subprocess.run([sys.executable, "-c", program], check=True, cwd=HERE)
 
-told = {"bits of the RFC's tokens": flips, "moments": outcomes}
-print(f"tokens {CALLS['tokens']}, algorithms {len({maker.algorithm for maker in MAKERS})}, {told}")
+print(
+    f"tokens {CALLS['tokens']} by {len({maker.algorithm for maker in MAKERS})} algorithms, changed bits {flips['refused']} refused and "
+    f"{flips['in the unprotected header']} in unprotected headers, moments {outcomes[True]} accepted and {outcomes[False]} refused"
+)
