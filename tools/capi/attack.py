@@ -31,10 +31,10 @@ def enum(text, first):
 
 def class_of(type_, name, before):
     """Returns the letter by which attack.c makes an argument, and the type of the result in it. Unknown arguments are None."""
-    if type_ == "size_t" and before in ("b", "w", "o", "p", "x"):
-        return {"b": "z", "w": "y", "o": "c", "p": "q", "x": "n"}[before], None
-    if type_ == "const coset_pair *":
-        return "p", None
+    if type_ == "size_t" and before in ("b", "w", "o", "p", "t", "x"):
+        return {"b": "z", "w": "y", "o": "c", "p": "q", "t": "m", "x": "n"}[before], None
+    if type_ in ("const coset_pair *", "const coset_text *"):
+        return type_[12], None
     if type_.startswith("const coset_"):
         return ("r" if name == "rules" else "x"), type_[6:-2]
     if type_ == "const int64_t *":
@@ -75,7 +75,7 @@ def table(text):
         if None in found:
             left.append(name)
             continue
-        words = ", ".join(f"a[{at}].at" if letter in "bwpolavxr" else f"a[{at}].number" for at, (letter, _) in enumerate(found))
+        words = ", ".join(f"a[{at}].at" if letter in "bwptolavxr" else f"a[{at}].number" for at, (letter, _) in enumerate(found))
         lines.append(f"static int32_t call_{place}(const union word *a) {{ return {name}({words}); }}")
         sizes = ", ".join(f"sizeof({type_})" if type_ else "0" for _, type_ in found)
         rows.append(f'    {{"{name}", call_{place}, "{"".join(letter for letter, _ in found)}", {{{sizes}}}}},')
@@ -83,8 +83,19 @@ def table(text):
     return "\n".join(lines) + "\n", left
 
 
+def tokens():
+    """Yields the tokens and the keys of test_verify: the number of a kind, and the bytes."""
+    with open(f"{HERE}/crates/test_verify/stdin", encoding="utf-8") as file:
+        for words in map(str.split, file):
+            if words[:1] in (["verify"], ["ring"]) and re.fullmatch(r"([0-9a-f]{2}){1,8192}", words[-1]):
+                yield number_of("sign1") + TAGGED, bytes.fromhex(words[-1])
+            elif words[:1] == ["fits"]:
+                yield number_of("key"), bytes.fromhex(words[1])
+
+
 def rows():
-    """Yields the rows of coset_vectors that have bytes: the number of the kind, and the bytes."""
+    """Yields the rows of coset_vectors that have bytes, and those of test_verify: the number of the kind, and the bytes."""
+    yield from tokens()
     with open(f"{HERE}/crates/coset_vectors/stdin", encoding="utf-8") as file:
         for line in file:
             words = line.split()

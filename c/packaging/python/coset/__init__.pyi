@@ -1,6 +1,6 @@
 from collections.abc import Callable, Collection, Iterable, Mapping
 from enum import IntEnum
-from typing import Any, NamedTuple
+from typing import NamedTuple, Protocol
 
 _Bytes = bytes | bytearray | memoryview
 
@@ -66,6 +66,75 @@ UNDERSTOOD: int
 NOT_UNDERSTOOD: int
 BY_SIGNATURE: int
 BY_ANY: int
+ES256: int
+ES384: int
+ES512: int
+ES256K: int
+ESP256: int
+ESP384: int
+ESP512: int
+EDDSA: int
+ED25519: int
+ED448: int
+PS256: int
+PS384: int
+PS512: int
+RS256: int
+RS384: int
+RS512: int
+HMAC_256_64: int
+HMAC_256_256: int
+HMAC_384_384: int
+HMAC_512_512: int
+A128GCM: int
+A192GCM: int
+A256GCM: int
+CHACHA20_POLY1305: int
+AES_CCM_16_64_128: int
+AES_CCM_16_64_256: int
+AES_CCM_64_64_128: int
+AES_CCM_64_64_256: int
+AES_CCM_16_128_128: int
+AES_CCM_16_128_256: int
+AES_CCM_64_128_128: int
+AES_CCM_64_128_256: int
+
+class Status(IntEnum):
+    OK = 0
+    SHORT = 1
+    MEMORY = 2
+    ENDS = 3
+    MALFORMED = 4
+    DEEP = 5
+    EXTRANEOUS = 6
+    UNEXPECTED = 7
+    DUPLICATE = 8
+    OUT_OF_RANGE = 9
+    UNREGISTERED = 10
+    NOT_PRIVATE = 11
+    ABSENT = 12
+    MISUSE = 13
+    TYPE = 14
+    EMPTY = 15
+    NOT_ALLOWED = 16
+    CRITICAL = 17
+    REFUSED = 18
+    LAYER = 19
+    TOO_DEEP = 20
+    UNAUTHENTICATED = 21
+    NOT_CLAIMS = 22
+    NO_EXPIRATION = 23
+    EXPIRED = 24
+    NOT_YET_VALID = 25
+    ISSUED_LATER = 26
+    TOO_OLD = 27
+    ISSUER = 28
+    AUDIENCE = 29
+    HEADERS = 30
+    TOKEN_TYPE = 31
+    HEADER_CLAIMS = 32
+    MISSING = 33
+    UNFIT = 34
 
 class Fault(ValueError):
     status: int
@@ -78,20 +147,37 @@ class WrongType(TypeError): ...
 class Misuse(TypeError): ...
 class Refused(Exception): ...
 class NotAllowed(Refused): ...
-class NotLetIn(Refused):
-    status: int
-    def __init__(self, status: int) -> None: ...
 class Critical(Refused): ...
+
+class InvalidToken(Exception):
+    reason: Status
+    layer: int | None
+    number: int | None
+    def __init__(self, reason: int, layer: int | None = None, number: int | None = None) -> None: ...
 
 class Layer(NamedTuple):
     form: int
     algorithm: int
     key_id: bytes | None
-    key_id_map: int
+    key_id_map: int | None
     input: bytes
     proof: bytes
     iv: bytes | None
     partial_iv: bytes | None
+    index: int  # type: ignore[assignment]
+
+class VerifiedLayer(NamedTuple):
+    form: int
+    protected: bytes
+    unprotected: bytes
+    issuer: str | None
+
+class VerifiedToken(NamedTuple):
+    claims: bytes
+    audience: tuple[str, ...]
+    others: bytes
+    issuer: str | None
+    layers: tuple[VerifiedLayer, ...]
 
 class Question(NamedTuple):
     algorithm: int
@@ -179,24 +265,40 @@ def decrypt(
     external_aad: _Bytes = b"",
     detached: _Bytes | None = None,
 ) -> bytes: ...
-def token_claims(
+_Said = bool | _Bytes | None
+
+class _Ciphers(Protocol):
+    def verify(self, key: bytes, algorithm: int, input: bytes, proof: bytes) -> bool | None: ...
+    def decrypt(self, key: bytes, algorithm: int, nonce: bytes, aad: bytes, ciphertext: bytes) -> _Bytes | None: ...
+
+class KeyRing:
+    def __init__(
+        self,
+        issuers: Mapping[str, _Bytes] | Mapping[str | None, _Bytes] | Iterable[tuple[str | None, _Bytes]],
+        ciphers: _Ciphers | None = None,
+    ) -> None: ...
+    def __call__(self, layer: Layer) -> tuple[bool | bytes, str | None] | None: ...
+
+def verify_token(
     data: _Bytes,
-    now: int,
-    opener: Callable[[Layer], bool | _Bytes | None],
-    signatures: Collection[int] = (),
-    macs: Collection[int] = (),
-    ciphers: Collection[int] = (),
-    critical: Collection[int] = (),
-    issuer: str | None = None,
-    audience: str | None = None,
+    keys: Callable[[Layer], _Said | tuple[_Said, str | None]],
+    algorithms: Iterable[int],
+    *,
+    audience: Iterable[str] = (),
+    types: Iterable[str] = (),
+    required: Iterable[int] = (),
+    critical: Iterable[int] = (),
     leeway: int = 0,
     max_age: int | None = None,
-    plain: int = ...,
+    untagged_form: int = ...,
     authenticated_by: int = 0,
-    leaves_out: bool = False,
+    any_audience: bool = False,
     may_not_expire: bool = False,
     may_be_issued_later: bool = False,
-) -> bytes: ...
+    now: float | None = None,
+) -> VerifiedToken: ...
+def key_fits(key: _Bytes, layer: Layer) -> bytes | None: ...
+def readable_keys(keys: _Bytes) -> list[bytes]: ...
 def version() -> str: ...
 def status_text(status: int) -> str: ...
 def put(kind: int, data: _Bytes, name: int, value: int | str | _Bytes) -> bytes: ...

@@ -8,16 +8,18 @@ A call takes bytes and returns bytes, a number or None. It raises one of these e
 - WrongType if the requested value is of another type.
 - Empty, Misuse, and MemoryError.
 
-`verify` and `decrypt` return a message's contents only after the caller's function said yes. They also raise
-NotAllowed, Critical or Refused. `token_claims` returns the claims of a web token, and also raises NotLetIn. The
-header and docs/C.md say what each call promises.
+`verify_token` verifies a web token (RFC 8392) with the keys of a `KeyRing`. It raises InvalidToken if the token is
+refused. `verify` and `decrypt` return a message's contents only after the caller's function said yes. They also raise
+NotAllowed, Critical or Refused. The header and docs/C.md say what each call promises.
 """
 import ctypes
 import enum
+import math
 import os
 import struct
-import threading
+import time
 from collections import namedtuple
+from collections.abc import Mapping
 
 
 class Kind(enum.IntEnum):
@@ -39,7 +41,37 @@ BY_SIGNATURE, BY_ANY = range(1, 3)  # which layers authenticate who sent a token
 NONE, INT, TEXT, BYTES, ENCODED = range(0, 5)  # forms in which a message names its algorithm: the first three; and of labels and values
 UNDERSTOOD, NOT_UNDERSTOOD = range(1, 3)  # what there is of labels that must be understood; NONE where there are none
 
-_OK, _SHORT, _MEMORY, _ABSENT, _MISUSE, _TYPE, _EMPTY, _NOT_ALLOWED, _CRITICAL, _LAYER = 0, 1, 2, 12, 13, 14, 15, 16, 17, 19
+# The algorithms for which `coset.crypto` has ciphers, by their numbers (IANA, "COSE Algorithms").
+ES256, ES384, ES512, ES256K, ESP256, ESP384, ESP512 = -7, -35, -36, -47, -9, -51, -52
+EDDSA, ED25519, ED448 = -8, -19, -53
+PS256, PS384, PS512, RS256, RS384, RS512 = -37, -38, -39, -257, -258, -259
+HMAC_256_64, HMAC_256_256, HMAC_384_384, HMAC_512_512 = 4, 5, 6, 7
+A128GCM, A192GCM, A256GCM, CHACHA20_POLY1305 = 1, 2, 3, 24
+AES_CCM_16_64_128, AES_CCM_16_64_256, AES_CCM_64_64_128, AES_CCM_64_64_256 = 10, 11, 12, 13
+AES_CCM_16_128_128, AES_CCM_16_128_256, AES_CCM_64_128_128, AES_CCM_64_128_256 = 30, 31, 32, 33
+
+
+class Status(enum.IntEnum):
+    """The statuses of the header, by their names without COSET_. str() is the name."""
+
+    OK, SHORT, MEMORY, ENDS, MALFORMED, DEEP, EXTRANEOUS, UNEXPECTED, DUPLICATE, OUT_OF_RANGE, UNREGISTERED, NOT_PRIVATE = range(0, 12)
+    ABSENT, MISUSE, TYPE, EMPTY, NOT_ALLOWED, CRITICAL = range(12, 18)
+    REFUSED = 18  # of coset_verify.h
+    LAYER, TOO_DEEP, UNAUTHENTICATED, NOT_CLAIMS, NO_EXPIRATION, EXPIRED, NOT_YET_VALID, ISSUED_LATER, TOO_OLD = range(19, 28)
+    ISSUER, AUDIENCE = range(28, 30)
+    HEADERS, TOKEN_TYPE, HEADER_CLAIMS, MISSING, UNFIT = range(30, 35)
+
+    def __str__(self):
+        return self.name
+
+    def __format__(self, spec):
+        return format(self.name, spec)
+
+
+_OK, _SHORT, _MEMORY, _ABSENT, _MISUSE, _TYPE, _EMPTY, _NOT_ALLOWED, _CRITICAL = 0, 1, 2, 12, 13, 14, 15, 16, 17
+_LAYER, _MISSING, _UNFIT = 19, 33, 34
+# The statuses against a layer of a token. The others are against the whole token.
+_OF_LAYER = frozenset([*range(3, 13), _NOT_ALLOWED, _CRITICAL, Status.REFUSED, Status.HEADERS])
 _FAULTS = {
     3: "the bytes end before the item does",
     4: "the bytes aren't well-formed",
@@ -66,7 +98,7 @@ class Fault(ValueError):
         self.status, self.offset = status, offset
 
     def __str__(self):
-        return _FAULTS[self.status]
+        return _FAULTS.get(self.status) or status_text(self.status)
 
 
 class Absent(LookupError):
@@ -111,18 +143,32 @@ class Question(namedtuple("Question", "algorithm key_id key_id_map input proof")
     __slots__ = ()
 
 
-class NotLetIn(Refused):
-    """The token is refused. `status` is the reason, one of the header's statuses from COSET_TOO_DEEP on."""
+class InvalidToken(Exception):
+    """The token is refused. str() is a sentence that says why:
+    - `reason` is the first reason against the token, a Status. It is UNFIT if no key of a KeyRing fits a layer.
+    - `layer` is the index of the refused layer, counted from 0, the outermost. It is None if the reason isn't against
+      a layer.
+    - `number` is the number of the algorithm for NOT_ALLOWED, and that of the missing claim for MISSING. It is None
+      for another reason, and if the layer names no algorithm by a number."""
 
-    def __init__(self, status):
-        super().__init__(status)
-        self.status = status
+    def __init__(self, reason, layer=None, number=None):
+        super().__init__(reason, layer, number)
+        self.reason, self.layer, self.number = Status(reason), layer, number
 
     def __str__(self):
-        return status_text(self.status)
+        subject = "the token" if self.layer is None else f"layer {self.layer} of the token"
+        told = _AGAINST.get(self.reason) or status_text(self.reason)
+        return f"{subject} is refused: {told}" + ("" if self.number is None else f" ({self.number})")
 
 
-class Layer(namedtuple("Layer", "form algorithm key_id key_id_map input proof iv partial_iv")):
+# The reasons against a token whose texts depend on the call.
+_AGAINST = {
+    Status.ABSENT: "it carries no payload or ciphertext",
+    Status.UNFIT: "no key fits it",
+}
+
+
+class Layer(namedtuple("Layer", "form algorithm key_id key_id_map input proof iv partial_iv index")):
     """The question that the caller's function answers for a layer of a token:
     - `form` is SIGN1, MAC0 or ENCRYPT0.
     - `algorithm` is one of the allowed ones.
@@ -130,7 +176,30 @@ class Layer(namedtuple("Layer", "form algorithm key_id key_id_map input proof iv
       in Sign1.
     - `input` is the structure that is signed, authenticated, or goes with the ciphertext.
     - `proof` is the signature, the MAC or the ciphertext.
-    - `iv` and `partial_iv` are the initialization vector and the partial one, each None if there is none."""
+    - `iv` and `partial_iv` are the initialization vector and the partial one, each None if there is none.
+    - `index` is the layer's index, counted from 0, the outermost."""
+
+    __slots__ = ()
+
+
+class VerifiedLayer(namedtuple("VerifiedLayer", "form protected unprotected issuer")):
+    """A layer of a verified token:
+    - `form` is SIGN1, MAC0 or ENCRYPT0.
+    - `protected` is the content of the protected header's byte string, as received: a HEADER, or no bytes.
+    - `unprotected` is the unprotected header, a HEADER.
+    - `issuer` is the name of the issuer whose key accepted the layer, or None."""
+
+    __slots__ = ()
+
+
+class VerifiedToken(namedtuple("VerifiedToken", "claims audience others issuer layers")):
+    """A verified token:
+    - `claims` are its claims, a CLAIMS. An `aud` that is an array is left out, and so are `others`.
+    - `audience` has the names in `aud`, which is a text or an array of texts.
+    - `others` are the claims whose numbers are neither assigned by IANA nor for private use, an ITEM: a map.
+    - `issuer` is the name of the issuer whose key authenticated the token, or None. The innermost authenticating layer
+      decides.
+    - `layers` has a VerifiedLayer for each layer, from the outermost in."""
 
     __slots__ = ()
 
@@ -218,14 +287,20 @@ class _Rules(ctypes.Structure):
         ("size", ctypes.c_size_t),
         ("leeway", ctypes.c_uint64),
         ("max_age", ctypes.c_uint64),
-        ("has_max_age", ctypes.c_uint32),
-        ("plain", ctypes.c_uint32),
+        ("untagged_form", ctypes.c_uint32),
         ("authenticated_by", ctypes.c_uint32),
-        ("leaves_out", ctypes.c_uint32),
+        ("any_audience", ctypes.c_uint32),
         ("may_not_expire", ctypes.c_uint32),
         ("may_be_issued_later", ctypes.c_uint32),
-        ("has_issuer", ctypes.c_uint32),
-        ("has_audience", ctypes.c_uint32),
+    ]
+
+
+class _Text(ctypes.Structure):
+    """coset_text of the header."""
+
+    _fields_ = [
+        ("chars", ctypes.c_char_p),
+        ("len", ctypes.c_size_t),
     ]
 
 
@@ -239,6 +314,8 @@ class _Opened(ctypes.Structure):
         ("proof_len", ctypes.c_size_t),
         ("plaintext", ctypes.c_size_t),
         ("plaintext_len", ctypes.c_size_t),
+        ("issuer", ctypes.c_size_t),
+        ("issuer_len", ctypes.c_size_t),
     ]
 
 
@@ -249,6 +326,8 @@ class _Layer(ctypes.Structure):
         ("form", ctypes.c_uint32),
         ("key_id_map", ctypes.c_uint32),
         ("algorithm", ctypes.c_int64),
+        ("claim", ctypes.c_int64),
+        ("index", ctypes.c_size_t),
         ("structure_len", ctypes.c_size_t),
         ("proof_len", ctypes.c_size_t),
         ("key_id_len", ctypes.c_size_t),
@@ -304,10 +383,11 @@ def _declare():
         "item_span": [*given, size, span],
         "string_span": [*given, span],
         "integer": [*given, ctypes.POINTER(integer)],
-        "token_claims": [
-            ctypes.POINTER(_Rules), *[ctypes.POINTER(integer), size] * 4, *given * 3, integer,
+        "token_open": [
+            ctypes.POINTER(_Rules), *[ctypes.POINTER(integer), size] * 3, *[ctypes.POINTER(_Text), size] * 2, *given, integer,
             ctypes.POINTER(_Opened), size, *given, *to, ctypes.POINTER(_Layer),
         ],
+        "key_fits": [*given, ctypes.c_uint32, integer, *given * 4, *to],
     }
     for name, arguments in calls.items():
         call = getattr(_library, "coset_" + name)
@@ -335,8 +415,6 @@ def _raise(status, offset=None):
         raise NotAllowed("the algorithm isn't one that is allowed")
     if status == _CRITICAL:
         raise Critical("a label that must be understood isn't")
-    if status > _LAYER:
-        raise NotLetIn(status)
     if status != _OK:
         raise Fault(status, offset)
 
@@ -536,17 +614,13 @@ def countersign_structure(kind, data, label, signer=b"", external_aad=b"", detac
     return _written(_library.coset_countersign_structure, _kind(kind), *given, detached is not None, *content)
 
 
-class _Room(threading.local):
-    """Memory for the structure, its length and the view of a message, and the addresses of these. A thread uses it for
-    all its calls."""
-
-    def __init__(self):
-        out, length, view = ctypes.create_string_buffer(4096), ctypes.c_size_t(), ctypes.create_string_buffer(ctypes.sizeof(_Spans))
-        self.parts = memoryview(out).cast("B"), length, view, *map(ctypes.addressof, (out, length, view))
-
-
-_room = _Room()
-_numbers = struct.Struct("@qIIIIIIINNNNNNN").unpack_from  # those of _Spans
+# The numbers of _Spans, and a length after them.
+_numbers = struct.Struct("@qIIIIIIINNNNNNNN").unpack_from
+_LENGTH_AT = ctypes.sizeof(_Spans)
+_TEXT_AT = _LENGTH_AT + ctypes.sizeof(ctypes.c_size_t)
+# Memory for these numbers and for the usual texts. Each call has its own, since a signal handler may make calls inside of it.
+_USUAL = 4096
+_Held = ctypes.c_char * (_TEXT_AT + _USUAL)
 _message_spans, _made = _library.coset_message_spans, tuple.__new__
 
 
@@ -558,30 +632,28 @@ def _seen(shape, kind, data, index, critical, external_aad, detached):
     aad, aad_len = (external_aad, len(external_aad)) if type(external_aad) is bytes else _bytes(external_aad)
     content, content_len = (b"", 0) if detached is None else _bytes(detached)
     known = (ctypes.c_int64 * len(critical))(*map(_int64, critical)) if critical else None
-    out, length, view, out_at, length_at, view_at = _room.parts
     # The structure has all arguments once, with heads. Texts that have no place in the message may follow it.
-    room, needed = 4096, 2 * data_len + aad_len + content_len + 128
+    room = max(_USUAL, 2 * data_len + aad_len + content_len + 128)
     while True:
-        if needed > room:
-            held = ctypes.create_string_buffer(needed)
-            out, out_at, room = memoryview(held).cast("B"), ctypes.addressof(held), needed
+        held = _Held() if room == _USUAL else (ctypes.c_char * (_TEXT_AT + room))()
+        at = ctypes.addressof(held)
         status = _message_spans(
             kind, data, data_len, index, aad, aad_len, detached is not None, content, content_len, known, len(critical),
-            out_at, room, length_at, view_at,
+            at + _TEXT_AT, room, at + _LENGTH_AT, at,
         )
         if status != _SHORT:
             break
-        needed = length.value
+        room = _numbers(held)[-1]
     if status != _OK:
         _raise(status)
-    algorithm, form, key_id_map, labels, is_tagged, is_proof, is_held, is_key, signed, at, n, held_at, held_n, key_at, key_n = _numbers(view)
-    proof = held = key = data
-    if not (is_proof and is_held and is_key):
-        text = out[: length.value].tobytes()
-        proof, held, key = (data if is_input else text for is_input in (is_proof, is_held, is_key))
+    algorithm, form, key_id_map, labels, is_tagged, is_proof, is_content, is_key, signed, at, n, content_at, content_n, key_at, key_n, length = _numbers(held)
+    proof = content = key = data
+    if not (is_proof and is_content and is_key):
+        text = held[_TEXT_AT : _TEXT_AT + length]
+        proof, content, key = (data if is_input else text for is_input in (is_proof, is_content, is_key))
     return _made(shape, (
         algorithm if form == INT else None, form, key_id_map or None, labels if shape is Message else labels != NONE, is_tagged != 0,
-        out[:signed].tobytes(), proof[at : at + n], held[held_at : held_at + held_n], key[key_at : key_at + key_n],
+        held[_TEXT_AT : _TEXT_AT + signed], proof[at : at + n], content[content_at : content_at + content_n], key[key_at : key_at + key_n],
     ))
 
 
@@ -620,10 +692,11 @@ def verify(kind, data, algorithms, verify, index=0, critical=(), external_aad=b"
     decides which signers are enough."""
     if _kind(kind) & 0xFF not in (SIGN1, SIGN, MAC0, MAC):
         raise Misuse("a kind without a signature or a tag")
-    found = message(kind, data, index, critical, external_aad, detached)
+    own = None if detached is None else _bytes(detached)[0]
+    found = message(kind, data, index, critical, external_aad, own)
     if verify(_asked(found, algorithms, found.proof)) is not True:
         raise Refused("the signature or the tag is refused")
-    return found.content if detached is None else bytes(detached)
+    return found.content if own is None else own
 
 
 def _found(call, *arguments):
@@ -642,14 +715,15 @@ def decrypt(kind, data, algorithms, decrypt, critical=(), external_aad=b"", deta
     arguments are those of `verify`."""
     if _kind(kind) & 0xFF != ENCRYPT0:
         raise Misuse("a kind of another call")
+    data, own = _bytes(data)[0], None if detached is None else _bytes(detached)[0]
     found = message(kind, data, 0, critical, external_aad)
     ivs = [_found(label_bytes, kind, data, which, 5) for which in (IN_PROTECTED, IN_UNPROTECTED)]
     carried = _found(part, kind, data, CIPHERTEXT)
-    if carried is not None and detached is not None:
+    if carried is not None and own is not None:
         raise Misuse("a ciphertext that the message carries and that is given too")
-    if carried is None and detached is None:
+    if carried is None and own is None:
         raise Absent("the ciphertext is detached")
-    question = _asked(found, algorithms, bytes(detached) if carried is None else carried)
+    question = _asked(found, algorithms, own if carried is None else carried)
     plain = decrypt(question, ivs[1] if ivs[0] is None else ivs[0])
     if plain is None:
         raise Refused("the ciphertext is refused")
@@ -661,6 +735,76 @@ def _integers(numbers):
     return (ctypes.c_int64 * len(numbers))(*map(_int64, numbers)), len(numbers)
 
 
+def _texts(names, field):
+    """Returns the texts as an array, and their number."""
+    if isinstance(names, (str, bytes)):
+        raise TypeError(f"{field} takes a list of texts, not one text")
+    names = list(names)
+    if not all(isinstance(name, str) for name in names):
+        raise TypeError(f"{field} takes texts")
+    texts = [name.encode() for name in names]
+    return (_Text * len(texts))(*((text, len(text)) for text in texts)), len(texts)
+
+
+def _flag(value, field):
+    """Returns 1 or 0 for True or False."""
+    if not isinstance(value, bool):
+        raise TypeError(f"{field} is True or False")
+    return int(value)
+
+
+def _seconds(number, field, least):
+    """Returns a number of seconds that the library takes."""
+    if isinstance(number, bool) or not isinstance(number, int):
+        raise TypeError(f"{field} is a whole number of seconds")
+    if not least <= number < 1 << 64:
+        raise ValueError(f"{field} is a number of seconds from {least} to 2**64 - 1")
+    return number
+
+
+def _moments(now):
+    """Returns the whole seconds before and after `now`, or `now` if it is whole. A token must be valid at each of them.
+    It is then valid at `now` too, because the moments at which it is valid have no gap."""
+    moment = time.time() if now is None else now
+    if isinstance(moment, bool) or not isinstance(moment, (int, float)):
+        raise TypeError("now is a number of seconds, or None")
+    return [_int64(second) for second in sorted({math.floor(moment), math.ceil(moment)})]
+
+
+def _elements(array):
+    """Yields the elements of an array, as received."""
+    try:
+        number = count(ITEM, array)
+    except Empty:
+        return
+    at = member_span(ITEM, array, 0).start
+    for _ in range(number):
+        span = item_span(array, at)
+        yield array[span]
+        at = span.stop
+
+
+def _string(item):
+    """Returns the content of a string."""
+    return item[string_span(item)]
+
+
+def _name(item):
+    """Returns the text, or None for null."""
+    return None if item == b"\xf6" else _string(item).decode()
+
+
+def _verified(text):
+    """Returns the verified token that the library wrote."""
+    claims, audience, others, issuer, layers = _elements(text)
+    read = []
+    for layer in _elements(layers):
+        form, protected, unprotected, vouched = _elements(layer)
+        read.append(VerifiedLayer(integer(form), _string(protected), unprotected, _name(vouched)))
+    names = tuple(_string(name).decode() for name in _elements(audience))
+    return VerifiedToken(claims, names, others, _name(issuer), tuple(read))
+
+
 def _layer(view, text):
     """Returns the layer that waits."""
     texts, start = [], 0
@@ -668,47 +812,204 @@ def _layer(view, text):
         texts.append(text[start : start + length])
         start += length
     structure, proof, key_id, iv, partial_iv = texts
-    return Layer(view.form, view.algorithm, key_id or None, view.key_id_map, structure, proof, iv or None, partial_iv or None)
+    return Layer(
+        view.form, view.algorithm, key_id or None, view.key_id_map or None, structure, proof, iv or None, partial_iv or None, view.index
+    )
 
 
-def token_claims(data, now, opener, signatures=(), macs=(), ciphers=(), critical=(), issuer=None, audience=None, leeway=0, max_age=None,
-                 plain=SIGN1, authenticated_by=0, leaves_out=False, may_not_expire=False, may_be_issued_later=False):
-    """Returns the claims of a web token at `now`, in seconds since 1970 began in UTC: a CLAIMS.
+def _issuer(name):
+    """Returns the name of an issuer, or None, if it is one of these."""
+    if not isinstance(name, (str, type(None))):
+        raise TypeError("an issuer's name is a text or None")
+    if name == "":
+        raise ValueError("an issuer's name is empty")
+    return name
 
-    `opener` is called with each Layer, and must accept it. For a signature or a MAC by a key that the caller trusts
-    for that algorithm it returns True. For an ENCRYPT0 it returns the plaintext, or None if the ciphertext isn't
-    authentic by such a key. `signatures`, `macs` and `ciphers` are the algorithms that are allowed in signatures, in
-    MACs and in encryption. The other arguments are those of coset_rules in the header. If the token is refused, this
-    raises NotAllowed, Critical, Refused, or NotLetIn with the reason."""
-    names = [None if name is None else name.encode() for name in (issuer, audience)]
-    flags = [max_age is not None, plain, authenticated_by, leaves_out, may_not_expire, may_be_issued_later, *(name is not None for name in names)]
-    seconds = [leeway, max_age or 0]
-    if any(not 0 <= number < 1 << 64 for number in seconds):
-        raise OverflowError("a number of seconds that is negative or too large")
-    rules = _Rules(ctypes.sizeof(_Rules), *seconds, *map(_number, map(int, flags)))
-    given = [it for numbers in (signatures, macs, ciphers, critical) for it in _integers(numbers)]
-    given += [it for text in (*(name or b"" for name in names), data) for it in _bytes(text)]
-    layers, known, view = [], b"", _Layer()
-    length, room = ctypes.c_size_t(), 2 * len(data) + 256
+
+def _accepted(form, said):
+    """Returns True for a signature or a MAC, the plaintext of a ciphertext, or None for a refusal. Any other answer is
+    an error."""
+    if said is None or said is False:
+        return None
+    if form == ENCRYPT0:
+        if not isinstance(said, (bytes, bytearray, memoryview)):
+            raise TypeError("for a ciphertext the answer is its plaintext as bytes, or None")
+        return bytes(said)
+    if said is not True:
+        raise TypeError("for a signature or a MAC the answer is True, False or None")
+    return True
+
+
+def _answered(layer, said):
+    """Returns the plaintext of the layer, and the name of an issuer or None. A signature or a MAC has no plaintext.
+    Raises InvalidToken if the answer is a refusal."""
+    name = None
+    if isinstance(said, tuple):
+        if len(said) != 2:
+            raise TypeError("the answer is one value, or a pair of it and the issuer's name")
+        said, name = said[0], _issuer(said[1])
+    accepted = _accepted(layer.form, said)
+    if accepted is None:
+        raise InvalidToken(Status.REFUSED, layer.index)
+    return b"" if accepted is True else accepted, None if name is None else name.encode()
+
+
+def _handed(layer, plaintext, name, start):
+    """Returns the entry for an opened layer, and its bytes, which begin at `start`."""
+    handed = layer.input + layer.proof
+    plain = start + len(handed)
+    issuer = (0, 0) if name is None else (plain + len(plaintext), len(name))
+    held = (plain, len(plaintext)) if layer.form == ENCRYPT0 else (0, 0)
+    entry = _Opened(layer.form, start, len(layer.input), len(layer.proof), *held, *issuer)
+    return entry, handed + plaintext + (name or b"")
+
+
+def _token_open(given, data, now, layers, known):
+    """Returns the status of the call, the bytes that it wrote, and the view of a layer."""
+    length, room, view = ctypes.c_size_t(), 2 * len(data) + 512, _Layer()
     while True:
         out = ctypes.create_string_buffer(room)
-        status = _library.coset_token_claims(ctypes.byref(rules), *given, _int64(now), (_Opened * len(layers))(*layers), len(layers),
-                                             known, len(known), out, room, ctypes.byref(length), ctypes.byref(view))
-        if status == _SHORT:
-            room = length.value
+        status = _library.coset_token_open(*given, data, len(data), now, (_Opened * len(layers))(*layers), len(layers),
+                                           known, len(known), out, room, ctypes.byref(length), ctypes.byref(view))
+        if status != _SHORT:
+            return status, ctypes.string_at(out, length.value), view
+        room = length.value
+
+
+def _refuse(status, view):
+    """Raises the error of a status other than success."""
+    if status == _MISUSE:
+        raise Misuse("an algorithm or a required claim isn't assigned, a number has no meaning, or there are audiences with any_audience")
+    if status == _MEMORY:
+        raise MemoryError
+    number = {_NOT_ALLOWED: view.algorithm or None, _MISSING: view.claim}.get(status)
+    raise InvalidToken(status, view.index if status in _OF_LAYER else None, number)
+
+
+def verify_token(data, keys, algorithms, *, audience=(), types=(), required=(), critical=(), leeway=0, max_age=None, untagged_form=SIGN1,
+                 authenticated_by=0, any_audience=False, may_not_expire=False, may_be_issued_later=False, now=None):
+    """Verifies a web token (RFC 8392) and returns a VerifiedToken.
+
+    - `keys` is a KeyRing. Or it is a function that is called with each Layer. It returns True if a key that fits
+      verifies the signature or the MAC. For an ENCRYPT0 it returns the plaintext, as bytes. None or False refuses the
+      token. The function may return a pair: one of these, and the name of the key's issuer.
+    - `algorithms` are the numbers of the allowed algorithms, such as ES256. Each layer must name one of them that is
+      for its form.
+    - `audience` has the caller's own names. `aud` must contain one of them. If there is none, a token with `aud` is
+      refused. `any_audience` leaves the check to the caller, who then compares the result's `audience`.
+    - `types` are the accepted types (`typ`, RFC 9596), such as "application/cwt". If there is none, `typ` is ignored.
+    - `required` are the numbers of claims that the token must have.
+    - `critical` are the critical labels that the caller understands, and acts on.
+    - `leeway` is the number of seconds by which the clocks of issuer and verifier may differ.
+    - `max_age` is the age in seconds since `iat` at which a token is refused. If it is None, there is no such age.
+    - `untagged_form` is the form of an outermost layer without a tag.
+    - `authenticated_by` says which layers authenticate the sender: 0 for a signature or a MAC, BY_SIGNATURE or BY_ANY.
+    - `may_not_expire` accepts a token without `exp`, and `may_be_issued_later` one with an `iat` after `now`.
+    - `now` is the time in seconds since 1970 began in UTC, an int or a float. If it is None, it is the clock's time.
+      The token must be valid at the whole seconds before and after a float. So it isn't accepted before `nbf` or after
+      `exp`, and may be refused up to a second before `exp`.
+
+    Raises InvalidToken if the token is refused. Raises TypeError if `keys` gives another answer, such as no bytes for
+    a plaintext. Raises Misuse if an argument has no meaning, such as an unassigned algorithm."""
+    if not callable(keys):
+        raise TypeError("keys is a KeyRing or a function")
+    flags = [_flag(any_audience, "any_audience"), _flag(may_not_expire, "may_not_expire"), _flag(may_be_issued_later, "may_be_issued_later")]
+    age = 0 if max_age is None else _seconds(max_age, "max_age", 1)
+    forms = [_number(untagged_form), _number(authenticated_by)]
+    rules = _Rules(ctypes.sizeof(_Rules), _seconds(leeway, "leeway", 0), age, *forms, *flags)
+    lists = [it for numbers in (algorithms, critical, required) for it in _integers(list(numbers))]
+    texts = [*_texts(audience, "audience"), *_texts(types, "types")]
+    given, data, moments = [ctypes.byref(rules), *lists, *texts], _bytes(data)[0], _moments(now)
+    layers, known = [], b""
+    while True:
+        status, text, view = _token_open(given, data, moments[0], layers, known)
+        if status == _LAYER:
+            layer = _layer(view, text)
+            entry, more = _handed(layer, *_answered(layer, keys(layer)), len(known))
+            layers.append(entry)
+            known += more
+        elif status != _OK:
+            _refuse(status, view)
+        elif len(moments) == 1:
+            return _verified(text)
+        else:
+            moments = moments[1:]
+
+
+def key_fits(key, layer):
+    """Returns the nonce by which a key fits a Layer, or None if it doesn't fit. For an algorithm without a nonce, such
+    as a signature's, it is b"". So compare the result with None.
+
+    `key` is a KEY. Its `alg` must be the layer's algorithm. Its type, members and operations must be those that the
+    algorithm requires. The layer's IV must have the right length, and its key identifier, if any, must be the key's."""
+    out, length = ctypes.create_string_buffer(16), ctypes.c_size_t()
+    given = [it for text in (layer.key_id, layer.iv, layer.partial_iv, layer.proof) for it in _bytes(text or b"")]
+    status = _library.coset_key_fits(
+        *_bytes(key), _number(layer.form), _int64(layer.algorithm), *given, out, len(out), ctypes.byref(length)
+    )
+    if status == _UNFIT:
+        return None
+    _raise(status)
+    return ctypes.string_at(out, length.value)
+
+
+def readable_keys(keys):
+    """Returns a list of the keys of a KEY_SET that can be read, as received (RFC 9052, section 7). Raises Fault if the
+    bytes aren't an array."""
+    found = []
+    try:
+        elements = list(_elements(_bytes(keys)[0]))
+    except Absent:
+        raise Fault(Status.UNEXPECTED) from None
+    for key in elements:
+        try:
+            check(KEY, key)
+        except Fault:
             continue
-        text = ctypes.string_at(out, length.value)
-        if status != _LAYER:
-            _raise(status)
-            return text
-        layer = _layer(view, text)
-        said = opener(layer)
-        if said is not True if layer.form != ENCRYPT0 else said is None:
-            raise Refused("the signature, the MAC or the ciphertext is refused")
-        plaintext = bytes(said) if layer.form == ENCRYPT0 else b""
-        handed, start = layer.input + layer.proof, len(known)
-        layers.append(_Opened(view.form, start, view.structure_len, view.proof_len, start + len(handed), len(plaintext)))
-        known += handed + plaintext
+        found.append(key)
+    return found
+
+
+class KeyRing:
+    """The keys of issuers, for `verify_token`. It says whose key accepted a layer.
+
+    `issuers` is a dict, or pairs: for each issuer's name, as in `iss`, a KEY_SET. The name None is for an issuer whose
+    tokens have no `iss`. Keys that can't be read are skipped (RFC 9052, section 7).
+
+    `ciphers` has two methods, as `coset.crypto.CIPHERS`, which is the default and needs the package `cryptography`:
+    - `verify(key, algorithm, input, proof)` returns True if the proof is a signature or a MAC of the input, else
+      False or None.
+    - `decrypt(key, algorithm, nonce, aad, ciphertext)` returns the plaintext, or None if the ciphertext isn't
+      authentic.
+
+    They are called only with a KEY that fits the layer (`key_fits`)."""
+
+    def __init__(self, issuers, ciphers=None):
+        if ciphers is None:
+            from coset.crypto import CIPHERS as ciphers
+        self._ciphers, self._keys = ciphers, []
+        for name, keys in issuers.items() if isinstance(issuers, Mapping) else issuers:
+            self._keys += [(_issuer(name), key) for key in readable_keys(keys)]
+
+    def __call__(self, layer):
+        """Tries each key that fits the layer, in order. Returns True or the plaintext, with the name of the key's
+        issuer; or None if each of them is refused. Raises InvalidToken, with UNFIT, if no key fits."""
+        is_fitting = False
+        for name, key in self._keys:
+            nonce = key_fits(key, layer)
+            if nonce is None:
+                continue
+            is_fitting = True
+            if layer.form == ENCRYPT0:
+                said = self._ciphers.decrypt(key, layer.algorithm, nonce, layer.input, layer.proof)
+            else:
+                said = self._ciphers.verify(key, layer.algorithm, layer.input, layer.proof)
+            said = _accepted(layer.form, said)
+            if said is not None:
+                return said, name
+        if not is_fitting:
+            raise InvalidToken(Status.UNFIT, layer.index)
+        return None
 
 
 def version():
@@ -780,7 +1081,7 @@ def put_all(kind, data, pairs):
     `pairs` is a dict, or labels with values. A label is an int or a str. A value is an int, a str, bytes, or
     Encoded, one item of CBOR."""
     parts = bytearray()
-    told = [_pair(name, value, parts) for name, value in (pairs.items() if isinstance(pairs, dict) else pairs)]
+    told = [_pair(name, value, parts) for name, value in (pairs.items() if isinstance(pairs, Mapping) else pairs)]
     return _written(_library.coset_put_all, _kind(kind), *_bytes(data), (_Pair * len(told))(*told), len(told), *_bytes(parts))
 
 
