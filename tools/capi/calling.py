@@ -141,13 +141,14 @@ def lengths(program, check):
 # ---- from Rust and Python
 
 
-# The statuses against a layer of a token. The others are against the whole token.
-OF_LAYER = (*range(3, 13), NOT_ALLOWED, CRITICAL, REFUSED, HEADERS)
+# The statuses against a layer of a token. The others are against the whole token. A wrapper reports an answer of the wrong type as
+# the misuse of a layer.
+OF_LAYER = (*range(3, 14), NOT_ALLOWED, CRITICAL, REFUSED, HEADERS)
 
 
 def refusal_told(status, refused):
-    """Returns the right output of calls.rs and calls.py for a token that is refused: the reason, the layer if it is against one, and
-    the number of the algorithm that isn't allowed or of the claim that is missing."""
+    """Returns the right output of calls.rs and calls.py for a token that is refused. It has the reason, the index of the refused
+    layer, and the number of the refused algorithm or of the missing claim."""
     index, algorithm, claim = refused.words
     number = {NOT_ALLOWED: algorithm if algorithm != "0" else "-", MISSING: claim}.get(status, "-")
     return " ".join([NAMES[status], index if status in OF_LAYER else "-", number, *refused.asked])

@@ -118,6 +118,8 @@ def by_wrappers(given, folder, calls, wrong):
         calling.from_wrapper(name, command, calls, wrong.check, **more)
     memory.wiped(folder, wrong.check)
     tested = python_tests(library, wrong)
+    if importlib.util.find_spec("cryptography"):
+        tested.append(f"with coset.crypto {accepting.by_ciphers(python, wrong.check, **library)}")
     calling.texts(given.quick, [([f"{folder}/calls_c"], {}), *programs.values()], wrong.check)
     return [*(f"from {name} {len(calls)}" for name in programs), *tested]
 

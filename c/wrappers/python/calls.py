@@ -84,7 +84,7 @@ def name(issuer):
 
 
 class Script:
-    """The answers for the layers of a token, and the questions that were asked."""
+    """The answers for the layers of a token, and the questions that were asked. The answer `wrong` has the wrong type."""
 
     def __init__(self, word):
         self.answers, self.asked, self.heard = iter(word.split(",")), b"", []
@@ -97,6 +97,8 @@ class Script:
         said, _, issuer = next(self.answers, "no").partition("@")
         if said == "no":
             return None
+        if said == "wrong":
+            return b"" if layer.form != coset.ENCRYPT0 else True
         answer = True if layer.form != coset.ENCRYPT0 else data(said[1:]) if said[0] == "p" else b""
         return (answer, data(issuer).decode()) if issuer else answer
 
@@ -111,11 +113,75 @@ def told_token(token):
     return f"{token.claims.hex()} {audience} {token.others.hex()} {name(token.issuer)} {layers}"
 
 
-def opened(given, now, rules, algorithms, critical, required, audiences, types, said):
+class Ring:
+    """A ring of keys with ciphers that a line describes, and their calls. SETS has the issuers with commas between them: the
+    name, `:` and a set of keys. SAYS has the calls that are accepted: each the identifier of its key, or `#` and its number.
+    The plaintext that may follow after `:` is given once."""
+
+    def __init__(self, sets, says):
+        named = [word.split(":") for word in sets.split(",")]
+        self.ring = coset.KeyRing([(None if issuer == "-" else data(issuer[1:]).decode(), data(keys)) for issuer, keys in named], self)
+        self.rules = [(*rule.split(":"), "")[:2] for rule in says.split(",")]
+        self.asked, self.heard = b"", []
+
+    def __call__(self, layer):
+        before = len(self.heard)
+        try:
+            said = self.ring(layer)
+        except coset.InvalidToken as refused:
+            assert (refused.reason, refused.layer, len(self.heard)) == (coset.Status.UNFIT, layer.index, before)
+            return None
+        assert len(self.heard) > before
+        return said
+
+    def plaintext(self, key, algorithm, nonce, input, proof):
+        """Returns the plaintext if this call of a cipher is accepted, else None."""
+        key_id = coset.label_bytes(coset.KEY, key, coset.IN_ITEM, 2).hex() if coset.has(coset.KEY, key, coset.IN_ITEM, 2) else "-"
+        number = f"#{len(self.heard)}"
+        self.asked += proof + input
+        self.heard.append(f"{key_id}/{algorithm}/{nonce.hex() or '-'}")
+        for place, (rule, plain) in enumerate(self.rules):
+            if rule in (key_id, number):
+                self.rules[place] = rule, ""
+                return data(plain)
+        return None
+
+    def verify(self, key, algorithm, input, proof):
+        return self.plaintext(key, algorithm, b"", input, proof) is not None
+
+    def decrypt(self, key, algorithm, nonce, aad, ciphertext):
+        return self.plaintext(key, algorithm, nonce, aad, ciphertext)
+
+    told = Script.told
+
+
+class Crypto:
+    """A ring of keys with the ciphers of coset.crypto. A set that isn't an array counts as empty, as in coset_openssl.h, and an empty
+    name as none."""
+
+    def __init__(self, sets):
+        named = [word.split(":") for word in sets.split(",")]
+        self.ring = coset.KeyRing([(None if issuer in ("-", "t") else data(issuer[1:]).decode(), self.keys(keys)) for issuer, keys in named])
+
+    @staticmethod
+    def keys(word):
+        try:
+            coset.readable_keys(data(word))
+        except coset.Fault:
+            return b"\x80"
+        return data(word)
+
+    def __call__(self, layer):
+        return self.ring(layer)
+
+    def told(self):
+        return "-"
+
+
+def opened(script, given, now, rules, algorithms, critical, required, audiences, types):
     """Returns the result of `verify_token` and the questions that it asked, as calls.c describes them. After a refusal,
     prints the layer and the number in place of the token, and returns None."""
     leeway, age, form, by, any_audience, forever, later = map(int, rules.split(","))
-    script = Script(said)
     try:
         token = coset.verify_token(
             given, script, integers(algorithms), audience=texts(audiences), types=texts(types), required=integers(required),
@@ -124,6 +190,9 @@ def opened(given, now, rules, algorithms, critical, required, audiences, types, 
     except coset.InvalidToken as refused:
         told = ["-" if it is None else str(it) for it in (refused.layer, refused.number)]
         print(_REFUSED[refused.reason], *told, script.told())
+        return None
+    except TypeError:
+        print("Misuse", len(script.heard) - 1, "-", script.told())
         return None
     return f"{told_token(token)} {script.told()}"
 
@@ -179,7 +248,10 @@ _SEVERAL = {
     "message": message,
     "spans": message,
     "safe": safe,
-    "token": lambda _, given, *words: opened(given, *words),
+    "token": lambda _, given, *words: opened(Script(words[-1]), given, *words[:-1]),
+    "ring": lambda _, given, *words: opened(Ring(*words[-2:]), given, *words[:-2]),
+    "openssl": lambda _, given, *words: opened(Crypto(words[-1]), given, *words[:-1]),
+    "keys": lambda _, given, *words: " ".join(key.hex() for key in coset.readable_keys(given)),
     "accepted": lambda _, given, *words: acceptance(given, *words),
     "fits": fits,
     "verified": lambda _, given, *words: verification(given, *words),

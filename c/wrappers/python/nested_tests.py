@@ -1,5 +1,5 @@
-"""Tests that the memory of a call belongs to the call: a trace function and a signal handler make calls inside of calls, at any
-place of the wrapper, and callers change their buffers meanwhile."""
+"""Tests that the memory of a call belongs to the call. A trace function and a signal handler make calls inside of calls, at any
+place of the wrapper. And callers change their buffers during a call."""
 import hashlib
 import hmac
 import signal
@@ -40,7 +40,7 @@ def verify_token(data):
     return coset.verify_token(data, RING, [5], now=1000.5)
 
 
-# Each makes calls whose results are compared with those that the same calls have alone.
+# The calls whose results are compared with their results alone.
 OUTER = [
     lambda: coset.verify(coset.SIGN1, FORGED, [-7], is_good),
     lambda: coset.verify(coset.SIGN1, HONEST, [-7], is_good),

@@ -23,6 +23,11 @@ for again in (pickle.loads(pickle.dumps(fault)), copy.copy(fault)):
 for error in (coset.Absent("a"), coset.WrongType("a"), coset.Empty("a"), coset.Misuse("a"), coset.NotAllowed("a"), coset.Critical("a")):
     again = pickle.loads(pickle.dumps(error))
     assert (type(again), again.args) == (type(error), error.args)
+refusal = coset.InvalidToken(16, 1, -7)
+for again in (refusal, pickle.loads(pickle.dumps(refusal)), copy.deepcopy(refusal)):
+    assert (again.reason, again.layer, again.number) == (coset.Status.NOT_ALLOWED, 1, -7) and again.reason is coset.Status.NOT_ALLOWED
+    assert str(again) == "layer 1 of the token is refused: the algorithm isn't one that is allowed (-7)"
+assert (str(coset.InvalidToken(24)), f"{coset.Status.EXPIRED}", str(coset.Status(24))) == ("the token is refused: the token has expired", *["EXPIRED"] * 2)
 
 for value in (True, False):
     assert type(raised(coset.put, coset.CLAIMS, b"", 1, value)) is TypeError

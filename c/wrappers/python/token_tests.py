@@ -1,5 +1,5 @@
-"""Tests of `verify_token`, `KeyRing`, `key_fits` and `coset.crypto`: with the examples of RFC 8392, appendix A, and with tokens
-that the package `cryptography` signs, authenticates or encrypts."""
+"""Tests of `verify_token`, `KeyRing`, `key_fits` and `coset.crypto`. The tokens are the examples of RFC 8392, appendix A, and new
+ones: the package `cryptography` signs, authenticates or encrypts them."""
 import os
 import random
 import re
@@ -13,6 +13,7 @@ from coset.crypto import CIPHERS
 from cryptography.hazmat.primitives import hashes, hmac
 from cryptography.hazmat.primitives.asymmetric import ec, ed448, ed25519, padding, rsa, utils
 from cryptography.hazmat.primitives.ciphers import aead
+from cryptography.hazmat.primitives.serialization import Encoding, PublicFormat
 
 HERE = os.path.dirname(os.path.abspath(__file__))
 sys.path.append(os.path.join(HERE, "..", "..", "..", "tools"))
@@ -163,7 +164,7 @@ def by_curve(algorithm, hash_, number, curve, key_id=b"", compressed=False):
 
 def by_edwards(number, kind, key_id=b"", algorithm=coset.EDDSA):
     private = kind.generate()
-    return Maker(algorithm, coset.SIGN1, {1: 1, -1: number, -2: private.public_key().public_bytes_raw()}, private.sign, key_id)
+    return Maker(algorithm, coset.SIGN1, {1: 1, -1: number, -2: private.public_key().public_bytes(Encoding.Raw, PublicFormat.Raw)}, private.sign, key_id)
 
 
 RSA_KEY = rsa.generate_private_key(65537, 2048)
@@ -403,7 +404,7 @@ assert coset.key_fits(ONE.key, layer._replace(form=coset.SIGN1, algorithm=-7, ke
 raised(coset.Misuse, coset.key_fits, ENC.key, layer._replace(form=2))
 raised(coset.Fault, coset.key_fits, b"\xa0", layer)
 
-# Keys of a set that can't be read are skipped: one of an unknown type, one without a type, one with a label twice, one that is no map.
+# Keys of a set that can't be read are skipped: of an unknown type, without a type, with a label twice, or no map.
 unreadable = [b"\xa1\x01\x18\x63", b"\xa0", b"\xa2\x01\x04\x01\x04", b"\x01", b"\xa1\x01\x61x"]
 mixed = bytes([0x80 + len(unreadable) + 1]) + b"".join(unreadable) + ONE.key
 assert verified(token, coset.KeyRing({"as": mixed}), ALL, now=1).issuer == "as"
@@ -455,5 +456,7 @@ for call in (lambda: coset.crypto.CIPHERS.verify(key, -7, b"", bytes(64)), lambd
 """
 subprocess.run([sys.executable, "-c", program], check=True, cwd=HERE)
 
-told = {"bits of the RFC's tokens": flips, "moments": outcomes}
-print(f"tokens {CALLS['tokens']}, algorithms {len({maker.algorithm for maker in MAKERS})}, {told}")
+print(
+    f"tokens {CALLS['tokens']} by {len({maker.algorithm for maker in MAKERS})} algorithms, changed bits {flips['refused']} refused and "
+    f"{flips['in the unprotected header']} in unprotected headers, moments {outcomes[True]} accepted and {outcomes[False]} refused"
+)

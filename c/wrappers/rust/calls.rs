@@ -238,7 +238,7 @@ fn token_form(number: u64) -> TokenForm {
 }
 
 /// The answers for the layers of a token, with the names of issuers, and the questions that were
-/// asked.
+/// asked. The answer `wrong` has a plaintext if it should have none, and the other way round.
 struct Script<'a> {
     answers: std::slice::Iter<'a, (&'a str, Option<String>)>,
     asked: String,
@@ -260,12 +260,56 @@ impl<'a> Script<'a> {
         self.heard.push(format!("{}/{}/{map}/{texts}", layer.form as u32, layer.algorithm));
         let (said, issuer) = self.answers.next().map_or(("no", None), |(said, issuer)| (*said, issuer.as_deref()));
         let plaintext = said.strip_prefix('p').map(bytes).unwrap_or_default();
-        let is_encrypted = layer.form == TokenForm::Encrypt0;
+        let is_encrypted = (layer.form == TokenForm::Encrypt0) != (said == "wrong");
         (said != "no").then_some(Opened { plaintext: is_encrypted.then_some(plaintext), issuer })
     }
+}
 
-    fn told(&self) -> String {
-        format!("{} {} {}", self.heard.len(), or_none(self.asked.clone()), or_none(self.heard.join(",")))
+/// The keys of a ring, with their issuers, and the calls with them that are accepted. SETS has the
+/// issuers with commas between them: the name, `:` and a set of keys. SAYS has the calls: each the
+/// identifier of its key, or `#` and its number. The plaintext that may follow after `:` is given
+/// once.
+struct Ring {
+    sets: Vec<(Option<String>, Vec<u8>)>,
+    rules: Vec<(String, Vec<u8>)>,
+    asked: String,
+    heard: Vec<String>,
+}
+
+impl Ring {
+    fn new(sets: &str, says: &str) -> Ring {
+        let set = |word: &str| {
+            let (name, keys) = word.split_once(':').unwrap();
+            (name.strip_prefix('t').map(text), bytes(keys))
+        };
+        let rule = |word: &str| {
+            let (rule, plain) = word.split_once(':').unwrap_or((word, ""));
+            (rule.to_string(), bytes(plain))
+        };
+        Ring { sets: sets.split(',').map(set).collect(), rules: says.split(',').map(rule).collect(), asked: String::new(), heard: Vec::new() }
+    }
+
+    /// Returns the plaintext if the call with this key, which fits the layer, is accepted.
+    fn accepted(&mut self, key: &[u8], nonce: &[u8], layer: &Layer<'_>) -> Option<Vec<u8>> {
+        let key_id = or_none(coset::label_bytes(Kind::Key, key, Map::InItem, 2).map_or(String::new(), |id| hex(&id)));
+        let number = format!("#{}", self.heard.len());
+        self.asked += &hex(layer.proof);
+        self.asked += &hex(layer.input);
+        self.heard.push(format!("{key_id}/{}/{}", layer.algorithm, or_none(hex(nonce))));
+        let rule = self.rules.iter_mut().find(|(rule, _)| *rule == key_id || *rule == number)?;
+        Some(std::mem::take(&mut rule.1))
+    }
+
+    fn answer(&mut self, layer: &Layer<'_>) -> Option<(Vec<u8>, Option<String>)> {
+        for (name, keys) in self.sets.clone() {
+            for key in coset::readable_keys(&keys).unwrap() {
+                let Some(nonce) = coset::key_fits(key, layer).unwrap() else { continue };
+                if let Some(plaintext) = self.accepted(key, &nonce, layer) {
+                    return Some((plaintext, name));
+                }
+            }
+        }
+        None
     }
 }
 
@@ -281,9 +325,9 @@ fn told_token(token: &VerifiedToken) -> String {
     parts.join(" ")
 }
 
-/// Returns the result of `verify_token` and the questions that it asked, as calls.c describes them.
-/// After a refusal it has the layer and the number in place of the token.
-fn token(w: &[&str]) -> String {
+/// Returns the result of `verify_token`. After a refusal it has the layer and the number in place of
+/// the token.
+fn verified<'a>(w: &[&str], opener: impl FnMut(&Layer<'_>) -> Option<Opened<'a>>) -> String {
     let numbers: Vec<u64> = w[5].split(',').map(|number| number.parse().unwrap()).collect();
     let lists = [6, 7, 8].map(|place| integers(w[place]));
     let (audience, types) = (texts(w[9]), texts(w[10]));
@@ -302,19 +346,41 @@ fn token(w: &[&str]) -> String {
         max_age: (numbers[1] != 0).then_some(numbers[1]),
         leeway: numbers[0],
     };
+    let result = coset::verify_token(&bytes(w[2]), w[4].parse().unwrap(), &policy, opener);
+    let number = |number: Option<i64>| number.map_or("-".to_string(), |number| number.to_string());
+    match result {
+        Ok(token) => format!("ok {}", told_token(&token)),
+        Err(error) => {
+            let layer = number(error.layer.map(|layer| layer as i64));
+            format!("{:?} {layer} {}", error.reason, number(error.number))
+        }
+    }
+}
+
+/// Returns the words for the questions: their number, their proofs and inputs, and their facts.
+fn told_questions(count: usize, asked: String, heard: &[String]) -> String {
+    format!("{count} {} {}", or_none(asked), or_none(heard.join(",")))
+}
+
+/// Returns the result of `verify_token` and the questions that it asked, as calls.c describes them.
+fn token(w: &[&str]) -> String {
     let said = |word| str::split_once(word, '@').map_or((word, None), |(said, issuer)| (said, Some(text(issuer))));
     let answers: Vec<(&str, Option<String>)> = w[11].split(',').map(said).collect();
     let mut script = Script { answers: answers.iter(), asked: String::new(), heard: Vec::new() };
-    let result = coset::verify_token(&bytes(w[2]), w[4].parse().unwrap(), &policy, |layer| script.answer(layer));
-    let number = |number: Option<i64>| number.map_or("-".to_string(), |number| number.to_string());
-    match result {
-        Ok(token) => format!("ok {} {}", told_token(&token), script.told()),
-        Err(InvalidToken { reason: reason @ (Error::Memory | Error::Misuse), layer: None, .. }) => format!("{reason:?}"),
-        Err(error) => {
-            let layer = number(error.layer.map(|layer| layer as i64));
-            format!("{:?} {layer} {} {}", error.reason, number(error.number), script.told())
-        }
-    }
+    let result = verified(w, |layer| script.answer(layer));
+    format!("{result} {}", told_questions(script.heard.len(), script.asked, &script.heard))
+}
+
+/// Returns the same for a ring of keys.
+fn ring(w: &[&str]) -> String {
+    let mut ring = Ring::new(w[11], w[12]);
+    let names: Vec<Option<String>> = ring.sets.iter().map(|(name, _)| name.clone()).collect();
+    let result = verified(w, |layer| {
+        let (plaintext, issuer) = ring.answer(layer)?;
+        let issuer = names.iter().find(|name| **name == issuer).and_then(|name| name.as_deref());
+        Some(Opened { plaintext: (layer.form == TokenForm::Encrypt0).then_some(plaintext), issuer })
+    });
+    format!("{result} {}", told_questions(ring.heard.len(), ring.asked, &ring.heard))
 }
 
 /// Returns the token that `accepted` accepts by a set of keys of this issuer. The signature is good if
@@ -384,6 +450,7 @@ fn answer(w: &[&str]) -> Result<String, Error> {
             let (label, value) = coset::pair_spans(k, &input, w[3].parse().unwrap())?;
             format!("{} {}", span(label), span(value))
         }
+        "keys" => coset::readable_keys(&input)?.into_iter().map(hex).collect::<Vec<_>>().join(" "),
         "key_of" => hex(&coset::key_of(&input, &bytes(w[4]))?),
         "label_bytes" => hex(&coset::label_bytes(k, &input, map(w[4]), w[5].parse().unwrap())?),
         "label_int" => coset::label_int(k, &input, map(w[3]), w[4].parse().unwrap())?.to_string(),
@@ -411,6 +478,7 @@ fn main() {
         let words: Vec<&str> = line.split(' ').collect();
         match words[0] {
             "token" => println!("{}", token(&words)),
+            "ring" => println!("{}", ring(&words)),
             "fits" => println!("{}", fits(&words)),
             "accepted" => match accepted(&words) {
                 Ok(token) => println!("ok {token}"),

@@ -234,9 +234,8 @@ pub enum Authentication {
 
 /// A verifier's requirements for a web token.
 ///
-/// The default accepts nothing, because it allows no algorithm. It refuses a token with an audience,
-/// one that doesn't expire, and one that was issued later than now. It has no leeway, and no
-/// greatest age.
+/// The default accepts nothing, because it allows no algorithm. It refuses a token that has an
+/// audience, doesn't expire, or was issued later than now. It has no leeway, and no greatest age.
 #[derive(Clone, Copy, Debug)]
 pub struct TokenPolicy<'a> {
     /// The numbers of the allowed algorithms. Each layer must name one that is for its form.
@@ -327,7 +326,8 @@ pub struct VerifiedToken {
     /// The claims whose numbers are neither assigned by IANA nor for private use: a `Kind::Item`, a
     /// map.
     pub others: Vec<u8>,
-    /// The name of the issuer whose key accepted the innermost layer that authenticates.
+    /// The name of the issuer whose key authenticated the token. The innermost authenticating layer
+    /// decides.
     pub issuer: Option<String>,
     /// The layers, from the outermost in.
     pub layers: Vec<VerifiedLayer>,
@@ -1242,9 +1242,9 @@ impl Handed {
 
 /// Verifies a web token (RFC 8392) at `now`, in seconds since 1970 began in UTC.
 ///
-/// `opener` is called for each layer, and must accept it. The signature or the MAC must be valid, by
-/// a key that the caller trusts for that algorithm. An encrypted layer is answered with its
-/// plaintext. `None` refuses the token. [`key_fits`] says which keys fit a layer.
+/// `opener` is called for each layer, and must accept it. It accepts a signature or a MAC that a key
+/// verifies, and answers an encrypted layer with its plaintext. `None` refuses the token.
+/// [`key_fits`] says which keys fit the layer.
 ///
 /// # Errors
 /// The first reason against the token, layer by layer from the outermost in. Or:
@@ -1289,8 +1289,9 @@ pub fn verify_token<'a>(
 /// Returns the nonce by which a key fits a layer, or `None` if it doesn't fit. The nonce is empty if
 /// the algorithm has none.
 ///
-/// The key is a `Kind::Key`. Its `alg` must be the layer's algorithm. Its type, its members, the
-/// operations that it permits, its identifier and the layer's IV must be as the algorithm requires.
+/// The key is a `Kind::Key`. Its `alg` must be the layer's algorithm. Its type, members and
+/// operations must be those that the algorithm requires. The layer's IV must have the right length,
+/// and its key identifier, if any, must be the key's.
 ///
 /// # Errors
 /// - A fault in bytes that aren't a key.
@@ -1319,8 +1320,12 @@ pub fn key_fits(key: &[u8], layer: &Layer<'_>) -> Result<Option<Vec<u8>>, Error>
 /// - A fault in bytes that aren't an array.
 /// - `Memory` if an allocation of the library fails.
 pub fn readable_keys(set: &[u8]) -> Result<Vec<&[u8]>, Error> {
+    let keys = match elements(set) {
+        Err(Error::Absent) => return Err(Error::Unexpected),
+        keys => keys?,
+    };
     let mut found = Vec::new();
-    for key in elements(set)? {
+    for key in keys {
         match check(Kind::Key, key) {
             Err(Fault { error: Error::Memory, .. }) => return Err(Error::Memory),
             Err(_) => {}

@@ -19,6 +19,7 @@ import os
 import struct
 import time
 from collections import namedtuple
+from collections.abc import Mapping
 
 
 class Kind(enum.IntEnum):
@@ -147,8 +148,8 @@ class InvalidToken(Exception):
     - `reason` is the first reason against the token, a Status. It is UNFIT if no key of a KeyRing fits a layer.
     - `layer` is the index of the refused layer, counted from 0, the outermost. It is None if the reason isn't against
       a layer.
-    - `number` is the algorithm that isn't allowed (NOT_ALLOWED), if it has a number; or the required claim that is
-      missing (MISSING). Otherwise it is None."""
+    - `number` is the number of the algorithm for NOT_ALLOWED, and that of the missing claim for MISSING. It is None
+      for another reason, and if the layer names no algorithm by a number."""
 
     def __init__(self, reason, layer=None, number=None):
         super().__init__(reason, layer, number)
@@ -196,7 +197,8 @@ class VerifiedToken(namedtuple("VerifiedToken", "claims audience others issuer l
     - `claims` are its claims, a CLAIMS. An `aud` that is an array is left out, and so are `others`.
     - `audience` has the names in `aud`, which is a text or an array of texts.
     - `others` are the claims whose numbers are neither assigned by IANA nor for private use, an ITEM: a map.
-    - `issuer` is the name of the issuer whose key accepted the innermost layer that authenticates, or None.
+    - `issuer` is the name of the issuer whose key authenticated the token, or None. The innermost authenticating layer
+      decides.
     - `layers` has a VerifiedLayer for each layer, from the outermost in."""
 
     __slots__ = ()
@@ -737,6 +739,9 @@ def _texts(names, field):
     """Returns the texts as an array, and their number."""
     if isinstance(names, (str, bytes)):
         raise TypeError(f"{field} takes a list of texts, not one text")
+    names = list(names)
+    if not all(isinstance(name, str) for name in names):
+        raise TypeError(f"{field} takes texts")
     texts = [name.encode() for name in names]
     return (_Text * len(texts))(*((text, len(text)) for text in texts)), len(texts)
 
@@ -758,8 +763,8 @@ def _seconds(number, field, least):
 
 
 def _moments(now):
-    """Returns the whole seconds at which a token must be valid. They are the ones on both sides of `now`, so that it
-    isn't accepted sooner or longer than at `now` itself."""
+    """Returns the whole seconds before and after `now`, or `now` if it is whole. A token must be valid at each of them.
+    It is then valid at `now` too, because the moments at which it is valid have no gap."""
     moment = time.time() if now is None else now
     if isinstance(moment, bool) or not isinstance(moment, (int, float)):
         raise TypeError("now is a number of seconds, or None")
@@ -836,7 +841,7 @@ def _accepted(form, said):
 
 
 def _answered(layer, said):
-    """Returns the plaintext of the layer, which is empty for a signature or a MAC, and the name of an issuer or None.
+    """Returns the plaintext of the layer, and the name of an issuer or None. A signature or a MAC has no plaintext.
     Raises InvalidToken if the answer is a refusal."""
     name = None
     if isinstance(said, tuple):
@@ -873,8 +878,10 @@ def _token_open(given, data, now, layers, known):
 
 def _refuse(status, view):
     """Raises the error of a status other than success."""
-    if status in (_MEMORY, _MISUSE):
-        _raise(status)
+    if status == _MISUSE:
+        raise Misuse("an algorithm or a required claim isn't assigned, a number has no meaning, or there are audiences with any_audience")
+    if status == _MEMORY:
+        raise MemoryError
     number = {_NOT_ALLOWED: view.algorithm or None, _MISSING: view.claim}.get(status)
     raise InvalidToken(status, view.index if status in _OF_LAYER else None, number)
 
@@ -883,10 +890,9 @@ def verify_token(data, keys, algorithms, *, audience=(), types=(), required=(), 
                  authenticated_by=0, any_audience=False, may_not_expire=False, may_be_issued_later=False, now=None):
     """Verifies a web token (RFC 8392) and returns a VerifiedToken.
 
-    - `keys` is a KeyRing. Or it is a function that is called with each Layer. It returns True if the signature or the
-      MAC is valid, by a key that the caller trusts for that algorithm. For an ENCRYPT0 it returns the plaintext, as
-      bytes. None or False refuses the token. The function may return a pair: one of these, and the name of the
-      issuer whose key it was.
+    - `keys` is a KeyRing. Or it is a function that is called with each Layer. It returns True if a key that fits
+      verifies the signature or the MAC. For an ENCRYPT0 it returns the plaintext, as bytes. None or False refuses the
+      token. The function may return a pair: one of these, and the name of the key's issuer.
     - `algorithms` are the numbers of the allowed algorithms, such as ES256. Each layer must name one of them that is
       for its form.
     - `audience` has the caller's own names. `aud` must contain one of them. If there is none, a token with `aud` is
@@ -934,8 +940,8 @@ def key_fits(key, layer):
     """Returns the nonce by which a key fits a Layer, or None if it doesn't fit. For an algorithm without a nonce, such
     as a signature's, it is b"". So compare the result with None.
 
-    `key` is a KEY. Its `alg` must be the layer's algorithm. Its type, its members and the operations that it permits,
-    its identifier and the layer's IV must be as the algorithm requires (docs/C.md)."""
+    `key` is a KEY. Its `alg` must be the layer's algorithm. Its type, members and operations must be those that the
+    algorithm requires. The layer's IV must have the right length, and its key identifier, if any, must be the key's."""
     out, length = ctypes.create_string_buffer(16), ctypes.c_size_t()
     given = [it for text in (layer.key_id, layer.iv, layer.partial_iv, layer.proof) for it in _bytes(text or b"")]
     status = _library.coset_key_fits(
@@ -947,21 +953,28 @@ def key_fits(key, layer):
     return ctypes.string_at(out, length.value)
 
 
-def _readable(keys):
-    """Yields the keys of a set that can be read (RFC 9052, section 7)."""
-    for key in _elements(keys):
+def readable_keys(keys):
+    """Returns a list of the keys of a KEY_SET that can be read, as received (RFC 9052, section 7). Raises Fault if the
+    bytes aren't an array."""
+    found = []
+    try:
+        elements = list(_elements(_bytes(keys)[0]))
+    except Absent:
+        raise Fault(Status.UNEXPECTED) from None
+    for key in elements:
         try:
             check(KEY, key)
         except Fault:
             continue
-        yield key
+        found.append(key)
+    return found
 
 
 class KeyRing:
     """The keys of issuers, for `verify_token`. It says whose key accepted a layer.
 
-    `issuers` is a dict: for each issuer's name, as in `iss`, a KEY_SET. The name None is for an issuer whose tokens
-    have no `iss`. Keys that can't be read are skipped (RFC 9052, section 7).
+    `issuers` is a dict, or pairs: for each issuer's name, as in `iss`, a KEY_SET. The name None is for an issuer whose
+    tokens have no `iss`. Keys that can't be read are skipped (RFC 9052, section 7).
 
     `ciphers` has two methods, as `coset.crypto.CIPHERS`, which is the default and needs the package `cryptography`:
     - `verify(key, algorithm, input, proof)` returns True if the proof is a signature or a MAC of the input, else
@@ -975,8 +988,8 @@ class KeyRing:
         if ciphers is None:
             from coset.crypto import CIPHERS as ciphers
         self._ciphers, self._keys = ciphers, []
-        for name, keys in issuers.items():
-            self._keys += [(_issuer(name), key) for key in _readable(_bytes(keys)[0])]
+        for name, keys in issuers.items() if isinstance(issuers, Mapping) else issuers:
+            self._keys += [(_issuer(name), key) for key in readable_keys(keys)]
 
     def __call__(self, layer):
         """Tries each key that fits the layer, in order. Returns True or the plaintext, with the name of the key's
@@ -1068,7 +1081,7 @@ def put_all(kind, data, pairs):
     `pairs` is a dict, or labels with values. A label is an int or a str. A value is an int, a str, bytes, or
     Encoded, one item of CBOR."""
     parts = bytearray()
-    told = [_pair(name, value, parts) for name, value in (pairs.items() if isinstance(pairs, dict) else pairs)]
+    told = [_pair(name, value, parts) for name, value in (pairs.items() if isinstance(pairs, Mapping) else pairs)]
     return _written(_library.coset_put_all, _kind(kind), *_bytes(data), (_Pair * len(told))(*told), len(told), *_bytes(parts))
 
 

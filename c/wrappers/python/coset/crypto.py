@@ -5,8 +5,8 @@
 - MACs: HMAC 256/64, 256/256, 384/384 and 512/512, which need Python's own `hmac` alone.
 - Encryption: AES-GCM, AES-CCM and ChaCha20/Poly1305.
 
-A key for another algorithm is refused. Nothing here decides which key fits: call the ciphers only with a key and a
-nonce for which `coset.key_fits` says so.
+A key for another algorithm is refused. The ciphers don't decide which key fits. Call them only with a key that
+`coset.key_fits` accepts, and with the nonce that it returns.
 """
 import hmac
 from importlib import import_module
@@ -44,6 +44,9 @@ _CCM = {
     coset.AES_CCM_64_128_128: 16,
     coset.AES_CCM_64_128_256: 16,
 }
+
+# The errors for a key that doesn't have the members of the algorithm.
+_UNFIT = coset.Fault, coset.WrongType, LookupError
 
 
 def _imported(module):
@@ -102,11 +105,14 @@ def _verify_eddsa(key, _, input, proof):
 
 
 def _verify_rsa(key, algorithm, input, proof):
-    """The salt of PS256 and its kind is as long as the hash (RFC 8230, section 2)."""
+    """The salt of PS256 and its kind is as long as the hash (RFC 8230, section 2). A signature is as long as the modulus
+    (RFC 8017, section 8.1.2)."""
     rsa, padding = _imported("hazmat.primitives.asymmetric.rsa"), _imported("hazmat.primitives.asymmetric.padding")
     hash_ = _hash(_PSS.get(algorithm) or _PKCS1[algorithm])
     padded = padding.PSS(padding.MGF1(hash_), hash_.digest_size) if algorithm in _PSS else padding.PKCS1v15()
     n, e = (int.from_bytes(_member(key, name), "big") for name in (_LABEL_N, _LABEL_E))
+    if len(proof) != (n.bit_length() + 7) // 8:
+        raise ValueError("a signature of another length")
     rsa.RSAPublicNumbers(e, n).public_key().verify(proof, input, padded, hash_)
 
 
@@ -129,9 +135,20 @@ def _aead(key, algorithm):
 
 
 def _refusals():
-    """Returns the errors by which `cryptography` refuses a signature, a ciphertext, a key or an algorithm."""
+    """Returns the errors for a signature, a ciphertext, a key or an algorithm that is refused."""
     exceptions = _imported("exceptions")
-    return exceptions.InvalidSignature, exceptions.InvalidTag, exceptions.UnsupportedAlgorithm, ValueError, OverflowError, LookupError
+    refused = exceptions.InvalidSignature, exceptions.InvalidTag, exceptions.UnsupportedAlgorithm, ValueError, OverflowError
+    return *refused, *_UNFIT
+
+
+def _is_mac(key, algorithm, input, proof):
+    """Returns True if the proof is the MAC of the input. Both are compared in constant time."""
+    name, length = _HMAC[algorithm]
+    try:
+        secret = _member(key, _LABEL_K)
+    except _UNFIT:
+        return False
+    return hmac.compare_digest(hmac.digest(secret, input, name)[:length], proof)
 
 
 class Ciphers:
@@ -141,8 +158,7 @@ class Ciphers:
         """Returns True if the proof is a signature or a MAC of the input by the key, a KEY. Returns False if not, or if
         there is no cipher for the algorithm."""
         if algorithm in _HMAC:
-            name, length = _HMAC[algorithm]
-            return hmac.compare_digest(hmac.digest(_member(key, _LABEL_K), input, name)[:length], proof)
+            return _is_mac(key, algorithm, input, proof)
         if algorithm not in _VERIFIERS:
             return False
         try:
@@ -152,8 +168,8 @@ class Ciphers:
         return True
 
     def decrypt(self, key, algorithm, nonce, aad, ciphertext):
-        """Returns the plaintext of the ciphertext, which ends with its tag. Returns None if the ciphertext isn't
-        authentic by the key, a KEY, or if there is no cipher for the algorithm."""
+        """Returns the plaintext of the ciphertext, which ends with its tag. The key is a KEY. Returns None if the
+        ciphertext isn't authentic, or if there is no cipher for the algorithm."""
         try:
             cipher = _aead(key, algorithm)
             return None if cipher is None else cipher.decrypt(nonce, ciphertext, aad)
