@@ -152,11 +152,18 @@ static uint64_t chosen(uint64_t n) {
   return (state * 0x2545f4914f6cdd1d >> 16) % n;
 }
 
+/* Returns true if the function is about tokens and their keys. */
+static int is_about_tokens(const struct function *f) {
+  return strchr(f->classes, 't') || !strcmp(f->name, "coset_key_fits");
+}
+
 static uint64_t number(char class, uint32_t kind) {
+  static const int64_t algorithms[] = {5, 4, 10, 1, 7, 3, 2, -7, -8, 24};
   static const int64_t labels[] = {1, 2, 3, 4, 5, 6, 7, 8, 9, 11, 12, 0, -1, -2, -3, -4, -7, -65537, 256, INT64_MAX, INT64_MIN};
   uint32_t other = kinds[chosen(sizeof kinds / sizeof *kinds)] + (uint32_t)chosen(3) * FORM;
   if (class == 'f') return chosen(8) ? chosen(2) : UINT32_MAX;
   if (class == 'k') return chosen(8) ? kind : chosen(16) ? other : (uint32_t)chosen(1 << 11);
+  if (class == 's' && is_about_tokens(now) && chosen(8)) return (uint64_t)algorithms[chosen(2) ? 7 : chosen(10)];
   if (class == 's') return (uint64_t)labels[chosen(sizeof labels / sizeof *labels)];
   if (class == 'i') return chosen(16) ? chosen(3) : SIZE_MAX >> chosen(64);
   return chosen(16) ? chosen(6) : UINT32_MAX;
@@ -220,12 +227,12 @@ static size_t bytes_for(struct place *p, const struct row *first, const uint8_t 
   return chosen(2) ? damaged(p->was, row->len) : row->len;
 }
 
-/* Gives a call some labels. If it is about a token, most are numbers of algorithms, or of claims. */
+/* Gives a call some labels. If it is about a token, most are numbers of algorithms and of claims. */
 static void lend_labels(struct place *p) {
-  static const int64_t assigned[] = {-7, 1, 3, 4, 5, 10, -8, 24, 7, 2};
+  static const int64_t assigned[] = {5, 4, 10, 1, 7, 3, 2, -7};
   size_t count = chosen(5);
   for (size_t i = 0; i < count; i++) {
-    uint64_t label = strchr(now->classes, 't') && chosen(16) ? (uint64_t)assigned[chosen(10)] : number('s', 0);
+    uint64_t label = is_about_tokens(now) && chosen(32) ? (uint64_t)assigned[chosen(8)] : number('s', 0);
     memcpy(p->was + i * sizeof label, &label, sizeof label);
   }
   lend(p, count * sizeof(int64_t), 0);
@@ -236,7 +243,7 @@ static void lend_labels(struct place *p) {
 static void lend_structs(struct place *p, size_t size, size_t count, int has_size) {
   lend(p, count * size, 0);
   for (size_t at = 0; at < p->n; at += 4) {
-    uint32_t field = at % 8 && chosen(4) ? 0 : chosen(64) ? (uint32_t)chosen(chosen(2) ? 6 : 300) : UINT32_MAX;
+    uint32_t field = (at % 8 || has_size) && chosen(4) ? 0 : chosen(64) ? (uint32_t)chosen(chosen(2) ? 6 : 300) : UINT32_MAX;
     memcpy(p->at + at, &field, sizeof field);
   }
   if (has_size && chosen(32)) memcpy(p->at, &size, sizeof size);
@@ -271,11 +278,15 @@ static void lend_texts(struct place *p) {
   if (count) memcpy(p->at, p->was, p->n);
 }
 
-/* Chooses a row for a function: half of the time one for which it returned a result. libFuzzer uses no rows. */
+/* Chooses a row for a function: half of the time one for which it returned a result. The first rows are tokens, and keys follow
+ * them: most others are these for the functions about tokens. libFuzzer uses no rows. */
 static const struct row *row_for(const struct function *f) {
   uint64_t count = liked[f - functions].count;
+  const int is_key = !strcmp(f->name, "coset_key_fits");
   if (choices) return NULL;
-  return count && chosen(2) ? liked[f - functions].rows[chosen(count < 64 ? count : 64)] : &rows[chosen(row_count)];
+  if (count && chosen(2)) return liked[f - functions].rows[chosen(count < 64 ? count : 64)];
+  if (is_about_tokens(f) && chosen(4) && TOKENS + KEYS <= row_count) return is_key ? &rows[TOKENS + chosen(KEYS)] : &rows[chosen(TOKENS)];
+  return &rows[chosen(row_count)];
 }
 
 /* Chooses a function and its arguments. */

@@ -6,6 +6,7 @@ import subprocess
 
 from capi.building import HERE, run
 from capi.kinds import KINDS, TAGGED, number_of
+from sources import read
 
 SEED = 20_160_101
 FIRST_STATUS, FIRST_KIND = "COSET_OK", "COSET_SIGN1"  # the constant that an enum of the header begins with
@@ -68,7 +69,8 @@ def table(text):
     the statuses."""
     statuses, kinds = enum(text, FIRST_STATUS), enum(text, FIRST_KIND)
     numbers = dict(statuses)
-    lines = [f"enum {{ STATUSES = {max(numbers.values()) + 1}, FORM = {TAGGED} }};"]
+    both, keys = (sum(kind in of for kind, _ in tokens()) for of in (range(1 << 16), [number_of("key")]))
+    lines = [f"enum {{ STATUSES = {max(numbers.values()) + 1}, FORM = {TAGGED}, TOKENS = {both - keys}, KEYS = {keys} }};"]
     lines += ["static const uint32_t kinds[] = {" + ", ".join(str(n) for _, n in kinds if n < TAGGED) + "};"]
     rows, left = [], []
     for place, (name, found) in enumerate(functions(text)):
@@ -84,13 +86,14 @@ def table(text):
 
 
 def tokens():
-    """Yields the tokens and the keys of test_verify: the number of a kind, and the bytes."""
-    with open(f"{HERE}/crates/test_verify/stdin", encoding="utf-8") as file:
-        for words in map(str.split, file):
-            if words[:1] in (["verify"], ["ring"]) and re.fullmatch(r"([0-9a-f]{2}){1,8192}", words[-1]):
-                yield number_of("sign1") + TAGGED, bytes.fromhex(words[-1])
-            elif words[:1] == ["fits"]:
-                yield number_of("key"), bytes.fromhex(words[1])
+    """Yields the tokens of test_verify, and then its keys: the number of a kind, and the bytes."""
+    words = [line.split() for line in read("crates", "test_verify", "stdin").splitlines()]
+    for line in words:
+        if line[:1] in (["verify"], ["ring"]) and re.fullmatch(r"([0-9a-f]{2}){1,8192}", line[-1]):
+            yield number_of("sign1") + TAGGED, bytes.fromhex(line[-1])
+    for line in words:
+        if line[:1] == ["fits"]:
+            yield number_of("key"), bytes.fromhex(line[1])
 
 
 def rows():

@@ -17,6 +17,8 @@ from cbor import decode
 from sources import read
 
 ATTACKS = 2_000_000
+# The calls about tokens that are made again with refused allocations.
+TOKENS = ("token ", "open ", "fits ")
 
 
 def kept(given, folder, objects, wrong):
@@ -77,10 +79,12 @@ def of_library(given, folder, objects, wrong):
 
 def with_memory(given, folder, lines, wanted, wrong):
     """Makes some calls from C with refused allocations, with little stack and under valgrind. Returns the numbers of calls."""
-    program, few = f"{folder}/calls_c", slice(None, None, max(1, len(lines) // 400))
-    told = [f"refused {memory.refusals(program, lines[few], wanted[few], wrong.check)}"]
-    of_tokens = [pair for pair in zip(lines, wanted) if pair[0].startswith(("token ", "open ", "fits "))][::40]
-    told.append(f"of token calls {memory.refusals(program, *zip(*of_tokens), wrong.check)}")
+    program, pairs = f"{folder}/calls_c", list(zip(lines, wanted))
+    # `room` makes several calls, and `ring` takes a key that can't be read as one that doesn't fit.
+    others, of_tokens = ([pair for pair in pairs if pair[0].startswith(TOKENS) == is_of] for is_of in (False, True))
+    others = [pair for pair in others if not pair[0].startswith(("room ", "ring "))]
+    told = [f"refused {memory.refusals(program, *zip(*few), wrong.check)}"
+            for few in (others[:: max(1, len(others) // 400)], of_tokens[::40])]
     if not given.quick:
         with tempfile.TemporaryDirectory() as hostile:
             told.append(f"within 1 MB of stack {memory.within_stack(program, hostile, wrong.check)}")

@@ -387,7 +387,7 @@ int main(void) {
     }
     uint32_t kind = (uint32_t)strtoul(word[1], NULL, 0), w4 = (uint32_t)strtoul(word[4], NULL, 0);
     struct bytes in = spelled(word[2]), aad = {NULL, 0}, extra = {NULL, 0};
-    size_t cap = strtoul(word[3], NULL, 0), len = 77, room = cap + 8;
+    size_t cap = strtoul(word[3], NULL, 0), len = 77, room = (cap >> 26 ? 0 : cap) + 8; /* some calls have no buffer */
     int64_t value = 77, label = strtoll(word[5], NULL, 0), known[64];
     uint8_t *out = malloc(room);
     coset_sign1_view view = {77, 77, 77, 77, 77, 77, 77, 77, 77};
