@@ -390,18 +390,18 @@ pub extern "C" fn coset_token_open(
         input.now now out.old out.new) result len.new layer.new }
 {
     let rules = rules_of(rules, algorithms, critical, required, audiences, types);
-    let answer = match within_layers(within(within(rules, input, out), bytes, &[]), opened) {
+    match within_layers(within(within(rules, input, out), bytes, &[]), opened) {
         Some(rules) => {
             let opened = OpenedLayers {
                 alloc,
                 layers: opened,
                 bytes,
             };
-            open_token(alloc, &rules, &opened, input, now, out)
+            let answer = open_token(alloc, &rules, &opened, input, now, out);
+            reply_token(answer, len, layer)
         }
-        None => Err(Refusal::Misuse),
-    };
-    reply_token(answer, len, layer)
+        None => reply_token(Err(Refusal::Misuse), len, layer),
+    }
 }
 
 /// Returns the status of an answer to the question whether a key fits. Sets `len` to the length of

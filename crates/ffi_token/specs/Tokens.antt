@@ -84,7 +84,8 @@ ReturnsVerified (Err e) old new r = ReturnsApart (apart e) old new r
 
 -- The policy, if the names of all issuers are UTF-8.
 abbrev pub policy_for : List ℕ → List Opened → Option PolicyView → Option PolicyView
-policy_for bytes os o = if list_all (has_text bytes) os then o else None
+policy_for bytes os None = None
+policy_for bytes os (Some p) = if list_all (has_text bytes) os then Some p else None
 
 -- The result for the token b at the time `now`, after the caller opened these layers. It is that of verifying the token,
 -- with keys that accept exactly these layers.

@@ -22,7 +22,11 @@ use std::alloc::Global;
 /// - `Answer` with `Cose` if an allocation fails, or if the token has no encoding.
 ///
 /// `out` is then unchanged.
-fn write_token(alloc: Global, token: &VerifiedToken<'_>, out: &mut [u8]) -> Result<usize, Refusal>
+fn write_token<'a>(
+    alloc: Global,
+    token: &'a VerifiedToken<'a>,
+    out: &mut [u8],
+) -> Result<usize, Refusal>
     ensures { WritesToken (token_view token.now) out.old out.new result }
 {
     let written = match encode_to_vec(alloc, &Written(token)) {

@@ -1,19 +1,11 @@
-//! Writing a token that was accepted as one item.
-//!
-//! ```cddl
-//! verified_token = [
-//!   claims : Claims_Set,
-//!   audience : [* tstr],
-//!   others : { * label => any },
-//!   issuer : tstr / nil,
-//!   layers : [+ verified_layer]
-//! ]
-//! verified_layer = [ form : 1 / 3 / 5, protected : bstr, unprotected : header_map, issuer : tstr / nil ]
-//! ```
+//! Writing a token that was accepted as one item: `verified_token` of
+//! [`open_token`](crate::open_token).
 
-ghost use Rattle.std.specs.Prelude.{◌≡◌, IfOk, map};
-ghost use Rattle.coset.specs.Encoding.{Encodes};
+ghost use Rattle.std.specs.Prelude.{IfErr, OnOk, length, map, option_map};
+ghost use Rattle.coset.specs.Encoding.{AppendsElements, Encodes, HasNoImage};
+ghost use Rattle.coset.specs.Item.{array};
 ghost use Rattle.coset.specs.LabelViews.{entry_view};
+ghost use Rattle.coset.specs.Shape.{images};
 ghost use Rattle.coset_cbor.specs.Least.{Extends};
 ghost use Rattle.cwt_keys.specs.Keys.{name_view};
 ghost use Rattle.cwt_verify.specs.Opening.{verified_view};
@@ -21,7 +13,7 @@ ghost use Rattle.cwt_verify.specs.Verify.{token_view};
 ghost use Rattle.ffi_token.specs.Written.{layer_image, name_image, others_image, token_image};
 
 use crate::opened::form_number;
-use coset::cbor::ser::write_text;
+use coset::cbor::ser::{write_array_head, write_text};
 use coset::cbor::value::Value;
 use coset::{Encode, Label, Result};
 use coset_codec::write::{
@@ -29,7 +21,7 @@ use coset_codec::write::{
 };
 use coset_core::ProtectedRef;
 use cwt_verify::{VerifiedLayer, VerifiedToken};
-use std::alloc::{AllocError, Global};
+use std::alloc::Global;
 
 /// The name of an issuer, which is written as a text, or as null if there is none.
 #[derive(Clone, Copy)]
@@ -70,10 +62,6 @@ impl Encode for Others<'_> {
     }
 }
 
-/// A layer, to be written as an array.
-#[derive(Clone, Copy)]
-struct WrittenLayer<'a, 'k>(&'a VerifiedLayer<'k>);
-
 /// Appends the array of a layer.
 fn write_layer(alloc: Global, layer: &VerifiedLayer<'_>, out: &mut Vec<u8>) -> Result<()>
     ensures written { Encodes (layer_image (verified_view layer.now)) out.old.items
@@ -92,57 +80,66 @@ fn write_layer(alloc: Global, layer: &VerifiedLayer<'_>, out: &mut Vec<u8>) -> R
     )
 }
 
-impl Encode for WrittenLayer<'_, '_> {
-    ghost image = { λ l. layer_image (verified_view l.0.now) };
+/// Appends the arrays of the layers, one after the other.
+fn write_each(alloc: Global, layers: &[VerifiedLayer<'_>], out: &mut Vec<u8>) -> Result<()>
+    ensures ok { OnOk result (AppendsElements (images (λ l. layer_image (verified_view l)) layers.now)
+        (length layers.now) out.old.items out.new.items) }
+    ensures refused { IfErr result (HasNoImage
+        (images (λ l. layer_image (verified_view l)) layers.now)) }
+    ensures kept { Extends out.old.items out.new.items }
+{
+    for layer in layers {
+        write_layer(alloc, layer, out)?;
+    }
+    Ok(())
+}
+
+/// Appends the array of the layers.
+fn write_layers(alloc: Global, layers: &[VerifiedLayer<'_>], out: &mut Vec<u8>) -> Result<()>
+    ensures written { Encodes (option_map array (images layer_image (map verified_view layers.now)))
+        out.old.items out.new.items result }
+    ensures kept { Extends out.old.items out.new.items }
+{
+    write_array_head(layers.len(), out)?;
+    write_each(alloc, layers, out)
+}
+
+/// The layers of a token, which are written as an array.
+#[derive(Clone, Copy)]
+struct Layers<'a>(&'a [VerifiedLayer<'a>]);
+
+impl Encode for Layers<'_> {
+    ghost image = { λ l. option_map array (images layer_image (map verified_view l.0.now)) };
 
     fn encode(&self, alloc: Global, out: &mut Vec<u8>) -> Result<()> {
         let before = out.len();
-        let written = write_layer(alloc, self.0, out);
+        let written = write_layers(alloc, self.0, out);
         rolled_back(written, before, out)
     }
 }
 
-/// Returns the layers, each to be written as an array.
-///
-/// # Errors
-/// `AllocError` if an allocation fails.
-fn to_write<'a, 'k>(
-    alloc: Global,
-    layers: &'a [VerifiedLayer<'k>],
-) -> std::result::Result<Vec<WrittenLayer<'a, 'k>>, AllocError>
-    ensures { IfOk result (λ v. map (λ l. verified_view l.0.now) v.items
-        ≡ map verified_view layers.now) }
-{
-    let mut written = Vec::new(alloc);
-    for layer in layers {
-        written.push(WrittenLayer(layer))?;
-    }
-    Ok(written)
-}
-
 /// Appends the array of a token.
-fn write_token(alloc: Global, token: &VerifiedToken<'_>, out: &mut Vec<u8>) -> Result<()>
+fn write_token<'a>(alloc: Global, token: &'a VerifiedToken<'a>, out: &mut Vec<u8>) -> Result<()>
     ensures written { Encodes (token_image (token_view token.now)) out.old.items out.new.items
         result }
     ensures kept { Extends out.old.items out.new.items }
 {
-    let layers = to_write(alloc, &token.layers)?;
     encode_five(
         alloc,
         &token.claims,
         &Array(&token.audience),
         &Others(&token.others),
         &Name(token.issuer),
-        &Array(&layers),
+        &Layers(&token.layers),
         out,
     )
 }
 
 /// A token that was accepted, to be written as one item.
 #[derive(Clone, Copy)]
-pub(crate) struct Written<'a, 'k>(pub(crate) &'a VerifiedToken<'k>);
+pub(crate) struct Written<'a>(pub(crate) &'a VerifiedToken<'a>);
 
-impl Encode for Written<'_, '_> {
+impl Encode for Written<'_> {
     ghost image = { λ t. token_image (token_view t.0.now) };
 
     fn encode(&self, alloc: Global, out: &mut Vec<u8>) -> Result<()> {
