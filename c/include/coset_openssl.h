@@ -8,7 +8,7 @@
  * layer's algorithm, so a program is linked with -lcrypto. Nothing is proved of them.
  *
  * A signature's key must be a point of its curve. MACs are compared in constant time. The plaintext is returned only
- * after its tag is verified. Signatures, MACs and ciphertexts of more than INT_MAX bytes are refused. */
+ * after its tag is verified. Ciphertexts and headers of more than INT_MAX bytes are refused. */
 #ifndef COSET_OPENSSL_H
 #define COSET_OPENSSL_H
 
@@ -381,9 +381,10 @@ static inline int coset_openssl_by_set(const uint8_t *keys, size_t keys_len, con
   }
 }
 
-/* The coset_opener of a coset_openssl_ring, which is its context. It tries each key that fits, issuer by issuer. The first
- * key by which the layer is authentic is the issuer's that it names. A key for another algorithm than these is passed
- * over. Errors of OpenSSL don't remain in the thread's queue of errors. */
+/* The coset_opener of a coset_openssl_ring, which is its context. It tries each key that fits, issuer by issuer. The
+ * first key by which the layer is authentic names the issuer. Keys for other algorithms than these are passed over. If
+ * an allocation fails while a key is tried, that key counts as one that doesn't fit. Errors of OpenSSL don't remain in
+ * the thread's queue of errors. */
 static inline int coset_openssl_open(void *context, const coset_layer_question *question, uint8_t *plain, size_t cap,
                                      size_t *len, coset_text *issuer) {
   const coset_openssl_ring *ring = (const coset_openssl_ring *)context;

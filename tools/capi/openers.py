@@ -1,4 +1,5 @@
-"""Calls with answers that no caller's function should give, and calls of coset_token_open with other arguments than a caller has."""
+"""Calls with answers that no caller's function should give, and calls of coset_token_open with arguments that no caller should
+have."""
 from capi.kinds import LAYER, MISUSE, NAMES, OK, REFUSED, SHORT
 from capi.tokens import SIZE, Answer, Opening, layers_of, opened_words
 
@@ -51,7 +52,7 @@ def rules():
             yield f"{SIZE},{RULES}", [*LISTS[:place], numbers, *LISTS[place + 1:]]
     closed = "0,0,0,2,0,0,0"
     for place in (3, 4):
-        for texts in ("tff", "t61,tc080", "teda080", "t61,t80,t62"):
+        for texts in ("tff", "t61,tc080", "teda080", "t61,t80,t62", "t?", "t61,t?"):
             yield f"{SIZE},{closed}", [*LISTS[:place], texts, *LISTS[place + 1:]]
     for any_audience in (1, 2, 0xffffffff):
         yield f"{SIZE},0,0,0,2,{any_audience},0,0", [*LISTS[:3], "t61", LISTS[4]]

@@ -38,12 +38,14 @@ coset_status length_call(const uint8_t *in, size_t len, uint8_t *work, size_t ca
 
 /* ---- The line */
 
-/* Reads the texts of a word. Each is in a block of its own. */
+/* Reads the texts of a word. Each is in a block of its own. Empty ones are NULL, and `?` stands for a length that no object
+ * has. */
 static size_t texts(const char *word, coset_text *at) {
   size_t count = 0;
   while (*word == 't' && count < MOST) {
     const struct bytes text = spelled(word + 1);
-    at[count++] = (coset_text){(const char *)text.at, text.len};
+    at[count] = (coset_text){text.len || word[1] == '?' ? (const char *)text.at : NULL, word[1] == '?' ? SIZE_MAX : text.len};
+    if (!at[count++].chars) free(text.at);
     word += 1 + strcspn(word + 1, ","), word += *word == ',';
   }
   return count;
