@@ -77,7 +77,8 @@ def table(text):
         if None in found:
             left.append(name)
             continue
-        words = ", ".join(f"a[{at}].at" if letter in "bwptolavxr" else f"a[{at}].number" for at, (letter, _) in enumerate(found))
+        letters = [letter for letter, _ in found]
+        words = ", ".join(f"a[{at}].{'at' if it in 'bwptolavxr' else 'number'}" for at, it in enumerate(letters))
         lines.append(f"static int32_t call_{place}(const union word *a) {{ return {name}({words}); }}")
         sizes = ", ".join(f"sizeof({type_})" if type_ else "0" for _, type_ in found)
         rows.append(f'    {{"{name}", call_{place}, "{"".join(letter for letter, _ in found)}", {{{sizes}}}}},')

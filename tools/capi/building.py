@@ -156,7 +156,8 @@ def own_heap(folder, objects, check):
 def has_openssl():
     """Returns true if the header of OpenSSL 3 is installed."""
     source = "#include <openssl/param_build.h>\n"
-    return not subprocess.run(["cc", "-E", "-x", "c", "-"], input=source, capture_output=True, text=True, check=False).returncode
+    ran = subprocess.run(["cc", "-E", "-x", "c", "-"], input=source, capture_output=True, text=True, check=False)
+    return ran.returncode == 0
 
 
 def compile_headers():

@@ -79,8 +79,8 @@ def changed(layer, opened):
         yield [form, *numbers[1:]]
     for offset in (1, FULL - 1, FULL - structure, FULL - structure - proof, 1 << 63):
         yield [numbers[0], offset, *numbers[2:]]
-    for first, second in ((structure - 1, proof + 1), (structure + 1, proof - 1), (structure, proof - 1), (structure, proof + 1),
-                          (structure - 1, proof), (0, 0), (FULL - 1, proof), (structure, FULL - 1), (structure + proof, 0),
+    for first, second in ((structure - 1, proof + 1), (structure + 1, proof - 1), (structure, proof - 1),
+                          (structure, proof + 1), (structure - 1, proof), (0, 0), (FULL - 1, proof), (structure, FULL - 1), (structure + proof, 0),
                           (0, structure + proof), (1 << 63, 1 << 63)):
         yield [*numbers[:2], first, second, *numbers[4:]]
     for place in (4, 6):

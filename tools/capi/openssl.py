@@ -12,8 +12,8 @@ import tempfile
 from capi import calling
 from capi.building import FLAGS, WRAPPERS, has_openssl, run
 from capi.kinds import NAMES, OK, REFUSED
-from capi.tokens import listed, policy_of, rows, text
-from cbor import byte_string, decode, encode, head
+from capi.tokens import item, listed, policy_of, rows, text
+from cbor import byte_string, head
 
 NOT_CLAIMS, ISSUER = NAMES.index("NotClaims"), NAMES.index("Issuer")
 AS, HUB = "coap://as.example.com", "coap://hub.example.com"
@@ -24,8 +24,8 @@ HASHES = {-7: "sha256", -9: "sha256", -47: "sha256", -37: "sha256", -257: "sha25
           -35: "sha384", -51: "sha384", -38: "sha384", -258: "sha384", 6: "sha384",
           -36: "sha512", -52: "sha512", -39: "sha512", -259: "sha512", 7: "sha512"}
 # The algorithms with the curves of their keys.
-ECDSA = {-7: ("P-256", "P-384", "P-521"), -35: ("P-256", "P-384", "P-521"), -36: ("P-256", "P-384", "P-521"), -47: ("secp256k1",),
-         -9: ("P-256",), -51: ("P-384",), -52: ("P-521",)}
+NIST = ("P-256", "P-384", "P-521")
+ECDSA = {-7: NIST, -35: NIST, -36: NIST, -47: ("secp256k1",), -9: ("P-256",), -51: ("P-384",), -52: ("P-521",)}
 EDDSA = {-8: (6, 7), -19: (6,), -53: (7,)}
 RSA = (-37, -38, -39, -257, -258, -259)
 HMAC = {4: (32, 8), 5: (32, 32), 6: (48, 48), 7: (64, 64)}
@@ -37,21 +37,6 @@ AEAD = {1: (16, 16, 12), 2: (24, 16, 12), 3: (32, 16, 12), 24: (32, 16, 12), 10:
 # ---- Making keys and tokens
 
 
-def item(value):
-    """Returns the encoding of an integer, a boolean, a text, a byte string, a list, or a map of such values."""
-    if isinstance(value, bool):
-        return b"\xf5" if value else b"\xf4"
-    if isinstance(value, int):
-        return encode(("int", value))
-    if isinstance(value, bytes):
-        return byte_string(value)
-    if isinstance(value, str):
-        return encode((3, value.encode()))
-    if isinstance(value, dict):
-        return head(5, len(value)) + b"".join(item(key) + item(it) for key, it in value.items())
-    return head(4, len(value)) + b"".join(map(item, value))
-
-
 def claims(**more):
     return item({1: AS, 2: "erikw", 4: 2000, **{int(label[1:]): value for label, value in more.items()}})
 
@@ -61,7 +46,7 @@ def keys_of(*keys):
 
 
 class Sealer:
-    """A key and how it makes layers: `public` is the COSE_Key of the verifier, `prove` makes the signature, MAC or ciphertext."""
+    """A key and how it makes layers. `public` is the verifier's COSE_Key, and `prove` makes the signature, MAC or ciphertext."""
 
     def __init__(self, tag, algorithm, public, prove, kid=b"k"):
         self.tag, self.algorithm, self.prove = tag, algorithm, prove
@@ -238,7 +223,8 @@ def wrong_signatures(calls):
             for change in changes:
                 calls.bad(reproved(key, change).seal(payload), keys_of(key.public))
     for key in [*(eddsa(algorithm, curve, 12345) for algorithm, curves in EDDSA.items() for curve in curves), *map(rsa, RSA)]:
-        for change in (lambda it: it[:-1], lambda it: it + b"\0", lambda it: b"\0" + it, lambda it: b"", lambda it: bytes(len(it))):
+        for change in (lambda it: it[:-1], lambda it: it + b"\0", lambda it: b"\0" + it, lambda it: b"",
+                       lambda it: bytes(len(it))):
             calls.bad(reproved(key, change).seal(payload), keys_of(key.public))
     for algorithm, (length, tag) in HMAC.items():
         key = mac(algorithm, bytes(length), 64)
@@ -296,7 +282,8 @@ def wrong_points(calls):
         calls.bad(token, keys_of({**key.public, -1: 13 - curve}))
     key = rsa(-37)
     token, n = key.seal(payload), key.public[-1]
-    for member, value in ((-2, b"\1"), (-2, b"\2"), (-2, b"\0"), (-2, b""), (-1, n[:-1]), (-1, bytes(256)), (-1, n[:-1] + b"\0")):
+    for member, value in ((-2, b"\1"), (-2, b"\2"), (-2, b"\0"), (-2, b""), (-1, n[:-1]), (-1, bytes(256)),
+                          (-1, n[:-1] + b"\0")):
         calls.bad(token, keys_of({**key.public, member: value}))
     signature_of_one = Sealer(18, -257, {**rsa(-257).public, -2: b"\1"}, lambda signed, _: padded(signed))
     calls.bad(signature_of_one.seal(payload), keys_of(signature_of_one.public))
@@ -358,7 +345,7 @@ def rings(calls):
 def examples(calls):
     """Adds A.3 to A.7 of RFC 8392 with the keys of A.2, and the same with each bit changed in turn. Returns their number.
 
-    The bits of the label of kid aren't changed: the unprotected header isn't signed, so the token would be a good one without kid.
+    The bits of the label of kid aren't changed. The unprotected header isn't signed, so the token would be a good one without kid.
     The rows of A.4 and A.7 have alg 4 in the key of A.2.2, as its diagnostic notation. Its hexadecimal has 10."""
     seen = set()
     for (_, sets, _, now, policy, spelled), answer in rows("ring"):
@@ -397,7 +384,8 @@ def accepted(folder, check):
     audience, here = "coap://light.example.com", int(datetime.datetime.now().timestamp())
     with tempfile.TemporaryDirectory() as files:
         def run_with(token):
-            for name, data in (("as", keys_of(keys[0].public, keys[1].public)), ("hub", keys_of(keys[2].public)), ("token", token)):
+            sets = [keys_of(keys[0].public, keys[1].public), keys_of(keys[2].public)]
+            for name, data in zip(("as", "hub", "token"), (*sets, token)):
                 with open(f"{files}/{name}", "wb") as file:
                     file.write(data)
             words = [f"{folder}/accept", *(f"{files}/{it}" for it in ("as", "hub", "token"))]
@@ -422,7 +410,8 @@ def tried(folder, objects, check):
         return [f"without {lacking()} the calls of coset_openssl.h are left out"]
     names = ("calls", "token", "verify", "issue")
     sources = [f"{WRAPPERS}/c/{name}.c" for name in names]
-    run(["cc", *FLAGS, "-Wpedantic", "-DWITH_OPENSSL", "-o", "calls_openssl", *sources, "text.o", *objects, "-lcrypto"], cwd=folder)
+    flags = [*FLAGS, "-Wpedantic", "-DWITH_OPENSSL"]
+    run(["cc", *flags, "-o", "calls_openssl", *sources, "text.o", *objects, "-lcrypto"], cwd=folder)
     run(["cc", *FLAGS, "-o", "accept", f"{WRAPPERS}/c/accept.c", "libcoset.a", "-lcrypto"], cwd=folder)
     calls = Calls()
     for add in (every_algorithm, wrong_signatures, short_rsa, wrong_points, rings):
@@ -445,5 +434,6 @@ def refusals(program, calls, number, check):
     for asked, want, got in zip(calls.lines, calls.wanted, told):
         is_less = got.split()[0] in ("2", str(REFUSED)) and want[0] != got.split()[0]
         refused += is_less
-        check(is_less or calling.agrees(got.split(), want) or asked.startswith("roomy "), f"OpenSSL, refused {number}: {asked}: {got}")
+        is_right = is_less or calling.agrees(got.split(), want) or asked.startswith("roomy ")
+        check(is_right, f"OpenSSL, refused {number}: {asked}: {got}")
     return refused

@@ -3,29 +3,14 @@ work in that grows step by step, up to the size that docs/C.md says is enough.""
 import itertools
 
 from capi.kinds import OK
-from capi.tokens import enough_room, listed
-from cbor import byte_string, encode, head
+from capi.tokens import enough_room, item, listed
+from cbor import byte_string, head
 
 FORMS = {1: (18, -7), 3: (17, 5), 5: (16, 10)}
 ALGORITHMS = "-7,5,10"
-
-
-def item(value):
-    """Returns the encoding of an integer, a text, a byte string, a list, or a map of such values."""
-    if isinstance(value, int):
-        return encode(("int", value))
-    if isinstance(value, bytes):
-        return byte_string(value)
-    if isinstance(value, str):
-        return encode((3, value.encode()))
-    if isinstance(value, dict):
-        return head(5, len(value)) + b"".join(item(key) + item(it) for key, it in value.items())
-    return head(4, len(value)) + b"".join(map(item, value))
-
-
 # What a token may have much of: claims besides an expiration time, parts of the headers, tags and signatures, and names.
-CLAIMS = ({}, {7: bytes(1000)}, {2: "s" * 300, 3: ["a" * 9] * 40}, {3: "a"}, {3: "a" * 999}, {3: ["a" * 999]}, {1: "i" * 200, 7: b"x"},
-          {1: "i" * 200, 3: "a" * 200}, {3: "a" * 70, -200: bytes(600), 99: [1] * 100})
+CLAIMS = ({}, {7: bytes(1000)}, {2: "s" * 300, 3: ["a" * 9] * 40}, {3: "a"}, {3: "a" * 999}, {3: ["a" * 999]},
+          {1: "i" * 200, 7: b"x"}, {1: "i" * 200, 3: "a" * 200}, {3: "a" * 70, -200: bytes(600), 99: [1] * 100})
 PROTECTED = ({}, {4: bytes(200)}, {4: bytes(20), 5: bytes(180)}, {6: bytes(200)}, {"x": bytes(200)})
 UNPROTECTED = ({}, {4: bytes(200)}, {5: bytes(13)}, {"x": bytes(200)})
 PROOFS = (64, 0, 600)

@@ -6,7 +6,7 @@ import re
 
 from capi.kinds import ABSENT, LAYER, NAMES, NOT_ALLOWED, OK, REFUSED, UNFIT, pairs_of
 from capi.vectors import rows_of, status_of
-from cbor import decode, encode, head
+from cbor import byte_string, decode, encode, head
 
 # The errors that have the names of statuses, and the others with their statuses.
 OF_TOKEN = ("TooDeep Unauthenticated NoExpiration Expired NotYetValid TooOld Issuer Audience Headers Critical HeaderClaims "
@@ -31,6 +31,21 @@ def text(content):
 
 def listed(words):
     return ",".join(map(str, words)) or "-"
+
+
+def item(value):
+    """Returns the encoding of an integer, a boolean, a text, a byte string, a list, or a map of such values."""
+    if isinstance(value, bool):
+        return b"\xf5" if value else b"\xf4"
+    if isinstance(value, int):
+        return encode(("int", value))
+    if isinstance(value, bytes):
+        return byte_string(value)
+    if isinstance(value, str):
+        return encode((3, value.encode()))
+    if isinstance(value, dict):
+        return head(5, len(value)) + b"".join(item(key) + item(it) for key, it in value.items())
+    return head(4, len(value)) + b"".join(map(item, value))
 
 
 # ---- The policy and the answers of a row

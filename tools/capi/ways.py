@@ -9,8 +9,8 @@ import subprocess
 import sys
 import tempfile
 
-from capi import (accepting, attack, calling, depths, examples, install, limits, memory, misuses, openers, openssl, rows, shapes,
-                  tokens)
+from capi import (accepting, attack, calling, depths, examples, install, limits, memory, misuses, openers, openssl, rows,
+                  shapes, tokens)
 from capi.building import HERE, WRAPPERS, build_callers, own_heap, run
 from capi.vectors import token
 from cbor import decode
