@@ -1,0 +1,69 @@
+//! Whether the layers of a token keep its confirmation claim from those who can't decrypt them.
+
+ghost use Rattle.std.specs.Prelude.{◌≡◌, map};
+ghost use Rattle.coset.specs.View.{value_item};
+ghost use Rattle.coset.specs.Views.{header_view};
+ghost use Rattle.cwt_verify.specs.Opening.{verified_view};
+ghost use Rattle.cwt_confirm.specs.Concealed.{conceal_cnf, has_cnf, is_encrypted, reveals, shows_cnf};
+
+use crate::member::member;
+use coset::cbor::value::Value;
+use coset::iana::{CwtClaimName, EnumI64};
+use coset::{Header, Label};
+use cwt_verify::{Form, VerifiedLayer};
+
+/// The label of claims in a header (RFC 9597).
+const CWT_CLAIMS: i64 = 15;
+
+/// Returns true if the value is claims with a confirmation.
+fn has_cnf(value: &Value) -> bool
+    ensures { result ≡ has_cnf (value_item value.now) }
+{
+    match value.as_map() {
+        Some(claims) => member(claims, CwtClaimName::Cnf.to_i64()).is_some(),
+        None => false,
+    }
+}
+
+/// Returns true if the claims in the header have a confirmation (RFC 9597).
+fn shows_cnf(header: &Header) -> bool
+    ensures { result ≡ shows_cnf (header_view header.now) }
+{
+    match header.get(&Label::Int(CWT_CLAIMS)) {
+        Some(value) => has_cnf(value),
+        None => false,
+    }
+}
+
+/// Returns true if a header of the layer shows the confirmation.
+fn reveals(layer: &VerifiedLayer<'_>) -> bool
+    ensures { result ≡ reveals (verified_view layer.now) }
+{
+    shows_cnf(&layer.protected.header) || shows_cnf(&layer.unprotected)
+}
+
+/// Returns true if the layer is encrypted.
+fn is_encrypted(layer: &VerifiedLayer<'_>) -> bool
+    ensures { result ≡ is_encrypted (verified_view layer.now).form }
+{
+    match layer.form {
+        Form::Encrypt0 => true,
+        _ => false,
+    }
+}
+
+/// Returns true if one of the layers is encrypted, and neither its headers nor those of the layers
+/// around it show the confirmation. The claims are inside all layers.
+pub(crate) fn conceal_cnf(layers: &[VerifiedLayer<'_>]) -> bool
+    ensures { result ≡ conceal_cnf (map verified_view layers.now) }
+{
+    for layer in layers {
+        if reveals(layer) {
+            return false;
+        }
+        if is_encrypted(layer) {
+            return true;
+        }
+    }
+    false
+}

@@ -1,0 +1,67 @@
+//! Verified tokens that a line describes.
+
+use coset::cwt::ClaimsSet;
+use coset::{CoseError, Header, ProtectedHeader, Result};
+use cwt_verify::{Form, VerifiedLayer, VerifiedToken};
+use std::alloc::Global;
+use test_lines::spelled::read;
+
+/// Returns the form that the word names.
+///
+/// # Errors
+/// `UnexpectedItem` if it names none.
+fn form(word: &str) -> Result<Form> {
+    match word {
+        "sign" => Ok(Form::Sign1),
+        "mac" => Ok(Form::Mac0),
+        "enc" => Ok(Form::Encrypt0),
+        _ => Err(CoseError::UnexpectedItem("word", "form")),
+    }
+}
+
+/// Returns the layer that a word describes: its form, and its headers if it has some.
+///
+/// # Errors
+/// - A fault in the word.
+/// - `OutOfMemory` if an allocation fails.
+fn layer<'k>(alloc: Global, word: &str) -> Result<VerifiedLayer<'k>> {
+    let mut parts = word.split(':');
+    let form = form(parts.next().unwrap_or(""))?;
+    let mut protected = Header::new(alloc);
+    let mut unprotected = Header::new(alloc);
+    if let Some(map) = parts.next() {
+        protected = read(alloc, map)?;
+    }
+    if let Some(map) = parts.next() {
+        unprotected = read(alloc, map)?;
+    }
+    Ok(VerifiedLayer {
+        form,
+        protected: ProtectedHeader {
+            original_data: None,
+            header: protected,
+        },
+        unprotected,
+        issuer: None,
+    })
+}
+
+/// Returns a token with these layers and claims.
+///
+/// # Errors
+/// - A fault in the words.
+/// - `OutOfMemory` if an allocation fails.
+pub fn token<'k>(alloc: Global, layers: &str, claims: &[u8]) -> Result<VerifiedToken<'k>> {
+    let known = ClaimsSet::known_from_slice(alloc, claims)?;
+    let mut verified = Vec::new(alloc);
+    for word in layers.split(',') {
+        verified.push(layer(alloc, word)?)?;
+    }
+    Ok(VerifiedToken {
+        claims: known.claims,
+        audience: known.audience,
+        others: known.others,
+        issuer: None,
+        layers: verified,
+    })
+}
