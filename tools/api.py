@@ -10,12 +10,12 @@ import sources  # noqa: E402
 
 HEADING = """# API
 
-Each public type and function of `coset`, and of `cwt_verify`, `cwt_ring`, `cwt_keys` and `cwt_gate`, by the paths by which they are called, with the first sentence of its comment: `tools/pages --write` makes this page of the sources, where the contracts are too. Where a closure is an argument, its own type is in the place of a type parameter. What a call asks for first (`requires`) is in a table of docs/CALLING.md. Registries are under `coset::iana`, with their numbers and names; each has `EnumI64`, `Named` and `Display`.
+Each public type and function of `coset`, and of `cwt_verify`, `cwt_ring`, `cwt_keys`, `cwt_confirm` and `cwt_gate`, by the paths by which they are called, with the first sentence of its comment: `tools/pages --write` makes this page of the sources, where the contracts are too. Where a closure is an argument, its own type is in the place of a type parameter. What a call asks for first (`requires`) is in a table of docs/CALLING.md. Registries are under `coset::iana`, with their numbers and names; each has `EnumI64`, `Named` and `Display`.
 
 A type that has `Codec` is read and written by the calls of `CborSerializable`, `AsCborValue` and `FromPull`, and one that has `TaggedCodec` by those of `TaggedCborSerializable` too.
 """
 # The crates for web tokens, beside the facade.
-TOKENS = ("cwt_verify", "cwt_ring", "cwt_keys", "cwt_gate")
+TOKENS = ("cwt_verify", "cwt_ring", "cwt_keys", "cwt_confirm", "cwt_gate")
 FACADE = ("", "cwt", "cbor", "cbor::value", "cbor::de", "cbor::ser", "cbor::head", "cbor::cursor", "iana")
 ITEM = re.compile(r"((?:^ *///[^\n]*\n|^ *#\[[^\n]*\n)*)^( *)pub (struct|enum|trait|type|const fn|fn|const) (\w+)(.*?)$", re.M)
 IMPL = re.compile(r"^impl\b(.*?)\s*\{(\}?)\n", re.M | re.S)

@@ -30,8 +30,9 @@ struct function {
   const char *name;
   int32_t (*call)(const union word *);
   const char *classes; /* k kind, f flag, u number, i index, s label, b bytes and z their length, w labels and y their number,
-                          p pairs and q their number, x other structs and n their number, r a struct that begins with its size,
-                          o a buffer and c its length, l the length of the result, a and v other results */
+                          p pairs and q their number, t texts and m their number, x other structs and n their number, r a struct
+                          that begins with its size, o a buffer and c its length, l the length of the result, a and v other
+                          results */
   size_t sizes[WORDS]; /* of results and structs */
 };
 #include "calls.h"
@@ -70,7 +71,7 @@ static _Thread_local int long_at = -1; /* the length that is too long */
 
 static void tell_words(void) {
   for (size_t i = 0; now->classes[i]; i++) {
-    if (!strchr("bwp", now->classes[i])) {
+    if (!strchr("bwpt", now->classes[i])) {
       fprintf(stdout, " %#" PRIx64, words[i].number);
       continue;
     }
@@ -151,11 +152,18 @@ static uint64_t chosen(uint64_t n) {
   return (state * 0x2545f4914f6cdd1d >> 16) % n;
 }
 
+/* Returns true if the function is about tokens and their keys. */
+static int is_about_tokens(const struct function *f) {
+  return strchr(f->classes, 't') || !strcmp(f->name, "coset_key_fits");
+}
+
 static uint64_t number(char class, uint32_t kind) {
+  static const int64_t algorithms[] = {5, 4, 10, 1, 7, 3, 2, -7, -8, 24};
   static const int64_t labels[] = {1, 2, 3, 4, 5, 6, 7, 8, 9, 11, 12, 0, -1, -2, -3, -4, -7, -65537, 256, INT64_MAX, INT64_MIN};
   uint32_t other = kinds[chosen(sizeof kinds / sizeof *kinds)] + (uint32_t)chosen(3) * FORM;
   if (class == 'f') return chosen(8) ? chosen(2) : UINT32_MAX;
   if (class == 'k') return chosen(8) ? kind : chosen(16) ? other : (uint32_t)chosen(1 << 11);
+  if (class == 's' && is_about_tokens(now) && chosen(8)) return (uint64_t)algorithms[chosen(2) ? 7 : chosen(10)];
   if (class == 's') return (uint64_t)labels[chosen(sizeof labels / sizeof *labels)];
   if (class == 'i') return chosen(16) ? chosen(3) : SIZE_MAX >> chosen(64);
   return chosen(16) ? chosen(6) : UINT32_MAX;
@@ -219,11 +227,12 @@ static size_t bytes_for(struct place *p, const struct row *first, const uint8_t 
   return chosen(2) ? damaged(p->was, row->len) : row->len;
 }
 
-/* Gives a call some labels. */
+/* Gives a call some labels. If it is about a token, most are numbers of algorithms and of claims. */
 static void lend_labels(struct place *p) {
+  static const int64_t assigned[] = {5, 4, 10, 1, 7, 3, 2, -7};
   size_t count = chosen(5);
   for (size_t i = 0; i < count; i++) {
-    uint64_t label = number('s', 0);
+    uint64_t label = is_about_tokens(now) && chosen(32) ? (uint64_t)assigned[chosen(8)] : number('s', 0);
     memcpy(p->was + i * sizeof label, &label, sizeof label);
   }
   lend(p, count * sizeof(int64_t), 0);
@@ -234,7 +243,7 @@ static void lend_labels(struct place *p) {
 static void lend_structs(struct place *p, size_t size, size_t count, int has_size) {
   lend(p, count * size, 0);
   for (size_t at = 0; at < p->n; at += 4) {
-    uint32_t field = at % 8 && chosen(4) ? 0 : chosen(64) ? (uint32_t)chosen(chosen(2) ? 6 : 300) : UINT32_MAX;
+    uint32_t field = (at % 8 || has_size) && chosen(4) ? 0 : chosen(64) ? (uint32_t)chosen(chosen(2) ? 6 : 300) : UINT32_MAX;
     memcpy(p->at + at, &field, sizeof field);
   }
   if (has_size && chosen(32)) memcpy(p->at, &size, sizeof size);
@@ -254,11 +263,30 @@ static void lend_pairs(struct place *p) {
   if (count) memcpy(p->at, p->was, p->n);
 }
 
-/* Chooses a row for a function: half of the time one for which it returned a result. libFuzzer uses no rows. */
+/* Gives a call some texts, whose bytes follow an inaccessible page. Some aren't UTF-8, and some are longer than any object. */
+static void lend_texts(struct place *p) {
+  size_t count = chosen(4);
+  for (size_t i = 0; i < count; i++) {
+    uint8_t *at = p->start + i * 8;
+    size_t len = chosen(9);
+    for (size_t k = 0; k < 8; k++) at[k] = (uint8_t)(chosen(32) ? 'a' + chosen(26) : chosen(256));
+    coset_text text = {len || chosen(2) ? (const char *)at : NULL, len};
+    if (!chosen(32)) text.len = chosen(2) ? SIZE_MAX : (size_t)PTRDIFF_MAX + 1;
+    memcpy(p->was + i * sizeof text, &text, sizeof text);
+  }
+  lend(p, count * sizeof(coset_text), 0);
+  if (count) memcpy(p->at, p->was, p->n);
+}
+
+/* Chooses a row for a function: half of the time one for which it returned a result. The first rows are tokens, and keys follow
+ * them: most others are these for the functions about tokens. libFuzzer uses no rows. */
 static const struct row *row_for(const struct function *f) {
   uint64_t count = liked[f - functions].count;
+  const int is_key = !strcmp(f->name, "coset_key_fits");
   if (choices) return NULL;
-  return count && chosen(2) ? liked[f - functions].rows[chosen(count < 64 ? count : 64)] : &rows[chosen(row_count)];
+  if (count && chosen(2)) return liked[f - functions].rows[chosen(count < 64 ? count : 64)];
+  if (is_about_tokens(f) && chosen(4) && TOKENS + KEYS <= row_count) return is_key ? &rows[TOKENS + chosen(KEYS)] : &rows[chosen(TOKENS)];
+  return &rows[chosen(row_count)];
 }
 
 /* Chooses a function and its arguments. */
@@ -284,6 +312,8 @@ static void choose(const uint8_t *rest, size_t left) {
     case 'r': lend_structs(p, now->sizes[i], 1, 1), words[i].at = p->at; break;
     case 'p': lend_pairs(p), words[i].at = p->at; break;
     case 'q': words[i].number = places[i - 1].n / sizeof(coset_pair); break;
+    case 't': lend_texts(p), words[i].at = p->at; break;
+    case 'm': words[i].number = places[i - 1].n / sizeof(coset_text); break;
     case 'z': case 'c': words[i].number = places[i - 1].n; break;
     case 'l': case 'a': case 'v': lend(p, now->sizes[i], 0), words[i].at = p->at; break;
     default: words[i].number = number(now->classes[i], kind);
@@ -326,9 +356,9 @@ static void look(int32_t status, size_t len) {
   for (int i = 0; now->classes[i]; i++) {
     struct place *p = &places[i];
     char class = now->classes[i];
-    if (!strchr("bwpolavxr", class)) continue;
+    if (!strchr("bwptolavxr", class)) continue;
     if (!is_untouched(p->at == p->start ? p->at + p->n : p->at - CANARY, CANARY)) fail("writes outside of a place");
-    if (strchr("bwpxr", class) && p->n && memcmp(p->at, p->was, p->n)) fail("writes into an input");
+    if (strchr("bwptxr", class) && p->n && memcmp(p->at, p->was, p->n)) fail("writes into an input");
     if (class == 'o' && is_answer(status) && len > p->n) fail("a length that is more than there is");
     size_t written = is_answer(status) ? len : 0;
     if (class == 'o' && !is_untouched(p->at + written, p->n - written)) fail("writes into out behind the answer");
@@ -383,7 +413,7 @@ static void refuse_each(int32_t status, size_t cap, size_t len) {
 static void lengthen_each(size_t cap) {
   for (int i = 0; now->classes[i]; i++) {
     size_t told;
-    if (!strchr("zyqnc", now->classes[i])) continue;
+    if (!strchr("zyqmnc", now->classes[i])) continue;
     long_at = i;
     if (made(cap, &told) != COSET_MISUSE) fail("a length above PTRDIFF_MAX isn't COSET_MISUSE");
     long_at = -1;

@@ -65,7 +65,7 @@ LAWS = re.compile(r"^use \w+::laws::(?:\{([^}]*)\}|(\w+));\n", re.M)
 
 # An impl of Keys must say what its keys accept; this replacement says nothing about them.
 KEYS = re.compile(r"^(impl\b[^\n]* Keys for [^\n]*\{\n)( *type Error = \w+;\n)", re.M)
-SAYS_NOTHING = r"""\1    ghost use Rattle.cwt_gate.specs.Keys.{accept_anything};
+SAYS_NOTHING = r"""\1    ghost use Rattle.cwt_keys.specs.Keys.{accept_anything};
 
 \2
     ghost view = { λ keys. accept_anything };

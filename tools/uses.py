@@ -59,7 +59,7 @@ def lists(paths, name):
 def crates(use):
     """Returns the crates that a use may name, lowest first."""
     whole = "".join(read("crates", CRATE, it) for it in needed(use))
-    return [it for it in common.named()[CRATE] if it != "cwt_gate" or it in whole]
+    return [it for it in common.named()[CRATE] if not it.startswith("cwt_") or it in whole]
 
 
 def copy(use, to):

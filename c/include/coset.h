@@ -65,7 +65,7 @@ enum {
   COSET_TYPE = 14,         /* the value is there, but isn't a string, or isn't an integer in the range of int64_t. From
                               a call that sets a span also: a string is in chunks */
   COSET_EMPTY = 15,        /* the counted list is empty: verifying each of its signatures would verify none */
-  /* Statuses of coset_token_claims, and of coset_token_judge in coset_verify.h. The other calls there return the first
+  /* Statuses of coset_token_open, which coset_verify.h also returns. The calls for messages there return the first
    * two. */
   COSET_NOT_ALLOWED = 16,  /* the protected header doesn't name an allowed algorithm by its number */
   COSET_CRITICAL = 17,     /* a critical label isn't understood, or isn't protected */
@@ -78,8 +78,13 @@ enum {
   COSET_NOT_YET_VALID = 25, /* the token isn't valid yet, nbf */
   COSET_ISSUED_LATER = 26, /* the token is issued later than now, iat */
   COSET_TOO_OLD = 27,      /* the token has reached the greatest age, or has no time of issue */
-  COSET_ISSUER = 28,       /* the token has another issuer, or none */
-  COSET_AUDIENCE = 29      /* the token has another audience, or none */
+  COSET_ISSUER = 28,       /* iss isn't the name of the issuer whose key authenticated the token */
+  COSET_AUDIENCE = 29,     /* the token is for another audience, aud */
+  COSET_HEADERS = 30,      /* a label is in both headers of a layer, or a layer has an IV and a Partial IV */
+  COSET_TOKEN_TYPE = 31,   /* the innermost layer names none of the types, typ */
+  COSET_HEADER_CLAIMS = 32, /* a header has claims that aren't in the payload */
+  COSET_MISSING = 33,      /* the token doesn't have a required claim */
+  COSET_UNFIT = 34         /* from coset_key_fits alone: the key doesn't fit the layer */
 };
 
 /* Kinds. */
@@ -362,25 +367,32 @@ coset_status coset_message_spans(uint32_t kind, const uint8_t *in, size_t in_len
                                  coset_message_spans_view *view);
 
 /* ---- Web tokens (RFC 8392). Their layers are COSE_Sign1, COSE_Mac0 and COSE_Encrypt0 in any order, at most four of
- * them. Each is plain or under its tag, and the outermost may be under tag 61 on top of that. coset_token_judge of
- * coset_verify.h calls coset_token_claims with the caller's function. */
+ * them. An inner layer is under its tag. The outermost is under its tag, under tag 61 and its tag, or plain.
+ * coset_token_verify of coset_verify.h makes these calls, and asks the caller's function about each layer. */
 
-/* A verifier's requirements for a token. If all fields but size are zero, there is no leeway and no greatest age.
- * Layers without a tag are COSE_Sign1, and a signature or a MAC authenticates. Unassigned claims are refused. A token
- * must expire, and must not be issued later than now. Issuer and audience are not checked: a token for another audience
- * is accepted. */
+/* A text in UTF-8, without a zero byte at its end. chars may be NULL if len is 0. */
+typedef struct coset_text {
+  const char *chars;
+  size_t len;
+} coset_text;
+
+/* Initializes a coset_text with a string literal. */
+#define COSET_LITERAL(literal) {literal, sizeof(literal) - 1}
+
+/* A verifier's requirements for a token, besides the lists. If all fields but size are zero, these hold:
+ * - A layer without a tag is a COSE_Sign1, and a signature or a MAC must authenticate.
+ * - The token must expire, and must not be issued later than now.
+ * - There is no leeway, and no greatest age. */
 typedef struct coset_rules {
   size_t size;                  /* sizeof(coset_rules) */
   uint64_t leeway;              /* the number of seconds by which the clocks of issuer and verifier may differ */
-  uint64_t max_age;             /* the age in seconds at which a token is refused, if has_max_age isn't 0 */
-  uint32_t has_max_age;
-  uint32_t plain;               /* the form of a layer without a tag: 0 or COSET_SIGN1, COSET_MAC0, COSET_ENCRYPT0 */
+  uint64_t max_age;             /* the age in seconds since iat at which a token is refused, or 0 for none */
+  uint32_t untagged_form;       /* the form of an outermost layer without a tag: 0 or COSET_SIGN1, COSET_MAC0,
+                                   COSET_ENCRYPT0 */
   uint32_t authenticated_by;    /* 0 for a signature or a MAC, or COSET_BY_SIGNATURE, COSET_BY_ANY */
-  uint32_t leaves_out;          /* if it isn't 0, claims with unassigned numbers and an aud in an array are left out */
+  uint32_t any_audience;        /* if it isn't 0, aud isn't checked, and the list of audiences must be empty */
   uint32_t may_not_expire;      /* if it isn't 0, a token may lack exp */
   uint32_t may_be_issued_later; /* if it isn't 0, iat may be later than now */
-  uint32_t has_issuer;          /* if it isn't 0, iss must be the issuer that is given */
-  uint32_t has_audience;        /* if it isn't 0, aud must be the audience that is given */
 } coset_rules;
 
 /* The layers that authenticate the sender of a token. */
@@ -398,23 +410,28 @@ typedef struct coset_opened {
   size_t proof_len;
   size_t plaintext;     /* for COSET_ENCRYPT0 the offset of the plaintext, and its length; else 0 */
   size_t plaintext_len;
+  size_t issuer;        /* the offset of the name of the issuer whose key opened the layer, in UTF-8 */
+  size_t issuer_len;    /* the length of that name, or 0 if the issuer has no name */
 } coset_opened;
 
-/* The numbers that coset_token_claims returns for a layer that waits. Unless the status is COSET_LAYER, they are
- * zeros. */
+/* The layer that waits (COSET_LAYER), or the layer or claim that a refusal is about. All other numbers are zeros. */
 typedef struct coset_layer {
-  uint32_t form;        /* COSET_SIGN1: verify the signature; COSET_MAC0: verify the MAC; COSET_ENCRYPT0: decrypt */
-  uint32_t key_id_map;  /* as in coset_sign1_view */
-  int64_t algorithm;    /* one of those that you allow */
-  size_t structure_len; /* the lengths of the five texts */
+  uint32_t form;        /* COSET_LAYER: COSET_SIGN1: verify the signature; COSET_MAC0: the MAC; COSET_ENCRYPT0: decrypt */
+  uint32_t key_id_map;  /* COSET_LAYER: as in coset_sign1_view */
+  int64_t algorithm;    /* COSET_LAYER: one of those that you allow. COSET_NOT_ALLOWED: the one that the layer names,
+                           or 0 if it names none by a number */
+  int64_t claim;        /* COSET_MISSING: the number of the required claim */
+  size_t index;         /* COSET_LAYER, and a refusal of a layer or COSET_MEMORY while one is read: its index from the
+                           outermost, which is 0 */
+  size_t structure_len; /* COSET_LAYER: the lengths of the five texts */
   size_t proof_len;
   size_t key_id_len;    /* the last three are 0 if there is none */
   size_t iv_len;
   size_t partial_iv_len;
 } coset_layer;
 
-/* Writes the claims of a token at `now`, in seconds since 1970 began in UTC. They are a COSET_CLAIMS in its shortest
- * encoding, without the claims that are left out. Call it first with no layer opened.
+/* Verifies a token at `now`, in seconds since 1970 began in UTC, as far as its layers are opened. Call it first with no
+ * layer opened.
  *
  * COSET_LAYER: a layer waits. out begins with five texts of it, one after another, and *len is their total length:
  * - the structure that is signed, authenticated, or goes with the ciphertext, for an empty external_aad,
@@ -423,21 +440,59 @@ typedef struct coset_layer {
  * - the initialization vector,
  * - the partial initialization vector.
  *
- * Verify or decrypt the layer by a key that you trust, append it to `opened`, and call again.
+ * Verify or decrypt the layer by a key that coset_key_fits accepts. Append the layer to `opened`, with the name of the
+ * key's issuer, and call again. Entries whose ranges aren't in the bytes open no layer.
  *
- * COSET_OK: you opened each layer, with these very bytes, and the token meets the rules.
+ * COSET_OK: you opened each layer, with these very bytes, and the token meets the rules. out begins with the verified
+ * token, in its shortest encoding:
  *
- * signatures, macs and ciphers are the algorithms that you allow in signatures, in MACs and in encryption. critical are
- * the labels that you understand. issuer and audience are UTF-8, and empty if their flag is 0. Also: COSET_SHORT,
- * COSET_ABSENT if a layer carries no payload, and the statuses from COSET_NOT_ALLOWED on. The status is COSET_MISUSE if
- * a number of the rules has no meaning, or if a name isn't UTF-8 or has no flag. */
-COSET_CALL(1, 23, 24)
-coset_status coset_token_claims(const coset_rules *rules, const int64_t *signatures, size_t signatures_len, const int64_t *macs,
-                                size_t macs_len, const int64_t *ciphers, size_t ciphers_len, const int64_t *critical,
-                                size_t critical_len, const uint8_t *issuer, size_t issuer_len, const uint8_t *audience,
-                                size_t audience_len, const uint8_t *in, size_t in_len, int64_t now,
-                                const coset_opened *opened, size_t opened_len, const uint8_t *bytes, size_t bytes_len,
-                                uint8_t *out, size_t cap, size_t *len, coset_layer *layer);
+ *   verified_token = [ claims : Claims_Set, audience : [* tstr], others : { * label => any }, issuer : tstr / nil,
+ *                      layers : [+ verified_layer] ]
+ *   verified_layer = [ form : 1 / 3 / 5, protected : bstr, unprotected : header_map, issuer : tstr / nil ]
+ *
+ * - claims are without the others, and without aud if that is an array.
+ * - audience are the texts of aud.
+ * - others are the claims whose numbers are neither assigned by IANA nor for private use.
+ * - issuer is the name of the issuer whose key authenticated the token. If the token has iss, that is the same name.
+ * - layers begin with the outermost one. protected is the content of the protected header's byte string, as received.
+ *
+ * The arguments:
+ * - algorithms are those that you allow, each in layers of its own form. The status is COSET_MISUSE if IANA hasn't
+ *   assigned one of these numbers, or one of `required`.
+ * - critical are the labels that you understand, besides 1 to 6, 15 and 16.
+ * - required are the claims that a token must have.
+ * - audiences: aud must name one of them. If there are none, a token with aud is refused.
+ * - types: the protected header of the innermost layer must name one of them, typ (RFC 9596). If there are none, typ
+ *   isn't looked at.
+ *
+ * The status is COSET_MISUSE also if a number of the rules has no meaning, or if a text or the name of an opened layer's
+ * issuer isn't UTF-8. Also: COSET_SHORT, COSET_ABSENT if a layer carries no payload or ciphertext, and the statuses
+ * from COSET_NOT_ALLOWED to COSET_MISSING. */
+COSET_CALL(1, 21, 22)
+coset_status coset_token_open(const coset_rules *rules, const int64_t *algorithms, size_t algorithms_len,
+                              const int64_t *critical, size_t critical_len, const int64_t *required, size_t required_len,
+                              const coset_text *audiences, size_t audiences_len, const coset_text *types, size_t types_len,
+                              const uint8_t *in, size_t in_len, int64_t now, const coset_opened *opened, size_t opened_len,
+                              const uint8_t *bytes, size_t bytes_len, uint8_t *out, size_t cap, size_t *len,
+                              coset_layer *layer);
+
+/* Checks that a COSET_KEY fits a layer, and writes the nonce for decryption, of at most 13 bytes. It is empty if the
+ * algorithm has none. A key fits if all of these hold:
+ * - alg of the key is the layer's algorithm (RFC 8725, section 3.1), which has a number of IANA and is for the form.
+ * - kty, crv, and the lengths of the key's members are those that the algorithm requires (RFC 9053).
+ * - key_ops is absent, or has an operation for layers of this form (RFC 9052, section 7.1).
+ * - The MAC has the algorithm's length. The ciphertext isn't shorter than its tag.
+ * - For encryption, the layer has an IV of the algorithm's length. Or it has no IV but a Partial IV, and the key has a
+ *   Base IV (RFC 9052, section 3.1).
+ * - The layer names no key identifier, or the key's.
+ *
+ * form is COSET_SIGN1, COSET_MAC0 or COSET_ENCRYPT0. The texts are those of the layer, as coset_token_open wrote them.
+ * Also: COSET_SHORT; COSET_UNFIT if the key doesn't fit. */
+COSET_CALL(15)
+coset_status coset_key_fits(const uint8_t *key, size_t key_len, uint32_t form, int64_t algorithm, const uint8_t *key_id,
+                            size_t key_id_len, const uint8_t *iv, size_t iv_len, const uint8_t *partial_iv,
+                            size_t partial_iv_len, const uint8_t *proof, size_t proof_len, uint8_t *out, size_t cap,
+                            size_t *len);
 
 /* ---- Making: first the structure, then your signature, tag or ciphertext, then the message. Each call writes the
  * shortest encoding of an item of the kind. Also, for each call: COSET_SHORT; and, unless stated otherwise,

@@ -311,22 +311,20 @@ static inline int coset_is_deeper(const uint8_t *in, size_t len, size_t most) {
 
 /* ---- Web tokens */
 
-/* A verifier's requirements for a token: the rules, and the lists and names that go with them. A policy of all zeros,
- * except for the size of the rules, accepts nothing. */
+/* A verifier's requirements for a token: the rules, and the lists that coset_token_open takes. The size of the rules is
+ * set by coset_token_verify. A policy of all zeros accepts nothing, because it allows no algorithm. */
 typedef struct coset_token_policy {
   coset_rules rules;
-  const int64_t *signatures; /* the algorithms that are allowed in signatures */
-  size_t signatures_len;
-  const int64_t *macs; /* the algorithms that are allowed in MACs */
-  size_t macs_len;
-  const int64_t *ciphers; /* the algorithms that are allowed in encryption */
-  size_t ciphers_len;
+  const int64_t *algorithms; /* the algorithms that are allowed */
+  size_t algorithms_len;
   const int64_t *critical; /* the critical labels that the caller understands, and acts on */
   size_t critical_len;
-  const char *issuer; /* UTF-8, if rules.has_issuer isn't 0 */
-  size_t issuer_len;
-  const char *audience; /* UTF-8, if rules.has_audience isn't 0 */
-  size_t audience_len;
+  const int64_t *required; /* the claims that a token must have */
+  size_t required_len;
+  const coset_text *audiences; /* the caller's names, one of which aud must be; none: a token with aud is refused */
+  size_t audiences_len;
+  const coset_text *types; /* the types, one of which typ must be; none: typ isn't looked at */
+  size_t types_len;
 } coset_token_policy;
 
 /* The question that the caller's function answers for a layer. */
@@ -344,11 +342,37 @@ typedef struct coset_layer_question {
   size_t iv_len;
   const uint8_t *partial_iv; /* NULL if there is none */
   size_t partial_iv_len;
+  size_t index; /* of the layer, from the outermost, which is 0 */
 } coset_layer_question;
 
-/* Verifies or decrypts the layer by a key that the caller trusts for that algorithm, and returns 1 if it is authentic.
- * For COSET_ENCRYPT0 the plaintext is then in `plain`, which has `cap` bytes, and `*len` is its length. */
-typedef int (*coset_opener)(void *context, const coset_layer_question *question, uint8_t *plain, size_t cap, size_t *len);
+enum {
+  COSET_NO_ROOM = -1 /* a coset_opener's result: `plain` is too small */
+};
+
+/* Verifies or decrypts the layer by a key that fits (coset_key_fits), and that the caller trusts. Returns:
+ * - 1 if the layer is authentic. For COSET_ENCRYPT0 the plaintext is then in `plain`, which has `cap` bytes, and `*len`
+ *   is its length. `*issuer` is the name of the key's issuer, or remains empty if that issuer has no name.
+ * - COSET_NO_ROOM if `cap` is too small. `*len` may be the size that is needed.
+ * - 0 otherwise. Any other result counts as 0. */
+typedef int (*coset_opener)(void *context, const coset_layer_question *question, uint8_t *plain, size_t cap, size_t *len,
+                            coset_text *issuer);
+
+/* A verified token. All pointers are into the memory to work in. */
+typedef struct coset_token {
+  const uint8_t *claims; /* COSET_CLAIMS, without the others, and without aud if that is an array */
+  size_t claims_len;
+  const uint8_t *audience; /* COSET_ITEM: an array of the texts in aud */
+  size_t audience_len;
+  const uint8_t *others; /* COSET_ITEM: a map of the claims whose numbers are neither assigned nor for private use */
+  size_t others_len;
+  const uint8_t *layers; /* COSET_ITEM: an array of the layers, the outermost first (verified_layer of coset.h) */
+  size_t layers_len;
+  const char *issuer; /* the name of the issuer whose key authenticated the token; NULL if it has none */
+  size_t issuer_len;
+  coset_layer layer; /* after a refusal: the layer or claim that it is about, as coset_token_open says; after
+                        COSET_REFUSED the layer that was refused; else zeros */
+  size_t needed;     /* after COSET_SHORT the least size of `work` for the next step; else 0 */
+} coset_token;
 
 /* Returns the question for a layer that waits. Its texts are at `text`. */
 static inline coset_layer_question coset_layer_asked(const coset_layer *layer, const uint8_t *text) {
@@ -366,56 +390,125 @@ static inline coset_layer_question coset_layer_asked(const coset_layer *layer, c
   question.iv_len = layer->iv_len;
   question.partial_iv = layer->partial_iv_len ? question.proof + layer->proof_len + layer->key_id_len + layer->iv_len : NULL;
   question.partial_iv_len = layer->partial_iv_len;
+  question.index = layer->index;
   return question;
 }
 
-/* Judges a token at `now`, in seconds since 1970 began in UTC, and returns the status.
- *
- * If the status is COSET_OK, `opener` said yes to each layer, and the token meets the policy. `*claims` are then its
- * claims, a COSET_CLAIMS of `*claims_len` bytes in `work`. After any other status `*claims` is NULL, and `work` has
- * zeros, unless `cap` is above PTRDIFF_MAX.
- *
- * `work` needs room for the texts of each layer, for plaintexts, and for the claims. Four times the token's length and
- * 64 bytes for each of its layers are enough. If `work` is too small, the status is COSET_SHORT. */
-static inline coset_status coset_token_judge(const uint8_t *in, size_t in_len, int64_t now, const coset_token_policy *policy,
-                                             coset_opener opener, void *context, uint8_t *work, size_t cap,
-                                             const uint8_t **claims, size_t *claims_len) {
+/* Sets the fields of a token that has nothing but these. */
+static inline void coset_token_none(coset_token *token, const coset_layer *layer, size_t needed) {
+  token->claims = token->audience = token->others = token->layers = NULL;
+  token->claims_len = token->audience_len = token->others_len = token->layers_len = 0;
+  token->issuer = NULL;
+  token->issuer_len = 0;
+  token->layer = *layer;
+  token->needed = needed;
+}
+
+/* Takes the verified token of `len` bytes at `item` apart, into its five elements. */
+static inline coset_status coset_token_parts(const uint8_t *item, size_t len, coset_token *token) {
+  coset_span span[5], name;
+  coset_status status = coset_member_span(COSET_ITEM, item, len, 0, &span[0]);
+  size_t i;
+  for (i = 1; i < 5 && !status; i++) status = coset_item_span(item, len, span[i - 1].at + span[i - 1].len, &span[i]);
+  if (status) return status;
+  status = coset_string_span(item + span[3].at, span[3].len, &name);
+  if (status && status != COSET_TYPE) return status;
+  token->claims = item + span[0].at, token->claims_len = span[0].len;
+  token->audience = item + span[1].at, token->audience_len = span[1].len;
+  token->others = item + span[2].at, token->others_len = span[2].len;
+  token->layers = item + span[4].at, token->layers_len = span[4].len;
+  if (status) return COSET_OK; /* nil instead of a name */
+  token->issuer = (const char *)item + span[3].at + name.at, token->issuer_len = name.len;
+  return COSET_OK;
+}
+
+/* The memory to work in, and the layers that are opened. */
+struct coset_work {
+  uint8_t *at;
+  size_t cap, used;
   coset_opened opened[4];
+  size_t count;
+};
+
+/* Makes the call of coset_token_open with the layers that are opened. Its result is behind them in the memory. */
+static inline coset_status coset_work_next(const struct coset_work *work, const uint8_t *in, size_t in_len, int64_t now,
+                                           const coset_token_policy *policy, size_t *len, coset_layer *layer) {
+  coset_rules rules = policy->rules;
+  rules.size = sizeof rules;
+  return coset_token_open(&rules, policy->algorithms, policy->algorithms_len, policy->critical, policy->critical_len,
+                          policy->required, policy->required_len, policy->audiences, policy->audiences_len, policy->types,
+                          policy->types_len, in, in_len, now, work->opened, work->count, work->at, work->used,
+                          work->at + work->used, work->cap - work->used, len, layer);
+}
+
+/* Asks about the layer whose five texts, of `texts_len` bytes, are behind the opened layers. If the answer is yes,
+ * appends the layer to these. Returns COSET_OK, COSET_REFUSED, or COSET_SHORT if `*needed` bytes are needed. */
+static inline coset_status coset_work_ask(struct coset_work *work, const coset_layer *layer, size_t texts_len,
+                                          coset_opener opener, void *context, size_t *needed) {
+  const size_t at = work->used + texts_len, left = work->cap - at;
+  const coset_layer_question question = coset_layer_asked(layer, work->at + work->used);
+  coset_opened *opened;
+  coset_text name = {NULL, 0};
+  size_t plain = 0, i;
+  int said;
+  if (work->count == 4) return COSET_REFUSED;
+  said = opener(context, &question, work->at + at, left, &plain, &name);
+  if (said == COSET_NO_ROOM) { /* more than there is, or else what the proof needs at most */
+    if (plain <= left) plain = layer->proof_len > left ? layer->proof_len : left + 1;
+    *needed = plain <= (size_t)PTRDIFF_MAX - at ? at + plain : (size_t)PTRDIFF_MAX;
+    return COSET_SHORT;
+  }
+  if (layer->form != COSET_ENCRYPT0) plain = 0;
+  if (!name.chars) name.len = 0;
+  if (said != 1 || plain > left || name.len > (size_t)PTRDIFF_MAX - at - plain) return COSET_REFUSED;
+  *needed = at + plain + name.len;
+  if (*needed > work->cap) return COSET_SHORT;
+  opened = &work->opened[work->count++];
+  opened->form = layer->form;
+  opened->offset = work->used;
+  opened->structure_len = layer->structure_len, opened->proof_len = layer->proof_len;
+  opened->plaintext = layer->form == COSET_ENCRYPT0 ? at : 0, opened->plaintext_len = plain;
+  opened->issuer = name.len ? at + plain : 0, opened->issuer_len = name.len;
+  for (i = 0; i < name.len; i++) work->at[at + plain + i] = (uint8_t)name.chars[i];
+  work->used = *needed;
+  return COSET_OK;
+}
+
+/* Verifies a token at `now`, in seconds since 1970 began in UTC, and returns the status.
+ *
+ * If the status is COSET_OK, `opener` said yes to each layer, and the token meets the policy. `*token` then has its
+ * parts. After any other status the pointers of `*token` are NULL, and `work` has zeros, unless `cap` is above
+ * PTRDIFF_MAX. COSET_REFUSED means that `opener` said no.
+ *
+ * `work` needs room for the texts of each layer, plaintexts, names of issuers, and the verified token. Nine times the
+ * token's length and 64 bytes for each of its layers are enough, if the names of issuers and audience are short
+ * (docs/C.md: The room). If `work` is too small, the status is COSET_SHORT, and token->needed says how much the next
+ * step needs. It is more than `cap`. A later step may need more. */
+static inline coset_status coset_token_verify(const uint8_t *in, size_t in_len, int64_t now, const coset_token_policy *policy,
+                                              coset_opener opener, void *context, uint8_t *work, size_t cap,
+                                              coset_token *token) {
+  static const coset_layer nowhere = {0, 0, 0, 0, 0, 0, 0, 0, 0, 0};
+  struct coset_work room;
   coset_layer layer;
-  coset_layer_question question;
-  size_t count = 0, used = 0, len, plain;
-  coset_status status;
-  *claims = NULL;
-  *claims_len = 0;
+  coset_status status = COSET_LAYER;
+  size_t len = 0, needed = 0;
+  room.at = work, room.cap = cap, room.used = 0, room.count = 0;
+  coset_token_none(token, &nowhere, 0);
   if (cap > (size_t)PTRDIFF_MAX) return COSET_MISUSE;
   for (;;) {
-    status = coset_token_claims(&policy->rules, policy->signatures, policy->signatures_len, policy->macs, policy->macs_len,
-                                policy->ciphers, policy->ciphers_len, policy->critical, policy->critical_len,
-                                (const uint8_t *)policy->issuer, policy->issuer_len, (const uint8_t *)policy->audience,
-                                policy->audience_len, in, in_len, now, opened, count, work, used, work + used, cap - used,
-                                &len, &layer);
-    if (status == COSET_OK) {
-      *claims = work + used;
-      *claims_len = len;
-      return COSET_OK;
-    }
+    status = coset_work_next(&room, in, in_len, now, policy, &len, &layer);
+    if (status == COSET_SHORT) needed = room.used + len;
     if (status != COSET_LAYER) break;
-    question = coset_layer_asked(&layer, work + used);
-    plain = 0;
-    status = COSET_REFUSED;
-    if (opener(context, &question, work + used + len, cap - used - len, &plain) != 1) break;
-    if (layer.form != COSET_ENCRYPT0) plain = 0;
-    if (count == 4 || plain > cap - used - len) break;
-    opened[count].form = layer.form;
-    opened[count].offset = used;
-    opened[count].structure_len = layer.structure_len;
-    opened[count].proof_len = layer.proof_len;
-    opened[count].plaintext = used + len;
-    opened[count].plaintext_len = plain;
-    count++;
-    used += len + plain;
+    status = coset_work_ask(&room, &layer, len, opener, context, &needed);
+    if (status) break;
   }
+  if (!status) status = coset_token_parts(work + room.used, len, token);
+  if (!status) return COSET_OK;
   coset_cleared(work, cap);
+  if (status == COSET_SHORT)
+    coset_token_none(token, &nowhere, needed);
+  else
+    coset_token_none(token, &layer, 0);
   return status;
 }
 

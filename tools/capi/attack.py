@@ -6,6 +6,7 @@ import subprocess
 
 from capi.building import HERE, run
 from capi.kinds import KINDS, TAGGED, number_of
+from sources import read
 
 SEED = 20_160_101
 FIRST_STATUS, FIRST_KIND = "COSET_OK", "COSET_SIGN1"  # the constant that an enum of the header begins with
@@ -31,10 +32,10 @@ def enum(text, first):
 
 def class_of(type_, name, before):
     """Returns the letter by which attack.c makes an argument, and the type of the result in it. Unknown arguments are None."""
-    if type_ == "size_t" and before in ("b", "w", "o", "p", "x"):
-        return {"b": "z", "w": "y", "o": "c", "p": "q", "x": "n"}[before], None
-    if type_ == "const coset_pair *":
-        return "p", None
+    if type_ == "size_t" and before in ("b", "w", "o", "p", "t", "x"):
+        return {"b": "z", "w": "y", "o": "c", "p": "q", "t": "m", "x": "n"}[before], None
+    if type_ in ("const coset_pair *", "const coset_text *"):
+        return type_[12], None
     if type_.startswith("const coset_"):
         return ("r" if name == "rules" else "x"), type_[6:-2]
     if type_ == "const int64_t *":
@@ -68,14 +69,16 @@ def table(text):
     the statuses."""
     statuses, kinds = enum(text, FIRST_STATUS), enum(text, FIRST_KIND)
     numbers = dict(statuses)
-    lines = [f"enum {{ STATUSES = {max(numbers.values()) + 1}, FORM = {TAGGED} }};"]
+    both, keys = (sum(kind in of for kind, _ in tokens()) for of in (range(1 << 16), [number_of("key")]))
+    lines = [f"enum {{ STATUSES = {max(numbers.values()) + 1}, FORM = {TAGGED}, TOKENS = {both - keys}, KEYS = {keys} }};"]
     lines += ["static const uint32_t kinds[] = {" + ", ".join(str(n) for _, n in kinds if n < TAGGED) + "};"]
     rows, left = [], []
     for place, (name, found) in enumerate(functions(text)):
         if None in found:
             left.append(name)
             continue
-        words = ", ".join(f"a[{at}].at" if letter in "bwpolavxr" else f"a[{at}].number" for at, (letter, _) in enumerate(found))
+        letters = [letter for letter, _ in found]
+        words = ", ".join(f"a[{at}].{'at' if it in 'bwptolavxr' else 'number'}" for at, it in enumerate(letters))
         lines.append(f"static int32_t call_{place}(const union word *a) {{ return {name}({words}); }}")
         sizes = ", ".join(f"sizeof({type_})" if type_ else "0" for _, type_ in found)
         rows.append(f'    {{"{name}", call_{place}, "{"".join(letter for letter, _ in found)}", {{{sizes}}}}},')
@@ -83,8 +86,20 @@ def table(text):
     return "\n".join(lines) + "\n", left
 
 
+def tokens():
+    """Yields the tokens of test_verify, and then its keys: the number of a kind, and the bytes."""
+    words = [line.split() for line in read("crates", "test_verify", "stdin").splitlines()]
+    for line in words:
+        if line[:1] in (["verify"], ["ring"]) and re.fullmatch(r"([0-9a-f]{2}){1,8192}", line[-1]):
+            yield number_of("sign1") + TAGGED, bytes.fromhex(line[-1])
+    for line in words:
+        if line[:1] == ["fits"]:
+            yield number_of("key"), bytes.fromhex(line[1])
+
+
 def rows():
-    """Yields the rows of coset_vectors that have bytes: the number of the kind, and the bytes."""
+    """Yields the rows of coset_vectors that have bytes, and those of test_verify: the number of the kind, and the bytes."""
+    yield from tokens()
     with open(f"{HERE}/crates/coset_vectors/stdin", encoding="utf-8") as file:
         for line in file:
             words = line.split()

@@ -18,8 +18,8 @@ TOOLS = ("cc", "ar", "ld", "objcopy")
 # The arguments with which a program calls an export, by type.
 CALLED_WITH = {"Global": "alloc", "u32": "0", "i32": "0", "i64": "0", "usize": "0", "&[u8]": 'b""', "&mut [u8]": "&mut out",
                "&mut usize": "&mut len", "&mut i64": "&mut value", "&[i64]": "&[0]", "&Rules": "&rules", "&[Opened]": "&[]",
-               "&mut Layer": "&mut layer", "&mut View": "&mut view", "&mut Message": "&mut message", "&[Pair]": "&[pair]",
-               "&mut Spans": "&mut spans", "&mut Span": "&mut ffi_query::Span { at: 0, len: 0 }"}
+               "&[Text<'_>]": "&[]", "&mut Layer": "&mut layer", "&mut View": "&mut view", "&mut Message": "&mut message",
+               "&[Pair]": "&[pair]", "&mut Spans": "&mut spans", "&mut Span": "&mut ffi_query::Span { at: 0, len: 0 }"}
 # The variables among them that are structs: the variable, the module and the struct.
 ZEROS = (("view", "sign1", "View"), ("message", "message", "Message"), ("pair", "pairs", "Pair"), ("spans", "spans", "Spans"),
          ("rules", "token", "Rules"), ("layer", "token", "Layer"))
@@ -153,12 +153,27 @@ def own_heap(folder, objects, check):
     return f"{folder}/limits"
 
 
+def has_openssl():
+    """Returns true if the header of OpenSSL 3 is installed."""
+    source = "#include <openssl/param_build.h>\n"
+    ran = subprocess.run(["cc", "-E", "-x", "c", "-"], input=source, capture_output=True, text=True, check=False)
+    return ran.returncode == 0
+
+
+def compile_headers():
+    """Compiles each header by itself, as C99 and as C++. That of OpenSSL's ciphers is left out if OpenSSL's isn't there."""
+    for name in sorted(os.listdir(f"{HERE}/c/include")):
+        if name != "coset_openssl.h" or has_openssl():
+            languages = [["cc", "-std=c99", "-x", "c"]] + [["c++", "-x", "c++"]] * bool(shutil.which("c++"))
+            for words in languages:
+                run([*words, "-Wall", "-Wextra", "-Wpedantic", "-Werror", "-fsyntax-only", f"{HERE}/c/include/{name}"])
+
+
 def build_callers(folder, objects):
     """Builds the programs that make calls."""
-    sources = [f"{WRAPPERS}/c/{name}.c" for name in ("calls", "verify", "issue")]
+    sources = [f"{WRAPPERS}/c/{name}.c" for name in ("calls", "token", "verify", "issue")]
     run(["cc", *FLAGS, "-o", "calls_c", *sources, "text.o", *objects], cwd=folder)
-    if shutil.which("c++"):
-        run(["c++", "-Wall", "-Wextra", "-Werror", "-fsyntax-only", "-x", "c++", f"{HERE}/c/include/coset_verify.h"])
+    compile_headers()
     if shutil.which("rustc"):
         words = ["--edition", "2024", "-O", "-D", "warnings", "-L", folder, "-l", "static=coset"]
         run(["rustc", *words, "-o", "calls_rust", f"{WRAPPERS}/rust/calls.rs"], cwd=folder)

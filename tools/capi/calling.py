@@ -1,14 +1,16 @@
 """Makes calls through the programs of c/wrappers, and compares their output with the right results."""
 import subprocess
 
-from capi.kinds import CRITICAL, MISUSE, NAMES, NOT_ALLOWED, OK, REFUSED, SHORT
+from capi.kinds import CRITICAL, HEADERS, LAYER, MISSING, MISUSE, NAMES, NOT_ALLOWED, OK, REFUSED, SHORT
 from capi.messages import Told
-from capi.tokens import Judged
+from capi.tokens import Refused, Verified
 from capi.vectors import token
 from sources import read
 
 # Calls that return places.
 SPANS = ("member_span", "pair_spans", "label_span", "item_span", "string_span")
+# Calls that verify a token.
+TOKENS = ("token", "ring")
 # Calls without a buffer for their result.
 WITHOUT_ROOM = ("check", "count", "label_int", "integer", *SPANS)
 # Calls that return a view.
@@ -61,6 +63,15 @@ def spans_told(status, answer, view):
     return [flags, str(OK), str(len(answer)), *([answer.hex()] if answer else []), *view]
 
 
+def opening_told(status, answer, cap):
+    """Returns the right output for `coset_token_open`."""
+    writes = status in (OK, LAYER)
+    if writes and len(answer) > cap:
+        return [str(SHORT), str(len(answer)), untouched(cap), *["0"] * 10]
+    text = answer if writes else b""
+    return [str(status), str(len(text)), (text + b"\xee" * (cap + 8 - len(text))).hex(), *map(str, answer.layer)]
+
+
 def told_by_c(call, status, answer, cap):
     """Returns the right output of calls.c: the status, the number and the buffer. Some calls add the numbers of the view."""
     view = view_told(call, status, answer, cap)
@@ -70,8 +81,12 @@ def told_by_c(call, status, answer, cap):
         return [str(status), *(answer.split() if status == OK else ["0"] * (4 if call == "pair_spans" else 2))]
     if call == "deeper":
         return ["levels", str(answer)]
-    if call == "token":
-        return [str(status), str(len(answer or b"")), *([answer.hex(), *answer.asked] if status == OK else [])]
+    if call in TOKENS:
+        return [str(status), "0", *answer.words, *answer.asked]
+    if call in ("room", "answers"):
+        return [str(status)]
+    if call == "open":
+        return opening_told(status, answer, cap)
     if call == "spans":
         return spans_told(status, answer, view)
     if call == "safe":
@@ -90,8 +105,10 @@ def rooms(call, answer):
     """Returns the sizes of buffers for a call: just large enough, one byte too small, and larger."""
     if call == "verified":
         return [4096]
-    if call in ("safe", "spans", "token"):
+    if call in ("safe", "spans", "answers", *TOKENS):
         return [LARGE]
+    if call == "room":
+        return [answer]
     size = len(answer) if isinstance(answer, bytes) else 0
     return sorted({size, size + 5, max(size - 1, 0)})
 
@@ -100,7 +117,7 @@ def lines_of(call, number, data, words, status, answer):
     """Yields the lines that ask for a call with buffers of several sizes, each with the right output."""
     for cap in rooms(call, answer):
         yield line(call, number, data, words, cap), told_by_c(call, status, answer, cap)
-    if call == "safe" and status in (OK, NOT_ALLOWED, CRITICAL, REFUSED) or call == "token" and status == OK:
+    if call == "safe" and status in (OK, NOT_ALLOWED, CRITICAL, REFUSED) or call in TOKENS and status == OK:
         yield line(call, number, data, words, 0), [str(SHORT)]
     if call == "verified" and status == OK:
         whole = len(words[2])  # the structure that is signed; the other parts stay in the token
@@ -118,21 +135,37 @@ def from_c(program, calls, check):
 def lengths(program, check):
     """Checks that the calls of coset_verify.h refuse a length above PTRDIFF_MAX. Bytes of such a length exceed every depth."""
     told = answers([program], [f"lengths 0 {token()[0].hex()} 4096"], check)
-    check(told == [f"{MISUSE} {MISUSE} {MISUSE} 1"], f"a length above PTRDIFF_MAX: {told}")
+    check(told == [f"{MISUSE} {MISUSE} {MISUSE} {MISUSE} 1"], f"a length above PTRDIFF_MAX: {told}")
 
 
 # ---- from Rust and Python
+
+
+# The statuses against a layer of a token. The others are against the whole token. A wrapper reports an answer of the wrong type as
+# the misuse of a layer.
+OF_LAYER = (*range(3, 14), NOT_ALLOWED, CRITICAL, REFUSED, HEADERS)
+
+
+def refusal_told(status, refused):
+    """Returns the right output of calls.rs and calls.py for a token that is refused. It has the reason, the index of the refused
+    layer, and the number of the refused algorithm or of the missing claim."""
+    index, algorithm, claim = refused.words
+    number = {NOT_ALLOWED: algorithm if algorithm != "0" else "-", MISSING: claim}.get(status, "-")
+    return " ".join([NAMES[status], index if status in OF_LAYER else "-", number, *refused.asked])
 
 
 def told_by_wrapper(status, answer):
     """Returns the right output of calls.rs and calls.py."""
     if status == -1:
         return "ok no"
+    if isinstance(answer, Refused):
+        return refusal_told(status, answer)
     if status != OK:
         return NAMES[status]
+    if isinstance(answer, Verified):
+        return " ".join(["ok", *answer.words, *answer.asked])
     spelled = "" if answer is None else answer.hex() if isinstance(answer, bytes) else str(answer)
-    more = answer.view if isinstance(answer, Told) else answer.asked if isinstance(answer, Judged) else []
-    return " ".join(["ok", spelled, *map(str, more)])
+    return " ".join(["ok", spelled, *map(str, answer.view if isinstance(answer, Told) else [])])
 
 
 def from_wrapper(name, command, calls, check, **more):
@@ -147,9 +180,9 @@ def texts(is_quick, callers, check):
     """Checks that the version and the texts of statuses are the same in all languages. Unknown statuses share one more text.
 
     `callers` are the programs' commands, each with the arguments of its run."""
-    lines = [f"text {status}" for status in range(-1, 31)]
+    lines = [f"text {status}" for status in range(-1, len(NAMES) + 1)]
     told = [[text.partition("ok ")[2] or text for text in answers(command, lines, check, **more)] for command, more in callers]
     version = read("VERSION").strip() + (" (unproved)" if is_quick else "")
     check(all(text.startswith(f"{version}: ") for text in told[0]), f"the library's version isn't {version}: {told[0][0]}")
-    check(len(set(told[0])) == 31 and told[0][0] == told[0][-1], "two statuses have one text")
+    check(len(set(told[0])) == len(NAMES) + 1 and told[0][0] == told[0][-1], "two statuses have one text")
     check(all(it == told[0] for it in told), "the languages tell other texts")

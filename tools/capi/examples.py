@@ -9,17 +9,20 @@ from cbor import decode, encode
 from sources import read
 
 # A verifier or an issuer, with everything after it.
-FUNCTION = r"^(?:int32_t|coset_status|pub fn|def) (?:verified|issued)\([^)]*\)[^;\n]*\n[\s\S]*"
-SHOWN = ("c/verify.c", "rust/verify.rs", "python/verify.py", "c/issue.c", "rust/issue.rs", "python/issue.py")
+FUNCTION = r"^(?:int32_t|coset_status|pub fn|def) (?:verified|issued|accepted)\([^)]*\)[^;\n]*\n[\s\S]*"
+SHOWN = ("c/verify.c", "rust/verify.rs", "python/verify.py", "c/issue.c", "rust/issue.rs", "python/issue.py", "rust/accept.rs",
+         "python/accept.py")
+# A program that the page shows as a whole.
+PROGRAM = r"^#include[\s\S]*"
 
 
 def compare_page(check):
-    """Checks that the page shows the verifiers and the issuers as they are."""
+    """Checks that the page shows the verifiers, the issuers and the program for web tokens as they are."""
     page = read("docs", "C.md")
-    for path in SHOWN:
+    for path in (*SHOWN, "c/accept.c"):
         text = read("c", "wrappers", *path.split("/"))
-        for part in re.findall(FUNCTION, text, re.M):
-            check(part.strip() in page, f"docs/C.md doesn't show what c/wrappers/{path} has")
+        parts = re.findall(PROGRAM if path == "c/accept.c" else FUNCTION, text, re.M)
+        check(len(parts) == 1 and parts[0].strip() in page, f"docs/C.md doesn't show what c/wrappers/{path} has")
 
 
 def verify_signatures(check):

@@ -16,6 +16,9 @@ import tempfile
 
 from sources import HERE, read
 
+# The modules of the Python package.
+MODULES = ("__init__", "crypto")
+
 
 def version():
     return read("VERSION").strip()
@@ -43,38 +46,53 @@ def filled(text, prefix, quick):
     return re.sub(r"@([A-Z_]+)@", lambda it: words[it[1]], text)
 
 
+def parameters(function):
+    """Returns the names of a function's parameters, in order. A star precedes those that are passed by name alone."""
+    own, named = ([arg.arg for arg in args] for args in (function.args.args, function.args.kwonlyargs))
+    return own + ["*", *named] if named else own
+
+
 def public(text):
-    """Returns the public names of a Python module: for functions with the names of their parameters, for others with None."""
+    """Returns the public names of a Python module: for functions with the names of their parameters, for others with None.
+
+    The methods of a public class are among them, and how it is made and called."""
     found = {}
     for it in ast.parse(text).body:
         if isinstance(it, ast.FunctionDef):
-            found[it.name] = [arg.arg for arg in it.args.args]
+            found[it.name] = parameters(it)
         elif isinstance(it, ast.ClassDef):
-            found[it.name] = None
+            methods = [one for one in it.body if isinstance(one, ast.FunctionDef) and not it.name.startswith("_")]
+            of_class = {one.name: parameters(one) for one in methods if one.name in ("__init__", "__call__") or one.name[0] != "_"}
+            found |= {it.name: None, **{f"{it.name}.{name}": given for name, given in of_class.items()}}
         elif isinstance(it, ast.Assign | ast.AnnAssign):
             targets = it.targets if isinstance(it, ast.Assign) else [it.target]
             found |= {name.id: None for target in targets for name in ast.walk(target) if isinstance(name, ast.Name)}
-    return {name: parameters for name, parameters in found.items() if not name.startswith("_")}
+    return {name: given for name, given in found.items() if not name.startswith("_")}
 
 
 def unlike():
     """Returns the names for which the type hints differ from the wrapper."""
-    hinted, there = (public(read(path)) for path in ("c/packaging/python/coset.pyi", "c/wrappers/python/coset.py"))
-    return sorted(name for name in {*hinted, *there} if name not in hinted or name not in there or hinted[name] != there[name])
+    wrong = set()
+    for module in MODULES:
+        hinted, there = (public(read(path)) for path in (f"c/packaging/python/coset/{module}.pyi", f"c/wrappers/python/coset/{module}.py"))
+        same = {name for name in hinted if name in there and hinted[name] == there[name]}
+        wrong |= {f"{module}.{name}" for name in {*hinted, *there} - same}
+    return sorted(wrong)
 
 
 def texts(prefix, quick):
     """Returns each text that is installed, by its path."""
     fill = lambda path: filled(read(path), prefix, quick)
-    wrapper = read("c/wrappers/python/coset.py")
     found = {f"include/{it}": read(f"c/include/{it}") for it in os.listdir(f"{HERE}/c/include") if it.endswith(".h")}
     found["lib/pkgconfig/coset.pc"] = fill("c/packaging/coset.pc.in")
     for name in ("coset-config", "coset-config-version"):
         found[f"lib/cmake/coset/{name}.cmake"] = fill(f"c/packaging/cmake/{name}.cmake")
     for name in ("pyproject.toml", "backend.py"):
         found[f"share/coset/python/{name}"] = fill(f"c/packaging/python/{name}")
-    for name, text in (("__init__.py", wrapper), ("__init__.pyi", read("c/packaging/python/coset.pyi")), ("py.typed", "")):
-        found[f"share/coset/python/coset/{name}"] = text
+    for name in MODULES:
+        for path in (f"c/wrappers/python/coset/{name}.py", f"c/packaging/python/coset/{name}.pyi"):
+            found[f"share/coset/python/coset/{os.path.basename(path)}"] = read(path)
+    found["share/coset/python/coset/py.typed"] = ""
     for name in ("Cargo.toml", "build.rs"):
         found[f"share/coset/rust/{name}"] = fill(f"c/packaging/rust/{name}")
     found["share/coset/rust/src/lib.rs"] = read("c/wrappers/rust/coset.rs")

@@ -25,6 +25,8 @@ def is_clean(asked, want, got):
         return got == ["0", str(MEMORY), "0", *["0"] * 9]
     if asked.startswith(PLACES_ALONE):
         return set(got[1:]) == {"0"}
+    if asked.startswith("open "):
+        got = [*got[:7], *got[8:]]  # without the index of the layer, which may be known
     is_untouched = len(got) < 3 or set(got[2][i:i + 2] for i in range(0, len(got[2]), 2)) <= {"ee"}
     is_empty = want[0] == "0" and len(want) == 1 or got[1] in ("0", str(NO_OFFSET))
     return is_untouched and set(got[3:]) <= {"0"} and is_empty

@@ -9,17 +9,19 @@ SOURCES = ("lib", "countersign", "elements", "making", "message", "numbers", "pa
 # The types of C as the exports write them.
 WORDS = {"uint32_t": "u32", "int32_t": "i32", "int64_t": "i64", "size_t": "usize", "const uint8_t *": "&[u8]",
          "uint8_t *": "&mut [u8]", "const coset_opened *": "&[Opened]", "const coset_rules *": "&Rules",
-         "const coset_pair *": "&[Pair]", "coset_layer *": "&mut Layer", "size_t *": "&mut usize", "int64_t *": "&mut i64",
-         "const int64_t *": "&[i64]", "coset_sign1_view *": "&mut View", "coset_message_view *": "&mut Message",
+         "const coset_pair *": "&[Pair]", "const coset_text *": "&[Text<'_>]", "coset_layer *": "&mut Layer",
+         "size_t *": "&mut usize", "int64_t *": "&mut i64", "const int64_t *": "&[i64]",
+         "coset_sign1_view *": "&mut View", "coset_message_view *": "&mut Message",
          "coset_message_spans_view *": "&mut Spans", "coset_span *": "&mut Span"}
 # The types among them that the next argument, a length, belongs to.
-SLICES = ("[u8]", "[i64]", "[Opened]", "[Pair]")
+SLICES = ("[u8]", "[i64]", "[Opened]", "[Pair]", "[Text<'_>]")
 PROTOTYPE = r"(COSET_CALL\(([\d, ]+)\)\s*)?coset_status (coset_\w+)\(([^)]*)\);"
 # The types of the Rust wrapper as C writes them.
 POINTERS = {"*const u8": "const uint8_t *", "*mut u8": "uint8_t *", "*mut usize": "size_t *", "*mut i64": "int64_t *",
             "*const i64": "const int64_t *", "*const Opened": "const coset_opened *", "*const Rules": "const coset_rules *",
             "*mut Layer": "coset_layer *", "*mut View": "coset_sign1_view *", "*mut Message": "coset_message_view *",
-            "*const Pair": "const coset_pair *", "*mut Spans": "coset_message_spans_view *", "*mut Span": "coset_span *"}
+            "*const Pair": "const coset_pair *", "*const Text": "const coset_text *",
+            "*mut Spans": "coset_message_spans_view *", "*mut Span": "coset_span *"}
 # The structs by their names in the sources and in the Rust wrapper, in C, and in the Python wrapper if that has them.
 STRUCTS = (("View", "coset_sign1_view", None), ("Message", "coset_message_view", None), ("Span", "coset_span", "_Span"),
            ("Pair", "coset_pair", "_Pair"), ("Spans", "coset_message_spans_view", "_Spans"), ("Rules", "coset_rules", "_Rules"),
@@ -104,7 +106,7 @@ def compare_functions(sources, check):
 def compare_python(check):
     """Compares the constants of the Python wrapper with the header's."""
     numbers = {n: int(v, 0) for n, v in re.findall(CONSTANT, header())}
-    python = read("c", "wrappers", "python", "coset.py")
+    python = read("c", "wrappers", "python", "coset", "__init__.py")
     for names, first in re.findall(r"^([A-Z0-9_, ]+) = (?:map\(Kind, )?range\((\w+), \w+\)", python, re.M):
         for place, name in enumerate(names.strip().split(", ")):
             parts = [name] if "COSET_" + name in numbers else name.rsplit("_", 1)
@@ -116,7 +118,7 @@ def compare_structs(sources, check):
     """Compares the fields of the header's structs with those of the sources and of the wrappers."""
     sources += read("crates", "ffi_token", "src", "opened.rt") + read("crates", "ffi_query", "src", "elements.rt")
     rust = read("c", "wrappers", "rust", "coset.rs").partition("mod c {")[2]
-    python = read("c", "wrappers", "python", "coset.py")
+    python = read("c", "wrappers", "python", "coset", "__init__.py")
     types = {"int64": "i64", "uint32": "u32", "uint64": "u64", "size_t": "usize"}
     for struct, in_c, in_python in STRUCTS:
         fields = [(name, {**WORDS, "uint64_t": "u64"}[type_]) for type_, name in

@@ -2,19 +2,23 @@
 
 Each function gets the arguments of the command, the folder of the library, its object files, and a list of what is wrong. It
 returns the lines to print."""
+import importlib.util
 import os
 import shutil
 import subprocess
 import sys
 import tempfile
 
-from capi import attack, calling, depths, examples, install, limits, memory, misuses, rows, tokens
+from capi import (accepting, attack, calling, depths, examples, install, limits, memory, misuses, openers, openssl, rows,
+                  shapes, tokens)
 from capi.building import HERE, WRAPPERS, build_callers, own_heap, run
 from capi.vectors import token
 from cbor import decode
 from sources import read
 
 ATTACKS = 2_000_000
+# The calls about tokens that are made again with refused allocations.
+TOKENS = ("token ", "open ", "fits ")
 
 
 def kept(given, folder, objects, wrong):
@@ -75,8 +79,12 @@ def of_library(given, folder, objects, wrong):
 
 def with_memory(given, folder, lines, wanted, wrong):
     """Makes some calls from C with refused allocations, with little stack and under valgrind. Returns the numbers of calls."""
-    program, few = f"{folder}/calls_c", slice(None, None, max(1, len(lines) // 400))
-    told = [f"refused {memory.refusals(program, lines[few], wanted[few], wrong.check)}"]
+    program, pairs = f"{folder}/calls_c", list(zip(lines, wanted))
+    # `room` makes several calls, and `ring` takes a key that can't be read as one that doesn't fit.
+    others, of_tokens = ([pair for pair in pairs if pair[0].startswith(TOKENS) == is_of] for is_of in (False, True))
+    others = [pair for pair in others if not pair[0].startswith(("room ", "ring "))]
+    told = [f"refused {memory.refusals(program, *zip(*few), wrong.check)}"
+            for few in (others[:: max(1, len(others) // 400)], of_tokens[::40])]
     if not given.quick:
         with tempfile.TemporaryDirectory() as hostile:
             told.append(f"within 1 MB of stack {memory.within_stack(program, hostile, wrong.check)}")
@@ -86,29 +94,46 @@ def with_memory(given, folder, lines, wanted, wrong):
     return told
 
 
+def python_tests(library, wrong):
+    """Runs the tests of the Python package. Returns their lines. Those with signatures need the package `cryptography`."""
+    told = []
+    for name in ("tests", "nested_tests", "token_tests"):
+        if name == "token_tests" and not importlib.util.find_spec("cryptography"):
+            told.append("there is no cryptography for Python")
+            continue
+        ran = subprocess.run([sys.executable, f"{WRAPPERS}/python/{name}.py"], capture_output=True, text=True, **library)
+        wrong.check(ran.returncode == 0, f"c/wrappers/python/{name}.py: {ran.stderr[-1000:]}")
+        told += ran.stdout.splitlines()
+    return told
+
+
 def by_wrappers(given, folder, calls, wrong):
     """Makes the calls from Rust and Python. Returns the numbers of calls."""
     rust, python = [f"{folder}/calls_rust"], [sys.executable, f"{WRAPPERS}/python/calls.py"]
     library = {"env": {**os.environ, "COSET_LIBRARY": f"{folder}/libcoset.so", "PYTHONDONTWRITEBYTECODE": "1"}}
     programs = {"Rust": (rust, {})} if shutil.which("rustc") else {}
     programs["Python"] = (python, library)
+    calls = [*calls, *accepting.calls()]
     for name, (command, more) in programs.items():
         calling.from_wrapper(name, command, calls, wrong.check, **more)
     memory.wiped(folder, wrong.check)
-    ran = subprocess.run([sys.executable, f"{WRAPPERS}/python/tests.py"], capture_output=True, text=True, **library)
-    wrong.check(ran.returncode == 0, f"c/wrappers/python/tests.py: {ran.stderr[-1000:]}")
+    tested = python_tests(library, wrong)
+    if importlib.util.find_spec("cryptography"):
+        tested.append(f"with coset.crypto {accepting.by_ciphers(python, wrong.check, **library)}")
     calling.texts(given.quick, [([f"{folder}/calls_c"], {}), *programs.values()], wrong.check)
-    return [f"from {name} {len(calls)}" for name in programs]
+    return [*(f"from {name} {len(calls)}" for name in programs), *tested]
 
 
 def called(given, folder, objects, wrong):
     """Makes all calls. Returns the first faults, and a line with the numbers of calls."""
     build_callers(folder, objects)
     calls = [*rows.calls(wrong.check), *examples.calls(wrong.check), *tokens.calls()]
-    every = [*calls, *misuses.calls(), *depths.calls(calls)]
+    of_tokens = [*tokens.calls_from_c(wrong.check), *openers.calls(), *shapes.calls()]
+    every = [*calls, *of_tokens, *misuses.calls(), *depths.calls(calls)]
     lines, wanted = calling.from_c(f"{folder}/calls_c", every, wrong.check)
     calling.lengths(f"{folder}/calls_c", wrong.check)
     told = [f"calls {len(calls)}", f"from C {len(lines)}"]
+    told += openssl.tried(folder, objects, wrong.check)
     told += of_library(given, folder, objects, wrong)
     told += with_memory(given, folder, lines, wanted, wrong)
     told += by_wrappers(given, folder, calls, wrong)

@@ -7,7 +7,15 @@ import zipfile
 HERE = os.path.dirname(os.path.abspath(__file__))
 NAME = "coset_rattle-@PYTHON_VERSION@"
 TAG = "py3-none-linux_x86_64"
-METADATA = "Metadata-Version: 2.1\nName: coset-rattle\nVersion: @PYTHON_VERSION@\nRequires-Python: >=3.8\nLicense: Apache-2.0\n"
+METADATA = """Metadata-Version: 2.1
+Name: coset-rattle
+Version: @PYTHON_VERSION@
+Summary: COSE and CBOR web tokens, read and made (RFC 8152, RFC 8392)@UNPROVED@
+Requires-Python: >=3.9
+License: Apache-2.0
+Provides-Extra: crypto
+Requires-Dist: cryptography; extra == "crypto"
+"""
 WHEEL = f"Wheel-Version: 1.0\nGenerator: coset\nRoot-Is-Purelib: false\nTag: {TAG}\n"
 
 

@@ -1,6 +1,11 @@
-"""Prints the payload of a signed token. Both are in hexadecimal."""
+"""Prints the payload of a signed token, which a ring without keys refuses. Both are in hexadecimal."""
 import sys
 
 import coset
 
-print(coset.part(coset.SIGN1 + coset.EITHER, bytes.fromhex(sys.argv[1]), coset.PAYLOAD).hex())
+token = bytes.fromhex(sys.argv[1])
+try:
+    coset.verify_token(token, coset.KeyRing({}), [coset.ES256])
+except coset.InvalidToken as refusal:
+    if refusal.reason == coset.Status.UNFIT:
+        print(coset.part(coset.SIGN1 + coset.EITHER, token, coset.PAYLOAD).hex())

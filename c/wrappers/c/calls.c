@@ -15,35 +15,62 @@
  *   make KIND PROTECTED CAP UNPROTECTED HAS CONTENT PROOF
  *   add KIND IN CAP MEMBER | write KIND IN CAP | canonical_key ORDER IN CAP
  *   deeper 0 IN CAP | lengths 0 IN CAP
- *   token 0 IN CAP NOW RULES SIGNATURES MACS CIPHERS CRITICAL ISS AUD ANSWERS
+ *   token 0 IN CAP NOW RULES ALGS CRITICAL REQUIRED AUDIENCES TYPES ANSWERS
+ *   ring 0 IN CAP NOW RULES ALGS CRITICAL REQUIRED AUDIENCES TYPES SETS SAYS
+ *   room 0 IN MOST NOW RULES ALGS CRITICAL REQUIRED AUDIENCES TYPES ANSWERS
+ *   open 0 IN CAP NOW RULES ALGS CRITICAL REQUIRED AUDIENCES TYPES OPENED BYTES
+ *   fits FORM KEY CAP ALG KID IV PARTIAL_IV PROOF
  *   text STATUS | issued 0 KID CAP ISS SUB AUD CTI EXP NBF IAT SIGNED SIGNATURE
  *
  * Bytes, and labels and values that aren't integers, are hexadecimal. `-` stands for no bytes, and is passed as NULL.
- * ALGS, KNOWN and the lists of `token` are integers with commas between them.
+ * ALGS, KNOWN, CRITICAL and REQUIRED are integers with commas between them. AUDIENCES and TYPES are texts with commas
+ * between them, each `t` and its bytes.
  *
  * - `verified` calls verify.c. The signature is good if ALG, KID, SIGNED and SIGNATURE are those of the question.
  * - `issued` calls issue.c. The signature is SIGNATURE if the bytes to sign are SIGNED.
  * - `safe` is the call of coset_verify.h for the kind. The answer is yes if the question has INPUT, PROOF and KID. A
  *   ciphertext is then decrypted as the IV, and the ciphertext's bytes, each xor 5a.
- * - `token` is coset_token_judge, with a policy of these lists and names. RULES are the numbers of coset_rules after
- *   its size, with commas. ANSWERS are the answers for the layers, with commas: yes, no, or a plaintext.
+ * - `token` is coset_token_verify, with a policy of these lists. RULES are the seven numbers of coset_rules after its
+ *   size, with commas. ANSWERS are the answers for the layers, with commas: `yes`, `no`, or `p` and a plaintext. After
+ *   the answer may follow `@` and the name of the issuer. `answers` is the same, with answers that no caller should give
+ *   (token.c).
+ * - `ring` asks each key of the sets that fits. SETS are issuers with commas, each a name as `t` and its bytes, or `-`,
+ *   then `:` and a set of keys. SAYS are the calls that are accepted, with commas, or `none`: the identifier of the key, or
+ *   `#` and the call's number, and then `:` and a plaintext. The last word of the result has the calls with commas: the
+ *   identifier, the algorithm and the nonce.
+ * - `room` is the same as `token`, with no memory to work in, and then with as much as the call said, until that is enough. It
+ *   prints the status and that size, which must not be above MOST.
+ * - `openssl` and `roomy` are `token` and `room` with OpenSSL's ciphers, and SETS in place of ANSWERS.
+ * - `open` is coset_token_open. The first of its RULES is the size. OPENED are the opened layers with commas, each its
+ *   eight numbers with `/` between them. After the buffer follow the ten numbers of the layer.
+ * - `fits` is coset_key_fits. KID, IV and PARTIAL_IV are those of the layer.
  *
  * Each line of output has the status and the number. Then comes the whole buffer of CAP bytes and 8 more, each of which
  * was ee before. For `verified` the buffer has the payload at its front, and nothing else. `safe` prints the payload or
  * plaintext alone, and `spans` the four texts. Before the status, `spans` prints how many of three texts are in the
- * input. For `sign1`, `message` and `spans` the numbers of the view follow, which were 77 before. `token` prints the
- * status, the claims, and the number of layers that were asked about. Then it prints the proof and the input of each,
- * and the rest of each question.
+ * input. For `sign1`, `message` and `spans` the numbers of the view follow, which were 77 before.
+ *
+ * `token` prints the status, and then for COSET_OK:
+ * - the claims; the texts of the audience, each `t` and its bytes, with commas; the others; `t` and the issuer's name,
+ *   or `-`,
+ * - the layers with commas: FORM/PROTECTED/UNPROTECTED/ISSUER.
+ *
+ * For any other status it prints index, algorithm and claim of the layer. In both cases follow the number of layers that
+ * were asked about, the proof and the input of each, and the rest of each question.
  *
  * Each input is in memory of its own. With REFUSE=N in the environment, the N-th request for memory of each call is
  * refused. */
 #include "coset_verify.h"
+#include "words.h"
 #include <inttypes.h>
 #include <stdio.h>
 #include <stdlib.h>
 #include <string.h>
 
-static long left = -1, requests = 0, live = 0;
+/* The number of requests for memory before one is refused, or -1. */
+extern long left;
+long left = -1;
+static long requests = 0, live = 0;
 
 struct tried {
   uint64_t ok;
@@ -68,23 +95,6 @@ struct tried rattle_realloc(void *at, uint64_t kept, uint64_t size, uint64_t ali
 
 void rattle_dealloc(void *at) { live--, free(at); }
 
-struct bytes {
-  uint8_t *at;
-  size_t len;
-};
-
-static int digit(char c) { return c <= '9' ? c - '0' : c - 'a' + 10; }
-
-/* Returns the bytes that a word spells. They are in a block of their own, so that a read past their end is detected. */
-static struct bytes spelled(const char *word) {
-  struct bytes b = {NULL, 0};
-  if (!strcmp(word, "-")) return b;
-  b.len = strlen(word) / 2;
-  b.at = malloc(b.len ? b.len : 1);
-  for (size_t i = 0; i < b.len; i++) b.at[i] = (uint8_t)(digit(word[2 * i]) << 4 | digit(word[2 * i + 1]));
-  return b;
-}
-
 static void tell(int32_t status, const char *number, const uint8_t *out, size_t len, const coset_message_view *view) {
   printf("%" PRId32 " %s ", status, number);
   for (size_t i = 0; i < len; i++) printf("%02x", out[i]);
@@ -93,17 +103,6 @@ static void tell(int32_t status, const char *number, const uint8_t *out, size_t 
            view->key_id_map, view->critical, view->is_tagged, view->structure_len, view->proof_len, view->content_len,
            view->key_id_len);
   puts("");
-}
-
-/* Reads the integers of a word, which has commas between them. `-` has none. */
-static size_t integers(const char *word, int64_t *at, size_t most) {
-  size_t count = 0;
-  if (!strcmp(word, "-")) return 0;
-  for (char *end = (char *)(uintptr_t)word; count < most; word = end + 1) {
-    at[count++] = strtoll(word, &end, 10);
-    if (!*end) break;
-  }
-  return count;
 }
 
 /* Defined in verify.c. */
@@ -136,87 +135,12 @@ static int32_t verified_as_said(char **words, struct bytes in, uint8_t *out, siz
   return status;
 }
 
-/* The answers that are left for layers, and the questions that were asked. */
-struct script {
-  const char *answers;
-  uint8_t asked[1 << 16];
-  size_t len, count, used;
-  char layers[1 << 12];
-};
-
-/* Adds the rest of a question: the form, the algorithm, the header that has the key identifier, the identifier, the IV
- * and the partial IV. */
-static void heard(struct script *script, const coset_layer_question *q) {
-  const uint8_t *at[] = {q->key_id, q->iv, q->partial_iv};
-  const size_t lens[] = {q->key_id_len, q->iv_len, q->partial_iv_len};
-  char *to = script->layers + script->used;
-  to += sprintf(to, "%s%" PRIu32 "/%" PRId64 "/%" PRIu32, script->used ? "," : "", q->form, q->algorithm, q->key_id_map);
-  for (int i = 0; i < 3; i++) {
-    *to++ = '/';
-    for (size_t n = 0; at[i] && n < lens[i]; n++) to += sprintf(to, "%02x", at[i][n]);
-  }
-  script->used = (size_t)(to - script->layers);
-}
-
-/* Gives the next answer of the script: yes, no, or the plaintext. */
-static int is_opened(void *context, const coset_layer_question *question, uint8_t *plain, size_t cap, size_t *len) {
-  struct script *script = context;
-  const size_t n = strcspn(script->answers, ",");
-  char word[1 << 14];
-  struct bytes spelled_out;
-  memcpy(word, script->answers, n), word[n] = 0;
-  script->answers += n + (script->answers[n] == ',');
-  memcpy(script->asked + script->len, question->proof, question->proof_len);
-  memcpy(script->asked + script->len + question->proof_len, question->input, question->input_len);
-  script->len += question->proof_len + question->input_len, script->count++;
-  heard(script, question);
-  if (!strcmp(word, "no") || !*word) return 0;
-  spelled_out = spelled(strcmp(word, "yes") ? word : "-");
-  if (spelled_out.len > cap) return 0;
-  if (spelled_out.len) memcpy(plain, spelled_out.at, spelled_out.len);
-  *len = spelled_out.len;
-  free(spelled_out.at);
-  return 1;
-}
-
-/* Prints the result of coset_token_judge for these words. */
-static void token(char **word, struct bytes in, size_t cap) {
-  struct script *script = calloc(1, sizeof *script);
-  struct bytes issuer = spelled(word[10]), audience = spelled(word[11]);
-  int64_t lists[4][64];
-  coset_token_policy policy = {0};
-  uint32_t *flag = &policy.rules.has_max_age;
-  uint8_t *work = malloc(cap ? cap : 1);
-  const uint8_t *claims = work;
-  size_t len = 77;
-  int32_t status;
-  char *end = word[5];
-  policy.rules.size = sizeof policy.rules;
-  policy.rules.leeway = strtoull(end, &end, 10);
-  policy.rules.max_age = strtoull(end + 1, &end, 10);
-  for (int i = 0; i < 8; i++) flag[i] = (uint32_t)strtoul(end + 1, &end, 10);
-  policy.signatures = lists[0], policy.signatures_len = integers(word[6], lists[0], 64);
-  policy.macs = lists[1], policy.macs_len = integers(word[7], lists[1], 64);
-  policy.ciphers = lists[2], policy.ciphers_len = integers(word[8], lists[2], 64);
-  policy.critical = lists[3], policy.critical_len = integers(word[9], lists[3], 64);
-  policy.issuer = (const char *)issuer.at, policy.issuer_len = issuer.len;
-  policy.audience = (const char *)audience.at, policy.audience_len = audience.len;
-  script->answers = word[12];
-  memset(work, 0xee, cap);
-  status = coset_token_judge(in.at, in.len, strtoll(word[4], NULL, 10), &policy, is_opened, script, work, cap, &claims, &len);
-  if ((status == COSET_OK) != (claims != NULL)) status = -2;
-  for (size_t i = 0; status && i < cap; i++) status = work[i] ? -3 : status;
-  printf("%" PRId32 " %zu", status, len);
-  if (status != COSET_MEMORY) {
-    printf(" %s", status == COSET_OK ? "" : "-");
-    for (size_t i = 0; status == COSET_OK && i < len; i++) printf("%02x", claims[i]);
-    printf(" %zu ", script->count);
-    for (size_t i = 0; i < script->len; i++) printf("%02x", script->asked[i]);
-    printf(" %s", script->used ? script->layers : "-");
-  }
-  puts("");
-  free(work), free(issuer.at), free(audience.at), free(script);
-}
+/* Defined in token.c. */
+void token_call(char **word, struct bytes in, size_t cap);
+void room_call(char **word, struct bytes in, size_t most);
+void open_call(char **word, struct bytes in, size_t cap);
+void fits_call(char **word, struct bytes key, size_t cap);
+coset_status length_call(const uint8_t *in, size_t len, uint8_t *work, size_t cap, coset_token *told);
 
 /* Prints the number of nested levels, at most 64. */
 static void deeper(struct bytes in) {
@@ -226,16 +150,17 @@ static void deeper(struct bytes in) {
 }
 
 /* Prints the results of coset_verify.h for a length that no object has. The length is that of a list of algorithms, a
- * plaintext's memory, the memory to work in, and the bytes of coset_is_deeper. */
+ * plaintext's memory, the memory to work in, a token, and the bytes of coset_is_deeper. */
 static void lengths(struct bytes in, uint8_t *out, size_t cap) {
   const int64_t es256 = -7;
   const coset_policy policy = {.algorithms = &es256, .algorithms_len = SIZE_MAX};
-  const coset_token_policy rules = {.rules.size = sizeof(coset_rules)};
+  coset_token told;
   const uint8_t *payload = NULL;
   size_t len;
   printf("%" PRId32, coset_sign1_verify(COSET_EITHER, in.at, in.len, &policy, NULL, NULL, out, cap, &payload, &len));
   printf(" %" PRId32, coset_encrypt0_decrypt(COSET_EITHER, in.at, in.len, &policy, NULL, NULL, out, cap, out, SIZE_MAX, &len));
-  printf(" %" PRId32, coset_token_judge(in.at, in.len, 0, &rules, NULL, NULL, out, SIZE_MAX, &payload, &len));
+  printf(" %" PRId32, length_call(in.at, in.len, out, SIZE_MAX, &told));
+  printf(" %" PRId32, length_call(in.at, SIZE_MAX, out, cap, &told));
   printf(" %d\n", coset_is_deeper(in.at, SIZE_MAX, COSET_MOST_LEVELS));
 }
 
@@ -462,15 +387,20 @@ int main(void) {
     }
     uint32_t kind = (uint32_t)strtoul(word[1], NULL, 0), w4 = (uint32_t)strtoul(word[4], NULL, 0);
     struct bytes in = spelled(word[2]), aad = {NULL, 0}, extra = {NULL, 0};
-    size_t cap = strtoul(word[3], NULL, 0), len = 77, room = cap + 8;
+    size_t cap = strtoul(word[3], NULL, 0), len = 77, room = (cap >> 26 ? 0 : cap) + 8; /* some calls have no buffer */
     int64_t value = 77, label = strtoll(word[5], NULL, 0), known[64];
     uint8_t *out = malloc(room);
     coset_sign1_view view = {77, 77, 77, 77, 77, 77, 77, 77, 77};
     coset_message_view message = {77, 77, 77, 77, 77, 77, 77, 77, 77};
     memset(out, 0xee, room);
     left = refused ? atol(refused) : -1;
-    if (!strcmp(call, "token") || !strcmp(call, "deeper") || !strcmp(call, "lengths")) {
-      if (*call == 't') token(word, in, cap);
+    int is_token = !strcmp(call, "token") || !strcmp(call, "answers") || !strcmp(call, "ring") || !strcmp(call, "openssl");
+    int is_room = !strcmp(call, "room") || !strcmp(call, "roomy"), is_open = !strcmp(call, "open");
+    if (is_token || is_room || is_open || !strcmp(call, "fits") || !strcmp(call, "deeper") || !strcmp(call, "lengths")) {
+      if (is_token) token_call(word, in, cap);
+      else if (is_room) room_call(word, in, cap);
+      else if (is_open) open_call(word, in, cap);
+      else if (*call == 'f') fits_call(word, in, cap);
       else if (*call == 'd') deeper(in);
       else lengths(in, out, cap);
       free(in.at), free(out);

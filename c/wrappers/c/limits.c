@@ -52,19 +52,19 @@ static struct {
 } asked;
 static uint8_t out[OUT];
 
-static int yes(void *context, const coset_layer_question *question, uint8_t *plain, size_t cap, size_t *len) {
+static int yes(void *context, const coset_layer_question *question, uint8_t *plain, size_t cap, size_t *len, coset_text *issuer) {
+  *issuer = (coset_text){"coap://as.example.com", 21};
   return context && question && plain && cap && len;
 }
 
-/* Judges a token whose signature must be one of ES256. */
-static coset_status judged(const uint8_t *in, size_t n) {
+/* Verifies a token whose signature must be one of ES256. */
+static coset_status verified(const uint8_t *in, size_t n) {
   static const int64_t es256 = -7;
   coset_token_policy policy = {0};
-  const uint8_t *claims;
-  size_t len;
-  policy.rules.size = sizeof policy.rules;
-  policy.signatures = &es256, policy.signatures_len = 1;
-  return coset_token_judge(in, n, 1443944944, &policy, yes, out, out, OUT, &claims, &len);
+  coset_token token;
+  policy.rules.any_audience = 1;
+  policy.algorithms = &es256, policy.algorithms_len = 1;
+  return coset_token_verify(in, n, 1443944944, &policy, yes, out, out, OUT, &token);
 }
 
 static coset_status answer(const char *call, uint32_t kind, const uint8_t *in, size_t n) {
@@ -88,7 +88,7 @@ static coset_status answer(const char *call, uint32_t kind, const uint8_t *in, s
   if (!strcmp(call, "sign1")) return coset_sign1(kind, in, n, NULL, 0, 0, NULL, 0, out, OUT, &len, &view);
   if (!strcmp(call, "message")) return coset_message(kind, in, n, 0, NULL, 0, 0, NULL, 0, NULL, 0, out, OUT, &len, &message);
   if (!strcmp(call, "spans")) return coset_message_spans(kind, in, n, 0, NULL, 0, 0, NULL, 0, NULL, 0, out, OUT, &len, &spans);
-  if (!strcmp(call, "token")) return judged(in, n);
+  if (!strcmp(call, "token")) return verified(in, n);
   if (!strcmp(call, "add")) return coset_add(kind, in, n, member, sizeof member, out, OUT, &len);
   if (!strcmp(call, "write")) return coset_write(kind, in, n, out, OUT, &len);
   if (!strcmp(call, "canonical_key")) return coset_canonical_key(COSET_LEXICOGRAPHIC, in, n, out, OUT, &len);

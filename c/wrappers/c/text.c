@@ -31,16 +31,21 @@ const char *coset_status_text(coset_status status) {
   case COSET_CRITICAL: return "a label that must be understood isn't";
   case 18: return "the signature, the tag or the ciphertext is refused"; /* COSET_REFUSED of coset_verify.h */
   case COSET_LAYER: return "a layer of the token waits to be opened";
-  case COSET_TOO_DEEP: return "too many layers are within one another";
-  case COSET_UNAUTHENTICATED: return "no layer authenticates who sent the token";
-  case COSET_NOT_CLAIMS: return "what is in the token isn't a claims set";
-  case COSET_NO_EXPIRATION: return "the token doesn't say when it expires";
+  case COSET_TOO_DEEP: return "the token has too many layers";
+  case COSET_UNAUTHENTICATED: return "no layer authenticates the sender of the token";
+  case COSET_NOT_CLAIMS: return "the content of the token isn't a claims set";
+  case COSET_NO_EXPIRATION: return "the token has no expiration time";
   case COSET_EXPIRED: return "the token has expired";
   case COSET_NOT_YET_VALID: return "the token isn't valid yet";
-  case COSET_ISSUED_LATER: return "the token is issued later than now";
+  case COSET_ISSUED_LATER: return "the token was issued later than now";
   case COSET_TOO_OLD: return "the token is too old";
-  case COSET_ISSUER: return "the token is of another issuer";
+  case COSET_ISSUER: return "the claims name another issuer than that of the key";
   case COSET_AUDIENCE: return "the token is for another audience";
+  case COSET_HEADERS: return "the headers of a layer contradict each other";
+  case COSET_TOKEN_TYPE: return "the token has another type";
+  case COSET_HEADER_CLAIMS: return "a header has other claims than the payload";
+  case COSET_MISSING: return "the token lacks a required claim";
+  case COSET_UNFIT: return "the key doesn't fit the layer";
   default: return "no status of this library";
   }
 }

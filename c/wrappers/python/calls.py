@@ -3,13 +3,16 @@ result is `ok` and a value, or the error."""
 import sys
 
 import coset
+from accept import accepted
 from issue import issued
 from verify import verified
 
 _NAMES = {3: "Ends", 4: "Malformed", 5: "Deep", 6: "Extraneous", 7: "Unexpected", 8: "Duplicate", 9: "OutOfRange",
           10: "Unregistered", 11: "NotPrivate"}
-_NOT_LET_IN = dict(enumerate("TooDeep Unauthenticated NotClaims NoExpiration Expired NotYetValid IssuedLater TooOld Issuer "
-                             "Audience".split(), 20))
+_REFUSED = dict(enumerate(
+    "Refused Layer TooDeep Unauthenticated NotClaims NoExpiration Expired NotYetValid IssuedLater TooOld Issuer Audience Headers "
+    "TokenType HeaderClaims Missing Unfit".split(), 18))
+_REFUSED |= {**_NAMES, 12: "Absent", 16: "NotAllowed", 17: "Critical"}
 _RAISED = {coset.Absent: "Absent", coset.Empty: "Empty", coset.WrongType: "Type", coset.Misuse: "Misuse",
            coset.Refused: "Refused", coset.NotAllowed: "NotAllowed", coset.Critical: "Critical", MemoryError: "Memory"}
 
@@ -70,25 +73,149 @@ def safe(kind, given, index, aad, has, content, algorithms, known, *words):
     return coset.verify(kind, given, integers(algorithms), is_asked, int(index), **more).hex()
 
 
-def judged(given, now, rules, signatures, macs, ciphers, critical, issuer, audience, said):
-    """Returns the result of `token_claims` and the questions that it asked, as calls.c describes them."""
-    leeway, max_age, has_max_age, plain, by, leaves_out, forever, later, has_issuer, has_audience = map(int, rules.split(","))
-    answers, asked, heard = iter(said.split(",")), [], []
+def texts(word):
+    """Returns the texts of a word, which has commas between them."""
+    return [] if word == "-" else [data(text[1:]).decode() for text in word.split(",")]
 
-    def opener(layer):
-        asked.append(layer.proof + layer.input)
-        texts = "/".join((text or b"").hex() for text in (layer.key_id, layer.iv, layer.partial_iv))
-        heard.append(f"{layer.form}/{layer.algorithm}/{layer.key_id_map}/{texts}")
-        word = next(answers, "no")
-        if layer.form == coset.ENCRYPT0:
-            return None if word == "no" else b"" if word == "yes" else data(word)
-        return word != "no"
 
-    claims = coset.token_claims(
-        given, int(now), opener, integers(signatures), integers(macs), integers(ciphers), integers(critical),
-        data(issuer).decode() if has_issuer else None, data(audience).decode() if has_audience else None, leeway,
-        max_age if has_max_age else None, plain, by, bool(leaves_out), bool(forever), bool(later))
-    return f"{claims.hex()} {len(asked)} {b''.join(asked).hex()} {','.join(heard)}"
+def name(issuer):
+    """Returns the word for an issuer's name."""
+    return "-" if issuer is None else "t" + issuer.encode().hex()
+
+
+class Script:
+    """The answers for the layers of a token, and the questions that were asked. The answer `wrong` has the wrong type."""
+
+    def __init__(self, word):
+        self.answers, self.asked, self.heard = iter(word.split(",")), b"", []
+
+    def __call__(self, layer):
+        self.asked += layer.proof + layer.input
+        held = "/".join((text or b"").hex() for text in (layer.key_id, layer.iv, layer.partial_iv))
+        self.heard.append(f"{layer.form}/{layer.algorithm}/{layer.key_id_map or 0}/{held}")
+        assert layer.index == len(self.heard) - 1
+        said, _, issuer = next(self.answers, "no").partition("@")
+        if said == "no":
+            return None
+        if said == "wrong":
+            return b"" if layer.form != coset.ENCRYPT0 else True
+        answer = True if layer.form != coset.ENCRYPT0 else data(said[1:]) if said[0] == "p" else b""
+        return (answer, data(issuer).decode()) if issuer else answer
+
+    def told(self):
+        return f"{len(self.heard)} {self.asked.hex() or '-'} {','.join(self.heard) or '-'}"
+
+
+def told_token(token):
+    """Returns the words for a verified token."""
+    audience = ",".join("t" + one.encode().hex() for one in token.audience) or "-"
+    layers = ",".join("/".join([str(it.form), it.protected.hex(), it.unprotected.hex(), name(it.issuer)]) for it in token.layers)
+    return f"{token.claims.hex()} {audience} {token.others.hex()} {name(token.issuer)} {layers}"
+
+
+class Ring:
+    """A ring of keys with ciphers that a line describes, and their calls. SETS has the issuers with commas between them: the
+    name, `:` and a set of keys. SAYS has the calls that are accepted: each the identifier of its key, or `#` and its number.
+    The plaintext that may follow after `:` is given once."""
+
+    def __init__(self, sets, says):
+        named = [word.split(":") for word in sets.split(",")]
+        self.ring = coset.KeyRing([(None if issuer == "-" else data(issuer[1:]).decode(), data(keys)) for issuer, keys in named], self)
+        self.rules = [(*rule.split(":"), "")[:2] for rule in says.split(",")]
+        self.asked, self.heard = b"", []
+
+    def __call__(self, layer):
+        before = len(self.heard)
+        try:
+            said = self.ring(layer)
+        except coset.InvalidToken as refused:
+            assert (refused.reason, refused.layer, len(self.heard)) == (coset.Status.UNFIT, layer.index, before)
+            return None
+        assert len(self.heard) > before
+        return said
+
+    def plaintext(self, key, algorithm, nonce, input, proof):
+        """Returns the plaintext if this call of a cipher is accepted, else None."""
+        key_id = coset.label_bytes(coset.KEY, key, coset.IN_ITEM, 2).hex() if coset.has(coset.KEY, key, coset.IN_ITEM, 2) else "-"
+        number = f"#{len(self.heard)}"
+        self.asked += proof + input
+        self.heard.append(f"{key_id}/{algorithm}/{nonce.hex() or '-'}")
+        for place, (rule, plain) in enumerate(self.rules):
+            if rule in (key_id, number):
+                self.rules[place] = rule, ""
+                return data(plain)
+        return None
+
+    def verify(self, key, algorithm, input, proof):
+        return self.plaintext(key, algorithm, b"", input, proof) is not None
+
+    def decrypt(self, key, algorithm, nonce, aad, ciphertext):
+        return self.plaintext(key, algorithm, nonce, aad, ciphertext)
+
+    told = Script.told
+
+
+class Crypto:
+    """A ring of keys with the ciphers of coset.crypto. A set that isn't an array counts as empty, as in coset_openssl.h, and an empty
+    name as none."""
+
+    def __init__(self, sets):
+        named = [word.split(":") for word in sets.split(",")]
+        self.ring = coset.KeyRing([(None if issuer in ("-", "t") else data(issuer[1:]).decode(), self.keys(keys)) for issuer, keys in named])
+
+    @staticmethod
+    def keys(word):
+        try:
+            coset.readable_keys(data(word))
+        except coset.Fault:
+            return b"\x80"
+        return data(word)
+
+    def __call__(self, layer):
+        return self.ring(layer)
+
+    def told(self):
+        return "-"
+
+
+def opened(script, given, now, rules, algorithms, critical, required, audiences, types):
+    """Returns the result of `verify_token` and the questions that it asked, as calls.c describes them. After a refusal,
+    prints the layer and the number in place of the token, and returns None."""
+    leeway, age, form, by, any_audience, forever, later = map(int, rules.split(","))
+    try:
+        token = coset.verify_token(
+            given, script, integers(algorithms), audience=texts(audiences), types=texts(types), required=integers(required),
+            critical=integers(critical), leeway=leeway, max_age=age or None, untagged_form=form, authenticated_by=by,
+            any_audience=bool(any_audience), may_not_expire=bool(forever), may_be_issued_later=bool(later), now=int(now))
+    except coset.InvalidToken as refused:
+        told = ["-" if it is None else str(it) for it in (refused.layer, refused.number)]
+        print(_REFUSED[refused.reason], *told, script.told())
+        return None
+    except TypeError:
+        print("Misuse", len(script.heard) - 1, "-", script.told())
+        return None
+    return f"{told_token(token)} {script.told()}"
+
+
+def acceptance(given, now, issuer, keys, *words):
+    """Returns the token that `accepted` accepts by a set of keys of this issuer. The signature is good if it and the
+    structure are those of the words."""
+    class Signed:
+        verify = staticmethod(lambda key, algorithm, input, proof: [input.hex(), proof.hex()] == list(words))
+
+    try:
+        return told_token(accepted(given, {data(issuer).decode(): data(keys)}, int(now), Signed()))
+    except coset.InvalidToken as refused:
+        print(_REFUSED[refused.reason])
+
+
+def fits(form, key, algorithm, key_id, iv, partial_iv, proof):
+    """Returns the nonce by which the key fits the layer. If it doesn't fit, prints this and returns None."""
+    layer = coset.Layer(form, int(algorithm), data(key_id) or None, None, b"", data(proof), data(iv) or None, data(partial_iv) or None, 0)
+    nonce = coset.key_fits(key, layer)
+    if nonce is None:
+        print("Unfit")
+    return None if nonce is None else nonce.hex()
 
 
 def span(part):
@@ -121,7 +248,12 @@ _SEVERAL = {
     "message": message,
     "spans": message,
     "safe": safe,
-    "token": lambda _, given, *words: judged(given, *words),
+    "token": lambda _, given, *words: opened(Script(words[-1]), given, *words[:-1]),
+    "ring": lambda _, given, *words: opened(Ring(*words[-2:]), given, *words[:-2]),
+    "openssl": lambda _, given, *words: opened(Crypto(words[-1]), given, *words[:-1]),
+    "keys": lambda _, given, *words: " ".join(key.hex() for key in coset.readable_keys(given)),
+    "accepted": lambda _, given, *words: acceptance(given, *words),
+    "fits": fits,
     "verified": lambda _, given, *words: verification(given, *words),
     "issued": lambda _, key_id, *words: token(key_id, *words),
 }
@@ -169,9 +301,9 @@ def answer(name, kind, given="-", *words):
 
 for line in sys.stdin:
     try:
-        print("ok", answer(*line.split()))
-    except coset.NotLetIn as refused:
-        print(_NOT_LET_IN[refused.status])
+        found = answer(*line.split())
+        if found is not None:
+            print("ok", found)
     except tuple(_RAISED) as raised:
         print(_RAISED[type(raised)])
     except coset.Fault as fault:

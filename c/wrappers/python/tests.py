@@ -23,6 +23,11 @@ for again in (pickle.loads(pickle.dumps(fault)), copy.copy(fault)):
 for error in (coset.Absent("a"), coset.WrongType("a"), coset.Empty("a"), coset.Misuse("a"), coset.NotAllowed("a"), coset.Critical("a")):
     again = pickle.loads(pickle.dumps(error))
     assert (type(again), again.args) == (type(error), error.args)
+refusal = coset.InvalidToken(16, 1, -7)
+for again in (refusal, pickle.loads(pickle.dumps(refusal)), copy.deepcopy(refusal)):
+    assert (again.reason, again.layer, again.number) == (coset.Status.NOT_ALLOWED, 1, -7) and again.reason is coset.Status.NOT_ALLOWED
+    assert str(again) == "layer 1 of the token is refused: the algorithm isn't one that is allowed (-7)"
+assert (str(coset.InvalidToken(24)), f"{coset.Status.EXPIRED}", str(coset.Status(24))) == ("the token is refused: the token has expired", *["EXPIRED"] * 2)
 
 for value in (True, False):
     assert type(raised(coset.put, coset.CLAIMS, b"", 1, value)) is TypeError
@@ -34,8 +39,15 @@ assert coset.Kind(coset.SIGN1 + coset.EITHER) is coset.Kind.SIGN1_EITHER
 assert type(raised(coset.part, coset.SIGN1, bytes.fromhex("8440a0f640"), (1 << 32) + 1)) is coset.Misuse
 
 # A call's result is computed once, because the buffer is as large as a result may be.
-made, calls = coset.ctypes.create_string_buffer, []
-coset.ctypes.create_string_buffer = lambda room: calls.append(room) or made(room)
+calls = []
+
+
+def counted(call):
+    return lambda *arguments: calls.append(call) or call(*arguments)
+
+
+coset._message_spans = counted(coset._message_spans)
+coset._library.coset_make, coset._library.coset_part = counted(coset._library.coset_make), counted(coset._library.coset_part)
 token = coset.make(coset.SIGN1, b"\xa1\x01\x26", b"", bytes(100_000), bytes(64))
 assert coset.sign1(coset.SIGN1, token, bytes(5_000)).payload == bytes(100_000) and len(calls) == 2
 assert coset.part(coset.SIGN1, token, coset.PAYLOAD) == bytes(100_000) and len(calls) == 3

@@ -1,12 +1,14 @@
 //! Makes the calls that it reads through the safe wrapper, as `c/wrappers/c/calls.c` does, and prints
 //! their results (`tools/c`). A result is `ok` and a value, or the error.
 
+mod accept;
 mod coset;
 mod issue;
 mod verify;
 
 use coset::{
-    Algorithm, Authentication, Countersignature, Critical, Entry, Error, Form, Kind, Label, Layer, Map, Order, Part, Policy, Question, TokenForm, TokenPolicy,
+    Algorithm, Authentication, Countersignature, Critical, Entry, Error, Form, InvalidToken, Kind, Label, Layer, Map, Opened, Order, Part,
+    Policy, Question, TokenForm, TokenPolicy, VerifiedToken,
 };
 use std::io::BufRead;
 
@@ -220,43 +222,195 @@ fn safe(w: &[&str]) -> Result<String, Error> {
     Ok(hex(&answer?))
 }
 
-/// Returns the result of `token_claims` and the questions that it asked, as calls.c describes them.
-fn token(w: &[&str]) -> Result<String, Error> {
-    let numbers: Vec<u64> = w[5].split(',').map(|number| number.parse().unwrap()).collect();
-    let lists = [6, 7, 8, 9].map(|place| integers(w[place]));
-    let names = [10, 11].map(|place| text(w[place]));
-    let named = |flag: usize, place: usize| (numbers[flag] != 0).then_some(names[place].as_str());
-    let policy = TokenPolicy {
-        signatures: &lists[0],
-        macs: &lists[1],
-        ciphers: &lists[2],
-        critical: &lists[3],
-        plain: [TokenForm::Sign1, TokenForm::Sign1, TokenForm::Sign1, TokenForm::Mac0, TokenForm::Mac0, TokenForm::Encrypt0][numbers[3] as usize],
-        authenticated_by: [Authentication::SignatureOrMac, Authentication::BySignature, Authentication::ByAny][numbers[4] as usize],
-        leaves_out: numbers[5] != 0,
-        may_not_expire: numbers[6] != 0,
-        may_be_issued_later: numbers[7] != 0,
-        max_age: (numbers[2] != 0).then_some(numbers[1]),
-        leeway: numbers[0],
-        issuer: named(8, 0),
-        audience: named(9, 1),
-    };
-    let mut answers = w[12].split(',');
-    let (mut asked, mut heard) = (String::new(), Vec::new());
-    let opener = |layer: &Layer<'_>| {
-        asked += &hex(layer.proof);
-        asked += &hex(layer.input);
+/// Returns the texts of a word, which has commas between them.
+fn texts(word: &str) -> Vec<String> {
+    word.split(',').filter(|text| *text != "-").map(|word| text(&word[1..])).collect()
+}
+
+/// Returns the word for a text, or for none.
+fn named(text: Option<&str>) -> String {
+    text.map_or("-".to_string(), |text| format!("t{}", hex(text.as_bytes())))
+}
+
+/// Returns the form of a layer by its number. 0 is that of a signed one.
+fn token_form(number: u64) -> TokenForm {
+    [TokenForm::Sign1, TokenForm::Mac0, TokenForm::Encrypt0][number as usize / 2]
+}
+
+/// The answers for the layers of a token, with the names of issuers, and the questions that were
+/// asked. The answer `wrong` has a plaintext if it should have none, and the other way round.
+struct Script<'a> {
+    answers: std::slice::Iter<'a, (&'a str, Option<String>)>,
+    asked: String,
+    heard: Vec<String>,
+}
+
+/// Returns the word, or `-` for an empty one.
+fn or_none(word: String) -> String {
+    if word.is_empty() { "-".to_string() } else { word }
+}
+
+impl<'a> Script<'a> {
+    fn answer(&mut self, layer: &Layer<'_>) -> Option<Opened<'a>> {
+        assert_eq!(layer.index, self.heard.len());
+        self.asked += &hex(layer.proof);
+        self.asked += &hex(layer.input);
         let map = layer.key_id_map.map_or(0, |map| map as u32);
         let texts = [layer.key_id, layer.iv, layer.partial_iv].map(|text| hex(text.unwrap_or_default())).join("/");
-        heard.push(format!("{}/{}/{map}/{texts}", layer.form as u32, layer.algorithm));
-        match answers.next() {
-            None | Some("no") => None,
-            Some("yes") => Some(Vec::new()),
-            Some(plaintext) => Some(bytes(plaintext)),
+        self.heard.push(format!("{}/{}/{map}/{texts}", layer.form as u32, layer.algorithm));
+        let (said, issuer) = self.answers.next().map_or(("no", None), |(said, issuer)| (*said, issuer.as_deref()));
+        let plaintext = said.strip_prefix('p').map(bytes).unwrap_or_default();
+        let is_encrypted = (layer.form == TokenForm::Encrypt0) != (said == "wrong");
+        (said != "no").then_some(Opened { plaintext: is_encrypted.then_some(plaintext), issuer })
+    }
+}
+
+/// The keys of a ring, with their issuers, and the calls with them that are accepted. SETS has the
+/// issuers with commas between them: the name, `:` and a set of keys. SAYS has the calls: each the
+/// identifier of its key, or `#` and its number. The plaintext that may follow after `:` is given
+/// once.
+struct Ring {
+    sets: Vec<(Option<String>, Vec<u8>)>,
+    rules: Vec<(String, Vec<u8>)>,
+    asked: String,
+    heard: Vec<String>,
+}
+
+impl Ring {
+    fn new(sets: &str, says: &str) -> Ring {
+        let set = |word: &str| {
+            let (name, keys) = word.split_once(':').unwrap();
+            (name.strip_prefix('t').map(text), bytes(keys))
+        };
+        let rule = |word: &str| {
+            let (rule, plain) = word.split_once(':').unwrap_or((word, ""));
+            (rule.to_string(), bytes(plain))
+        };
+        Ring { sets: sets.split(',').map(set).collect(), rules: says.split(',').map(rule).collect(), asked: String::new(), heard: Vec::new() }
+    }
+
+    /// Returns the plaintext if the call with this key, which fits the layer, is accepted.
+    fn accepted(&mut self, key: &[u8], nonce: &[u8], layer: &Layer<'_>) -> Option<Vec<u8>> {
+        let key_id = or_none(coset::label_bytes(Kind::Key, key, Map::InItem, 2).map_or(String::new(), |id| hex(&id)));
+        let number = format!("#{}", self.heard.len());
+        self.asked += &hex(layer.proof);
+        self.asked += &hex(layer.input);
+        self.heard.push(format!("{key_id}/{}/{}", layer.algorithm, or_none(hex(nonce))));
+        let rule = self.rules.iter_mut().find(|(rule, _)| *rule == key_id || *rule == number)?;
+        Some(std::mem::take(&mut rule.1))
+    }
+
+    fn answer(&mut self, layer: &Layer<'_>) -> Option<(Vec<u8>, Option<String>)> {
+        for (name, keys) in self.sets.clone() {
+            for key in coset::readable_keys(&keys).unwrap() {
+                let Some(nonce) = coset::key_fits(key, layer).unwrap() else { continue };
+                if let Some(plaintext) = self.accepted(key, &nonce, layer) {
+                    return Some((plaintext, name));
+                }
+            }
         }
+        None
+    }
+}
+
+/// Returns the words for a verified token.
+fn told_token(token: &VerifiedToken) -> String {
+    let audience: Vec<String> = token.audience.iter().map(|name| named(Some(name))).collect();
+    let layers: Vec<String> = token
+        .layers
+        .iter()
+        .map(|it| format!("{}/{}/{}/{}", it.form as u32, hex(&it.protected), hex(&it.unprotected), named(it.issuer.as_deref())))
+        .collect();
+    let parts = [hex(&token.claims), or_none(audience.join(",")), hex(&token.others), named(token.issuer.as_deref()), layers.join(",")];
+    parts.join(" ")
+}
+
+/// Returns the result of `verify_token`. After a refusal it has the layer and the number in place of
+/// the token.
+fn verified<'a>(w: &[&str], opener: impl FnMut(&Layer<'_>) -> Option<Opened<'a>>) -> String {
+    let numbers: Vec<u64> = w[5].split(',').map(|number| number.parse().unwrap()).collect();
+    let lists = [6, 7, 8].map(|place| integers(w[place]));
+    let (audience, types) = (texts(w[9]), texts(w[10]));
+    let (audience, types): (Vec<&str>, Vec<&str>) = (audience.iter().map(|it| &**it).collect(), types.iter().map(|it| &**it).collect());
+    let policy = TokenPolicy {
+        algorithms: &lists[0],
+        critical: &lists[1],
+        required: &lists[2],
+        audience: &audience,
+        types: &types,
+        untagged_form: token_form(numbers[2]),
+        authenticated_by: [Authentication::SignatureOrMac, Authentication::BySignature, Authentication::ByAny][numbers[3] as usize],
+        any_audience: numbers[4] != 0,
+        may_not_expire: numbers[5] != 0,
+        may_be_issued_later: numbers[6] != 0,
+        max_age: (numbers[1] != 0).then_some(numbers[1]),
+        leeway: numbers[0],
     };
-    let claims = coset::token_claims(&bytes(w[2]), w[4].parse().unwrap(), &policy, opener)?;
-    Ok(format!("{} {} {asked} {}", hex(&claims), heard.len(), heard.join(",")))
+    let result = coset::verify_token(&bytes(w[2]), w[4].parse().unwrap(), &policy, opener);
+    let number = |number: Option<i64>| number.map_or("-".to_string(), |number| number.to_string());
+    match result {
+        Ok(token) => format!("ok {}", told_token(&token)),
+        Err(error) => {
+            let layer = number(error.layer.map(|layer| layer as i64));
+            format!("{:?} {layer} {}", error.reason, number(error.number))
+        }
+    }
+}
+
+/// Returns the words for the questions: their number, their proofs and inputs, and their facts.
+fn told_questions(count: usize, asked: String, heard: &[String]) -> String {
+    format!("{count} {} {}", or_none(asked), or_none(heard.join(",")))
+}
+
+/// Returns the result of `verify_token` and the questions that it asked, as calls.c describes them.
+fn token(w: &[&str]) -> String {
+    let said = |word| str::split_once(word, '@').map_or((word, None), |(said, issuer)| (said, Some(text(issuer))));
+    let answers: Vec<(&str, Option<String>)> = w[11].split(',').map(said).collect();
+    let mut script = Script { answers: answers.iter(), asked: String::new(), heard: Vec::new() };
+    let result = verified(w, |layer| script.answer(layer));
+    format!("{result} {}", told_questions(script.heard.len(), script.asked, &script.heard))
+}
+
+/// Returns the same for a ring of keys.
+fn ring(w: &[&str]) -> String {
+    let mut ring = Ring::new(w[11], w[12]);
+    let names: Vec<Option<String>> = ring.sets.iter().map(|(name, _)| name.clone()).collect();
+    let result = verified(w, |layer| {
+        let (plaintext, issuer) = ring.answer(layer)?;
+        let issuer = names.iter().find(|name| **name == issuer).and_then(|name| name.as_deref());
+        Some(Opened { plaintext: (layer.form == TokenForm::Encrypt0).then_some(plaintext), issuer })
+    });
+    format!("{result} {}", told_questions(ring.heard.len(), ring.asked, &ring.heard))
+}
+
+/// Returns the token that `accepted` accepts by a set of keys of this issuer. The signature is good if
+/// it and the structure are those of the words.
+fn accepted(w: &[&str]) -> Result<String, InvalidToken> {
+    let (issuer, set) = (text(w[5]), bytes(w[6]));
+    let is_signed = |_: &[u8], layer: &Layer<'_>| [hex(layer.input), hex(layer.proof)] == [w[7], w[8]];
+    accept::accepted(&bytes(w[2]), &[(&issuer, &set)], w[4].parse().unwrap(), is_signed).map(|token| told_token(&token))
+}
+
+/// Returns the nonce by which the key fits the layer, as calls.c describes it.
+fn fits(w: &[&str]) -> String {
+    let texts = [5, 6, 7, 8].map(|place| bytes(w[place]));
+    let there = |place: usize| (!texts[place].is_empty()).then_some(texts[place].as_slice());
+    let layer = Layer {
+        form: token_form(w[1].parse().unwrap()),
+        algorithm: w[4].parse().unwrap(),
+        key_id: there(0),
+        key_id_map: None,
+        input: b"",
+        proof: &texts[3],
+        iv: there(1),
+        partial_iv: there(2),
+        index: 0,
+    };
+    match coset::key_fits(&bytes(w[2]), &layer) {
+        Ok(Some(nonce)) => format!("ok {}", hex(&nonce)),
+        Ok(None) => "Unfit".to_string(),
+        Err(error) => format!("{error:?}"),
+    }
 }
 
 /// Returns the place of a part of the input.
@@ -266,7 +420,6 @@ fn span(range: std::ops::Range<usize>) -> String {
 
 fn answer(w: &[&str]) -> Result<String, Error> {
     match w[0] {
-        "token" => return token(w),
         "message" => return message(w),
         "spans" => return spans(w),
         "safe" => return safe(w),
@@ -297,6 +450,7 @@ fn answer(w: &[&str]) -> Result<String, Error> {
             let (label, value) = coset::pair_spans(k, &input, w[3].parse().unwrap())?;
             format!("{} {}", span(label), span(value))
         }
+        "keys" => coset::readable_keys(&input)?.into_iter().map(hex).collect::<Vec<_>>().join(" "),
         "key_of" => hex(&coset::key_of(&input, &bytes(w[4]))?),
         "label_bytes" => hex(&coset::label_bytes(k, &input, map(w[4]), w[5].parse().unwrap())?),
         "label_int" => coset::label_int(k, &input, map(w[3]), w[4].parse().unwrap())?.to_string(),
@@ -321,9 +475,19 @@ fn answer(w: &[&str]) -> Result<String, Error> {
 fn main() {
     for line in std::io::stdin().lock().lines() {
         let line = line.unwrap();
-        match answer(&line.split(' ').collect::<Vec<_>>()) {
-            Ok(answer) => println!("ok {answer}"),
-            Err(error) => println!("{error:?}"),
+        let words: Vec<&str> = line.split(' ').collect();
+        match words[0] {
+            "token" => println!("{}", token(&words)),
+            "ring" => println!("{}", ring(&words)),
+            "fits" => println!("{}", fits(&words)),
+            "accepted" => match accepted(&words) {
+                Ok(token) => println!("ok {token}"),
+                Err(error) => println!("{:?}", error.reason),
+            },
+            _ => match answer(&words) {
+                Ok(answer) => println!("ok {answer}"),
+                Err(error) => println!("{error:?}"),
+            },
         }
     }
 }

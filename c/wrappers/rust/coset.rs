@@ -234,51 +234,53 @@ pub enum Authentication {
 
 /// A verifier's requirements for a web token.
 ///
-/// The default accepts nothing, because it allows no algorithm. It has no leeway, and checks
-/// neither the age nor the issuer nor the audience.
+/// The default accepts nothing, because it allows no algorithm. It refuses a token that has an
+/// audience, doesn't expire, or was issued later than now. It has no leeway, and no greatest age.
 #[derive(Clone, Copy, Debug)]
 pub struct TokenPolicy<'a> {
-    /// The algorithms that are allowed in signatures.
-    pub signatures: &'a [i64],
-    /// The algorithms that are allowed in MACs.
-    pub macs: &'a [i64],
-    /// The algorithms that are allowed in encryption.
-    pub ciphers: &'a [i64],
+    /// The numbers of the allowed algorithms. Each layer must name one that is for its form.
+    pub algorithms: &'a [i64],
+    /// The caller's own names. `aud` must contain one of them. If there is none, a token with `aud`
+    /// is refused.
+    pub audience: &'a [&'a str],
+    /// True if `aud` isn't checked. `audience` must then be empty, and the caller must compare the
+    /// token's audience with its own names.
+    pub any_audience: bool,
+    /// The accepted types (`typ`, RFC 9596), such as `application/cwt`. If there is none, `typ` is
+    /// ignored.
+    pub types: &'a [&'a str],
+    /// The numbers of claims that a token must have.
+    pub required: &'a [i64],
     /// The critical labels that the caller understands, and acts on.
     pub critical: &'a [i64],
-    /// The form of a layer without a tag.
-    pub plain: TokenForm,
+    /// The form of an outermost layer without a tag.
+    pub untagged_form: TokenForm,
     pub authenticated_by: Authentication,
-    /// True if claims with unassigned numbers and an `aud` in an array are left out. Otherwise a
-    /// token with such a claim is refused.
-    pub leaves_out: bool,
+    /// True if a token may lack `exp`.
     pub may_not_expire: bool,
+    /// True if a token may have an `iat` later than now.
     pub may_be_issued_later: bool,
-    /// The age in seconds at which a token is refused.
+    /// The age in seconds since `iat` at which a token is refused: at least 1.
     pub max_age: Option<u64>,
     /// The number of seconds by which the clocks of issuer and verifier may differ.
     pub leeway: u64,
-    /// The issuer and the audience that the claims must name, if there are any.
-    pub issuer: Option<&'a str>,
-    pub audience: Option<&'a str>,
 }
 
 impl Default for TokenPolicy<'_> {
     fn default() -> Self {
         TokenPolicy {
-            signatures: &[],
-            macs: &[],
-            ciphers: &[],
+            algorithms: &[],
+            audience: &[],
+            any_audience: false,
+            types: &[],
+            required: &[],
             critical: &[],
-            plain: TokenForm::Sign1,
+            untagged_form: TokenForm::Sign1,
             authenticated_by: Authentication::SignatureOrMac,
-            leaves_out: false,
             may_not_expire: false,
             may_be_issued_later: false,
             max_age: None,
             leeway: 0,
-            issuer: None,
-            audience: None,
         }
     }
 }
@@ -301,7 +303,79 @@ pub struct Layer<'a> {
     /// The initialization vector and the partial one, each if there is one.
     pub iv: Option<&'a [u8]>,
     pub partial_iv: Option<&'a [u8]>,
+    /// The index of the layer. The outermost has 0.
+    pub index: usize,
 }
+
+/// The answer for a layer that the caller accepts.
+#[derive(Clone, Debug, Default, PartialEq, Eq)]
+pub struct Opened<'a> {
+    /// The plaintext of an encrypted layer. `None` for any other layer.
+    pub plaintext: Option<Vec<u8>>,
+    /// The name of the issuer whose key accepted the layer, if it has one. It isn't empty.
+    pub issuer: Option<&'a str>,
+}
+
+/// A web token that is verified.
+#[derive(Clone, Debug, PartialEq, Eq)]
+pub struct VerifiedToken {
+    /// The claims, a `Kind::Claims`. An `aud` that is an array is left out, and so are `others`.
+    pub claims: Vec<u8>,
+    /// The names in `aud`, which is a text or an array of texts.
+    pub audience: Vec<String>,
+    /// The claims whose numbers are neither assigned by IANA nor for private use: a `Kind::Item`, a
+    /// map.
+    pub others: Vec<u8>,
+    /// The name of the issuer whose key authenticated the token. The innermost authenticating layer
+    /// decides.
+    pub issuer: Option<String>,
+    /// The layers, from the outermost in.
+    pub layers: Vec<VerifiedLayer>,
+}
+
+/// A layer of a web token that is verified.
+#[derive(Clone, Debug, PartialEq, Eq)]
+pub struct VerifiedLayer {
+    pub form: TokenForm,
+    /// The content of the protected header's byte string, as received: a `Kind::Header`, or empty.
+    pub protected: Vec<u8>,
+    /// The unprotected header, a `Kind::Header`.
+    pub unprotected: Vec<u8>,
+    /// The name of the issuer whose key accepted the layer.
+    pub issuer: Option<String>,
+}
+
+/// The reason why a web token isn't accepted.
+#[derive(Clone, Copy, Debug, PartialEq, Eq)]
+pub struct InvalidToken {
+    /// The first reason against the token. Or `Memory`; or `Misuse` if the policy has no meaning, or
+    /// the answer for a layer.
+    pub reason: Error,
+    /// The index of the refused layer, if the reason is against a layer. The outermost has 0.
+    pub layer: Option<usize>,
+    /// The algorithm that isn't allowed (`NotAllowed`), if it has a number. Or the required claim
+    /// that is missing (`Missing`).
+    pub number: Option<i64>,
+}
+
+impl fmt::Display for InvalidToken {
+    fn fmt(&self, f: &mut fmt::Formatter<'_>) -> fmt::Result {
+        match self.layer {
+            Some(index) => write!(f, "layer {index} of the token is refused: ")?,
+            None => write!(f, "the token is refused: ")?,
+        }
+        match self.reason {
+            Error::Absent => write!(f, "it carries no payload or ciphertext")?,
+            reason => write!(f, "{reason}")?,
+        }
+        match self.number {
+            Some(number) => write!(f, " ({number})"),
+            None => Ok(()),
+        }
+    }
+}
+
+impl std::error::Error for InvalidToken {}
 
 /// The reason why a call failed.
 #[derive(Clone, Copy, Debug, PartialEq, Eq)]
@@ -359,10 +433,18 @@ pub enum Error {
     IssuedLater,
     /// The token has reached the greatest age, or has no time of issue.
     TooOld,
-    /// The token has another issuer, or none.
+    /// The claims name another issuer than that of the key.
     Issuer,
-    /// The token has another audience, or none.
+    /// The token is for another audience.
     Audience,
+    /// A label is in both headers of a layer, or a layer has an IV and a Partial IV.
+    Headers,
+    /// The innermost layer has none of the accepted types.
+    TokenType,
+    /// A header has claims that aren't in the payload.
+    HeaderClaims,
+    /// The token doesn't have a required claim.
+    Missing,
 }
 
 impl fmt::Display for Error {
@@ -385,16 +467,20 @@ impl fmt::Display for Error {
             Error::NotAllowed => "the algorithm isn't one that is allowed",
             Error::Critical => "a label that must be understood isn't",
             Error::Refused => "the signature, the tag or the ciphertext is refused",
-            Error::TooDeep => "too many layers are within one another",
-            Error::Unauthenticated => "no layer authenticates who sent the token",
-            Error::NotClaims => "what is in the token isn't a claims set",
-            Error::NoExpiration => "the token doesn't say when it expires",
+            Error::TooDeep => "the token has too many layers",
+            Error::Unauthenticated => "no layer authenticates the sender of the token",
+            Error::NotClaims => "the content of the token isn't a claims set",
+            Error::NoExpiration => "the token has no expiration time",
             Error::Expired => "the token has expired",
             Error::NotYetValid => "the token isn't valid yet",
-            Error::IssuedLater => "the token is issued later than now",
+            Error::IssuedLater => "the token was issued later than now",
             Error::TooOld => "the token is too old",
-            Error::Issuer => "the token is of another issuer",
+            Error::Issuer => "the claims name another issuer than that of the key",
             Error::Audience => "the token is for another audience",
+            Error::Headers => "the headers of a layer contradict each other",
+            Error::TokenType => "the token has another type",
+            Error::HeaderClaims => "a header has other claims than the payload",
+            Error::Missing => "the token lacks a required claim",
         })
     }
 }
@@ -489,14 +575,18 @@ mod c {
         pub size: usize,
         pub leeway: u64,
         pub max_age: u64,
-        pub has_max_age: u32,
-        pub plain: u32,
+        pub untagged_form: u32,
         pub authenticated_by: u32,
-        pub leaves_out: u32,
+        pub any_audience: u32,
         pub may_not_expire: u32,
         pub may_be_issued_later: u32,
-        pub has_issuer: u32,
-        pub has_audience: u32,
+    }
+
+    /// `coset_text` of the header.
+    #[repr(C)]
+    pub struct Text {
+        pub chars: *const u8,
+        pub len: usize,
     }
 
     /// `coset_opened` of the header.
@@ -508,6 +598,8 @@ mod c {
         pub proof_len: usize,
         pub plaintext: usize,
         pub plaintext_len: usize,
+        pub issuer: usize,
+        pub issuer_len: usize,
     }
 
     /// `coset_layer` of the header.
@@ -517,6 +609,8 @@ mod c {
         pub form: u32,
         pub key_id_map: u32,
         pub algorithm: i64,
+        pub claim: i64,
+        pub index: usize,
         pub structure_len: usize,
         pub proof_len: usize,
         pub key_id_len: usize,
@@ -525,7 +619,8 @@ mod c {
     }
 
     unsafe extern "C" {
-        pub fn coset_token_claims(rules: *const Rules, signatures: *const i64, signatures_len: usize, macs: *const i64, macs_len: usize, ciphers: *const i64, ciphers_len: usize, critical: *const i64, critical_len: usize, issuer: *const u8, issuer_len: usize, audience: *const u8, audience_len: usize, input: *const u8, input_len: usize, now: i64, opened: *const Opened, opened_len: usize, bytes: *const u8, bytes_len: usize, out: *mut u8, cap: usize, len: *mut usize, layer: *mut Layer) -> i32;
+        pub fn coset_token_open(rules: *const Rules, algorithms: *const i64, algorithms_len: usize, critical: *const i64, critical_len: usize, required: *const i64, required_len: usize, audiences: *const Text, audiences_len: usize, types: *const Text, types_len: usize, input: *const u8, input_len: usize, now: i64, opened: *const Opened, opened_len: usize, bytes: *const u8, bytes_len: usize, out: *mut u8, cap: usize, len: *mut usize, layer: *mut Layer) -> i32;
+        pub fn coset_key_fits(key: *const u8, key_len: usize, form: u32, algorithm: i64, key_id: *const u8, key_id_len: usize, iv: *const u8, iv_len: usize, partial_iv: *const u8, partial_iv_len: usize, proof: *const u8, proof_len: usize, out: *mut u8, cap: usize, len: *mut usize) -> i32;
         pub fn coset_version() -> *const std::ffi::c_char;
         pub fn coset_status_text(status: i32) -> *const std::ffi::c_char;
         pub fn coset_message(kind: u32, input: *const u8, input_len: usize, index: usize, external_aad: *const u8, external_aad_len: usize, has_detached: u32, detached: *const u8, detached_len: usize, known: *const i64, known_len: usize, out: *mut u8, cap: usize, len: *mut usize, view: *mut Message) -> i32;
@@ -624,6 +719,10 @@ fn answer<T>(status: i32, value: T) -> Result<T, Error> {
         27 => Error::TooOld,
         28 => Error::Issuer,
         29 => Error::Audience,
+        30 => Error::Headers,
+        31 => Error::TokenType,
+        32 => Error::HeaderClaims,
+        33 => Error::Missing,
         status => unreachable!("status {status}"),
     })
 }
@@ -992,11 +1091,7 @@ impl<'a> Layer<'a> {
         let (iv, partial_iv) = rest.split_at(view.iv_len);
         let there = |bytes: &'a [u8]| (!bytes.is_empty()).then_some(bytes);
         Layer {
-            form: match view.form {
-                1 => TokenForm::Sign1,
-                3 => TokenForm::Mac0,
-                _ => TokenForm::Encrypt0,
-            },
+            form: token_form(view.form.into()),
             algorithm: view.algorithm,
             key_id: there(key_id),
             key_id_map: key_id_map(view.key_id_map),
@@ -1004,77 +1099,240 @@ impl<'a> Layer<'a> {
             proof,
             iv: there(iv),
             partial_iv: there(partial_iv),
+            index: view.index,
         }
+    }
+}
+
+fn token_form(number: i64) -> TokenForm {
+    match number {
+        1 => TokenForm::Sign1,
+        3 => TokenForm::Mac0,
+        _ => TokenForm::Encrypt0,
     }
 }
 
 impl TokenPolicy<'_> {
-    fn rules(&self) -> c::Rules {
-        c::Rules {
+    /// Returns the rules, if the greatest age isn't 0.
+    fn rules(&self) -> Result<c::Rules, Error> {
+        if self.max_age == Some(0) {
+            return Err(Error::Misuse);
+        }
+        Ok(c::Rules {
             size: size_of::<c::Rules>(),
             leeway: self.leeway,
             max_age: self.max_age.unwrap_or(0),
-            has_max_age: self.max_age.is_some().into(),
-            plain: self.plain as u32,
+            untagged_form: self.untagged_form as u32,
             authenticated_by: self.authenticated_by as u32,
-            leaves_out: self.leaves_out.into(),
+            any_audience: self.any_audience.into(),
             may_not_expire: self.may_not_expire.into(),
             may_be_issued_later: self.may_be_issued_later.into(),
-            has_issuer: self.issuer.is_some().into(),
-            has_audience: self.audience.is_some().into(),
+        })
+    }
+}
+
+/// Returns the elements of an array, as received.
+fn elements(array: &[u8]) -> Result<Vec<&[u8]>, Error> {
+    let number = match count(Kind::Item, array) {
+        Err(Error::Empty) => return Ok(Vec::new()),
+        number => number?,
+    };
+    let (mut found, mut at) = (Vec::new(), member_span(Kind::Item, array, 0)?.start);
+    for _ in 0..number {
+        let span = item_span(array, at)?;
+        at = span.end;
+        found.push(&array[span]);
+    }
+    Ok(found)
+}
+
+/// Returns the text that an item is.
+fn text_of(item: &[u8]) -> Result<String, Error> {
+    String::from_utf8(item[string_span(item)?].to_vec()).map_err(|_| Error::Unexpected)
+}
+
+/// Returns the name that an item is, or `None` for null.
+fn name_of(item: &[u8]) -> Result<Option<String>, Error> {
+    if item == [0xf6] { Ok(None) } else { text_of(item).map(Some) }
+}
+
+impl VerifiedToken {
+    /// Reads the array that the library wrote.
+    fn of(bytes: &[u8]) -> Result<VerifiedToken, Error> {
+        let [claims, audience, others, issuer, layers] = elements(bytes)?[..] else {
+            return Err(Error::Unexpected);
+        };
+        Ok(VerifiedToken {
+            claims: claims.to_vec(),
+            audience: elements(audience)?.into_iter().map(text_of).collect::<Result<_, _>>()?,
+            others: others.to_vec(),
+            issuer: name_of(issuer)?,
+            layers: elements(layers)?.into_iter().map(VerifiedLayer::of).collect::<Result<_, _>>()?,
+        })
+    }
+}
+
+impl VerifiedLayer {
+    /// Reads the array of a layer that the library wrote.
+    fn of(bytes: &[u8]) -> Result<VerifiedLayer, Error> {
+        let [form, protected, unprotected, issuer] = elements(bytes)?[..] else {
+            return Err(Error::Unexpected);
+        };
+        Ok(VerifiedLayer {
+            form: token_form(integer(form)?),
+            protected: protected[string_span(protected)?].to_vec(),
+            unprotected: unprotected.to_vec(),
+            issuer: name_of(issuer)?,
+        })
+    }
+}
+
+impl InvalidToken {
+    /// Returns the reason for a status, with the layer or the number that it is about.
+    fn of(status: i32, view: &c::Layer) -> InvalidToken {
+        const REFUSED: i32 = 18;
+        let reason = if status == REFUSED { Error::Refused } else { answer(status, ()).err().unwrap_or(Error::Misuse) };
+        InvalidToken {
+            reason,
+            layer: matches!(status, 3..=12 | 16..=18 | 30).then_some(view.index),
+            number: match reason {
+                Error::NotAllowed => (view.algorithm != 0).then_some(view.algorithm),
+                Error::Missing => Some(view.claim),
+                _ => None,
+            },
         }
     }
 }
 
-/// Returns the claims of a web token at `now`, in seconds since 1970 began in UTC: a
-/// `Kind::Claims`.
+impl From<Error> for InvalidToken {
+    fn from(reason: Error) -> Self {
+        InvalidToken { reason, layer: None, number: None }
+    }
+}
+
+/// The layers that are opened, and their bytes.
+#[derive(Default)]
+struct Handed {
+    layers: Vec<c::Opened>,
+    bytes: Vec<u8>,
+}
+
+impl Handed {
+    /// Appends the bytes, and returns their offset and length.
+    fn part(&mut self, bytes: &[u8]) -> (usize, usize) {
+        self.bytes.extend_from_slice(bytes);
+        (self.bytes.len() - bytes.len(), bytes.len())
+    }
+
+    /// Appends a layer that the caller accepted. The answer must have a plaintext if the layer is
+    /// encrypted, and none otherwise.
+    fn push(&mut self, layer: &Layer<'_>, accepted: &Opened<'_>) -> Result<(), Error> {
+        if accepted.plaintext.is_some() != (layer.form == TokenForm::Encrypt0) || accepted.issuer == Some("") {
+            return Err(Error::Misuse);
+        }
+        let (offset, structure_len) = self.part(layer.input);
+        let (_, proof_len) = self.part(layer.proof);
+        let (plaintext, plaintext_len) = accepted.plaintext.as_ref().map_or((0, 0), |bytes| self.part(bytes));
+        let (issuer, issuer_len) = accepted.issuer.map_or((0, 0), |name| self.part(name.as_bytes()));
+        let form = layer.form as u32;
+        self.layers.push(c::Opened { form, offset, structure_len, proof_len, plaintext, plaintext_len, issuer, issuer_len });
+        Ok(())
+    }
+}
+
+/// Verifies a web token (RFC 8392) at `now`, in seconds since 1970 began in UTC.
 ///
-/// `opener` is called for each layer, and must accept it. For a signature or a MAC by a key that
-/// the caller trusts for that algorithm it returns an empty `Some`. For an encrypted layer it
-/// returns the plaintext. `None` refuses the token.
-pub fn token_claims(
+/// `opener` is called for each layer, and must accept it. It accepts a signature or a MAC that a key
+/// verifies, and answers an encrypted layer with its plaintext. `None` refuses the token.
+/// [`key_fits`] says which keys fit the layer.
+///
+/// # Errors
+/// The first reason against the token, layer by layer from the outermost in. Or:
+/// - `Misuse` if the policy has no meaning, such as an unassigned algorithm. Also if the answer for
+///   an encrypted layer has no plaintext, or the answer for another layer has one.
+/// - `Memory` if an allocation of the library fails.
+pub fn verify_token<'a>(
     token: &[u8],
     now: i64,
     policy: &TokenPolicy<'_>,
-    mut opener: impl FnMut(&Layer<'_>) -> Option<Vec<u8>>,
-) -> Result<Vec<u8>, Error> {
+    mut opener: impl FnMut(&Layer<'_>) -> Option<Opened<'a>>,
+) -> Result<VerifiedToken, InvalidToken> {
     const LAYER: i32 = 19;
-    let rules = policy.rules();
-    let lists = [policy.signatures, policy.macs, policy.ciphers, policy.critical];
-    let (issuer, audience) = (policy.issuer.unwrap_or_default(), policy.audience.unwrap_or_default());
-    let (mut opened, mut known, mut out) = (Vec::<c::Opened>::new(), Vec::<u8>::new(), vec![0; 256]);
+    let rules = policy.rules()?;
+    let texts = |names: &[&str]| names.iter().map(|name| c::Text { chars: name.as_ptr(), len: name.len() }).collect::<Vec<_>>();
+    let (audiences, types, numbers) = (texts(policy.audience), texts(policy.types), [policy.algorithms, policy.critical, policy.required]);
+    let (mut handed, mut out) = (Handed::default(), vec![0; 2 * token.len() + 512]);
     loop {
         let (mut len, mut view) = (0, c::Layer::default());
         let status = unsafe {
-            c::coset_token_claims(
-                &rules, lists[0].as_ptr(), lists[0].len(), lists[1].as_ptr(), lists[1].len(), lists[2].as_ptr(), lists[2].len(),
-                lists[3].as_ptr(), lists[3].len(), issuer.as_ptr(), issuer.len(), audience.as_ptr(), audience.len(), token.as_ptr(),
-                token.len(), now, opened.as_ptr(), opened.len(), known.as_ptr(), known.len(), out.as_mut_ptr(), out.len(), &mut len,
-                &mut view,
+            c::coset_token_open(
+                &rules, numbers[0].as_ptr(), numbers[0].len(), numbers[1].as_ptr(), numbers[1].len(), numbers[2].as_ptr(),
+                numbers[2].len(), audiences.as_ptr(), audiences.len(), types.as_ptr(), types.len(), token.as_ptr(), token.len(), now,
+                handed.layers.as_ptr(), handed.layers.len(), handed.bytes.as_ptr(), handed.bytes.len(), out.as_mut_ptr(), out.len(),
+                &mut len, &mut view,
             )
         };
-        if status == SHORT {
-            out.resize(len, 0);
-            continue;
+        match status {
+            0 => return Ok(VerifiedToken::of(&out[..len])?),
+            SHORT => out.resize(len, 0),
+            LAYER => {
+                let layer = Layer::of(&view, &out[..len]);
+                let refused = |reason| InvalidToken { reason, layer: Some(layer.index), number: None };
+                let accepted = opener(&layer).ok_or(refused(Error::Refused))?;
+                handed.push(&layer, &accepted).map_err(refused)?;
+            }
+            status => return Err(InvalidToken::of(status, &view)),
         }
-        if status != LAYER {
-            out.truncate(len);
-            return answer(status, out);
-        }
-        let layer = Layer::of(&view, &out[..len]);
-        let plaintext = opener(&layer).ok_or(Error::Refused)?;
-        let (offset, handed) = (known.len(), view.structure_len + view.proof_len);
-        known.extend_from_slice(&out[..handed]);
-        opened.push(c::Opened {
-            form: view.form,
-            offset,
-            structure_len: view.structure_len,
-            proof_len: view.proof_len,
-            plaintext: known.len(),
-            plaintext_len: plaintext.len(),
-        });
-        known.extend_from_slice(&plaintext);
     }
+}
+
+/// Returns the nonce by which a key fits a layer, or `None` if it doesn't fit. The nonce is empty if
+/// the algorithm has none.
+///
+/// The key is a `Kind::Key`. Its `alg` must be the layer's algorithm. Its type, members and
+/// operations must be those that the algorithm requires. The layer's IV must have the right length,
+/// and its key identifier, if any, must be the key's.
+///
+/// # Errors
+/// - A fault in bytes that aren't a key.
+/// - `Memory` if an allocation of the library fails.
+pub fn key_fits(key: &[u8], layer: &Layer<'_>) -> Result<Option<Vec<u8>>, Error> {
+    const UNFIT: i32 = 34;
+    let (mut out, mut len) = (vec![0; 16], 0);
+    let [id, iv, partial] = [layer.key_id, layer.iv, layer.partial_iv].map(Option::unwrap_or_default);
+    let status = unsafe {
+        c::coset_key_fits(
+            key.as_ptr(), key.len(), layer.form as u32, layer.algorithm, id.as_ptr(), id.len(), iv.as_ptr(), iv.len(), partial.as_ptr(),
+            partial.len(), layer.proof.as_ptr(), layer.proof.len(), out.as_mut_ptr(), out.len(), &mut len,
+        )
+    };
+    if status == UNFIT {
+        return Ok(None);
+    }
+    answer(status, ())?;
+    out.truncate(len);
+    Ok(Some(out))
+}
+
+/// Returns the keys of a `Kind::KeySet` that can be read, as received (RFC 9052, section 7).
+///
+/// # Errors
+/// - A fault in bytes that aren't an array.
+/// - `Memory` if an allocation of the library fails.
+pub fn readable_keys(set: &[u8]) -> Result<Vec<&[u8]>, Error> {
+    let keys = match elements(set) {
+        Err(Error::Absent) => return Err(Error::Unexpected),
+        keys => keys?,
+    };
+    let mut found = Vec::new();
+    for key in keys {
+        match check(Kind::Key, key) {
+            Err(Fault { error: Error::Memory, .. }) => return Err(Error::Memory),
+            Err(_) => {}
+            Ok(()) => found.push(key),
+        }
+    }
+    Ok(found)
 }
 
 /// Returns the version of the library that is linked, followed by ` (unproved)` if it was built

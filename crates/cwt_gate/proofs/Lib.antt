@@ -1,4 +1,1 @@
-mod Opened
 mod Judging
-mod Layering
-mod LettingIn

@@ -63,17 +63,17 @@ IsToken b P = (m : Sign1View) × Describes token b m × P m
 abbrev pub Judges : {F E : Type 0} → Verifies F E → F → ℤ → List ℕ → Result ClaimsSet (GateError E) → Type 0
 Judges g f now b (Ok x) =
     let c = claims_view x in
-    IsToken b (λ m. Accepts g f m c) × (has_fraction c ≡ false) × (has_expired 0 now c.expiration_time ≡ false) × (is_early 0 now c.not_before ≡ false)
+    IsToken b (λ m. Accepts g f m c) × (has_fraction c ≡ false) × (has_expired now c.expiration_time ≡ false) × (is_early now c.not_before ≡ false)
 Judges g f now b (Err (Token e)) = IsRefused token b e
 Judges g f now b (Err NoPayload) = IsToken b (λ m. m.payload ≡ None)
 Judges g f now b (Err (Caller e)) = IsToken b (λ m. Refuses g f m e)
 Judges g f now b (Err (Claims e)) = IsToken b (λ m. CarriesNoClaims g f m e)
 Judges g f now b (Err FractionalTime) = (c : ClaimsView) × IsToken b (λ m. Accepts g f m c) × (has_fraction c ≡ true)
 Judges g f now b (Err Expired) =
-    (c : ClaimsView) × IsToken b (λ m. Accepts g f m c) × (has_fraction c ≡ false) × (has_expired 0 now c.expiration_time ≡ true)
+    (c : ClaimsView) × IsToken b (λ m. Accepts g f m c) × (has_fraction c ≡ false) × (has_expired now c.expiration_time ≡ true)
 Judges g f now b (Err NotYetValid) =
     (c : ClaimsView)
     × IsToken b (λ m. Accepts g f m c)
     × (has_fraction c ≡ false)
-    × (has_expired 0 now c.expiration_time ≡ false)
-    × (is_early 0 now c.not_before ≡ true)
+    × (has_expired now c.expiration_time ≡ false)
+    × (is_early now c.not_before ≡ true)

@@ -1,31 +1,42 @@
-//! The functions that judge tokens.
+//! The function that judges tokens.
 
-ghost use Rattle.cwt_gate.specs.JudgeWith.{JudgesWith};
 ghost use Rattle.cwt_gate.specs.Gate.{Judges};
-ghost use Rattle.cwt_gate.specs.Policy.{policy_view};
 
-use crate::claims::{check_claims, read_claims};
-use crate::error::{GateError, PolicyError};
-use crate::keys::Keys;
-use crate::layers::open_all;
+use crate::error::GateError;
 use crate::moment::{has_expired, has_fraction, is_early};
-use crate::policy::Policy;
 use crate::token::read_token;
 use crate::verified::verified_claims;
-use coset::cwt::{ClaimsSet, KnownClaims};
+use coset::cwt::ClaimsSet;
 use coset::laws::signed_when_read;
 use std::alloc::Global;
 
 /// Returns the claims of a token that is valid at `now`, if `verify` accepts its signature.
+///
+/// `verify_token` of the crate `cwt_verify` is the safe choice. It also makes the checks that are
+/// left to the caller here, except the one for replay.
 ///
 /// `now` is in seconds since 1970 began in UTC. The token is a message with one signature
 /// (`COSE_Sign1`). It is plain, under its tag, or under the tag of web tokens and then its own (RFC
 /// 8392, section 6).
 ///
 /// `verify` receives the signature and the signed bytes, for an empty `external_aad`. It is called
-/// once, unless the token is refused before. The payload is read only after that. The function
-/// doesn't check the time of issue (`iat`), the algorithm or the audience; [`judge_with`] checks
-/// more.
+/// once, unless the token is refused before. The payload is read only after that.
+///
+/// This function doesn't check any of the following. The caller must check them before it relies on
+/// the claims:
+///
+/// - the algorithm (`alg`), and that the key is for this algorithm (RFC 8725, section 3.1). `verify`
+///   doesn't receive the headers.
+/// - that each critical label (`crit`) is understood, and that no label is in both headers (RFC
+///   9052, sections 3 and 3.1).
+/// - that the key belongs to the issuer (`iss`; RFC 8725, section 3.8).
+/// - that the caller is in the audience (`aud`; RFC 7519, section 4.1.3).
+/// - the type of the token (`typ`; RFC 8725, section 3.11), and claims in headers (RFC 9597).
+/// - that `exp` or another claim is present, and the time of issue (`iat`).
+/// - that the token wasn't used before (replay; `cti`).
+///
+/// The claims are refused if `aud` is an array, or if a claim's number is neither assigned nor for
+/// private use. RFC 8392, sections 3 and 3.1.3, allows both.
 ///
 /// # Errors
 /// The first error that applies, in the order of [`GateError`]. If an allocation fails, the error
@@ -51,53 +62,11 @@ where
     if has_fraction(&claims) {
         return Err(GateError::FractionalTime);
     }
-    if has_expired(0, now, &claims.expiration_time) {
+    if has_expired(now, &claims.expiration_time) {
         return Err(GateError::Expired);
     }
-    if is_early(0, now, &claims.not_before) {
+    if is_early(now, &claims.not_before) {
         return Err(GateError::NotYetValid);
     }
     Ok(claims)
-}
-
-/// Returns the claims of a token that is valid at `now`, if `keys` and `policy` accept it (RFC
-/// 8392, section 7.2).
-///
-/// `now` is in seconds since 1970 began in UTC. A layer is a message with a signature
-/// (`COSE_Sign1`), with a MAC (`COSE_Mac0`), or encrypted (`COSE_Encrypt0`). It is plain or under
-/// its tag. The outermost layer may also be under the tag of web tokens on top of its own (RFC
-/// 8392, section 6).
-///
-/// The content of a layer is its payload, or the plaintext that the keys make. If the content
-/// begins like an array or a tag, it is read as another layer, and otherwise as the claims. A token
-/// has at most four layers. The keys must accept each layer. They receive it once, from the
-/// outermost in, and only if the policy accepts its algorithm and its critical labels. Only content
-/// that the keys accepted is read.
-///
-/// Claims that the policy leaves out are in `others` of the result. All names of the audience are in
-/// `audience`; those of an array are not in the claims.
-///
-/// # Errors
-/// The first error that applies, in the order of [`PolicyError`]. If an allocation fails, the error
-/// is `Token` until all layers are opened, and `Claims` from then on. An infinity or NaN as a time
-/// refuses the token, if the policy looks at that time.
-pub fn judge_with<K: Keys>(
-    alloc: Global,
-    policy: &Policy<'_>,
-    keys: &K,
-    token: &[u8],
-    now: i64,
-) -> Result<KnownClaims, PolicyError<K::Error>>
-    ensures { JudgesWith (K.view keys.now) (policy_view policy.now) now token.now result }
-{
-    let opened = open_all(alloc, policy, keys, token)?;
-    if !opened.authentic {
-        return Err(PolicyError::Unauthenticated);
-    }
-    let known = match read_claims(alloc, policy.unassigned, &opened.content) {
-        Ok(known) => known,
-        Err(error) => return Err(PolicyError::Gate(GateError::Claims(error))),
-    };
-    check_claims(policy, now, &known.claims)?;
-    Ok(known)
 }

@@ -10,8 +10,7 @@ use coset::{CoseKeySet, Result};
 use std::alloc::Global;
 
 /// Decodes an array of keys in order, and skips those that can't be read, such as those of an
-/// unknown type (RFC 9052, section 7). A key is also skipped if an allocation fails while it is
-/// read.
+/// unknown type (RFC 9052, section 7).
 ///
 /// # Errors
 /// - A fault in bytes that aren't an array.

@@ -1,30 +1,30 @@
--- Attestation tokens: the gate's results are passed on, and submodules are found.
+-- Attestation tokens: the reasons against a token are passed on, and submodules are found.
 use Rattle.std.specs.Prelude.{IsErrAnd}
 use Rattle.std.specs.List.{find}
 use Rattle.std.proofs.Common.{◌≡◌, ◌∙◌, ℕ, ℤ, List, [], ◌∷◌, Option, Some, Result, Ok, Err, ap, cond, option_map, refl, subst, sym}
 use Rattle.coset_claims.specs.Claims.{ClaimsView}
 use Rattle.coset_claims.specs.declared.claims_set.ClaimsSet.{ClaimsSet}
-use Rattle.coset_claims.specs.declared.known.KnownClaims.{KnownClaims}
 use Rattle.coset_codec.specs.declared.error.CoseError.{CoseError}
 use Rattle.coset_codec.specs.declared.error.CoseError.TheVariants.{OutOfMemory}
 use Rattle.coset_value.specs.Item.{Item}
 use Rattle.coset_value.specs.View.{value_item, value_pairs}
 use Rattle.coset_value.specs.declared.value.Value.{Value}
-use Rattle.cwt_gate.specs.JudgeWith.{JudgesWith}
-use Rattle.cwt_gate.specs.Keys.{KeysView}
-use Rattle.cwt_gate.specs.declared.error.PolicyError.{PolicyError}
-use Rattle.example_uses.specs.Attestation.{JudgesAttestation, ReadsSubmodule, attestation_policy, held_under, is_text, submodule_of}
+use Rattle.cwt_keys.specs.Keys.{KeysView}
+use Rattle.cwt_verify.specs.Verify.{VerifiesToken}
+use Rattle.cwt_verify.specs.declared.error.TokenError.{TokenError}
+use Rattle.cwt_verify.specs.declared.token.VerifiedToken.{VerifiedToken}
+use Rattle.example_uses.specs.Attestation.{ReadsSubmodule, VerifiesAttestation, attestation_policy, held_under, is_text, submodule_of}
 use Rattle.example_uses.specs.declared.attestation.NotAttested.{NotAttested}
 use Rattle.example_uses.specs.declared.attestation.NotAttested.TheVariants.{Refused}
 use Rattle.example_uses.proofs.Found.{cond-map}
 
--- The gate's reason against a token is the reason why it is no attestation.
+-- The reason against a token is the reason why it is no attestation.
 pub refused :
-    {E : Type 0} (k : KeysView E) (nonce : List ℕ) (now : ℤ) (b : List ℕ) (r : Result KnownClaims (NotAttested E)) (e : PolicyError E)
-    → IsErrAnd r (λ x. x ≡ Refused e) → JudgesWith k attestation_policy now b (Err e)
-    → JudgesAttestation k nonce now b r
+    {E : Type 0} (k : KeysView E) (nonce : List ℕ) (now : ℤ) (b : List ℕ) (r : Result VerifiedToken (NotAttested E)) (e : TokenError E)
+    → IsErrAnd r (λ x. x ≡ Refused e) → VerifiesToken k attestation_policy now b (Err e)
+    → VerifiesAttestation k nonce now b r
 refused k nonce now b (Ok x) e is h = absurd is
-refused k nonce now b (Err x) e is h = subst (λ y. JudgesAttestation k nonce now b (Err y)) (sym is) h
+refused k nonce now b (Err x) e is h = subst (λ y. VerifiesAttestation k nonce now b (Err y)) (sym is) h
 
 -- An allocation for a copy of the submodule failed.
 pub no_memory :

@@ -8,7 +8,6 @@ pub mod EachRead
 pub mod Found
 pub mod Issued
 pub mod KeySets
-pub mod Successes
 pub mod NamedAlgorithm
 pub mod OneByOne
 pub mod Opened

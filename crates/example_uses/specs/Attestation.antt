@@ -1,11 +1,10 @@
 -- Attestation tokens (EAT, RFC 9711), and those of PSA (RFC 9783).
-use Rattle.std.specs.Prelude.{◌≡◌, ◌==◌, ℕ, ℤ, List, [], ◌∷◌, Bool, false, Option, Some, None, Result, Ok, Err, if◌then◌else◌}
+use Rattle.std.specs.Prelude.{◌≡◌, ◌==◌, ◌≤◌, ℕ, ℤ, List, [], ◌∷◌, length, Bool, false, Option, Some, None, Result, Ok, Err, if◌then◌else◌}
 use Rattle.std.specs.Cmp.Lexicographic.{pointwise}
 use Rattle.std.specs.Map.{lookup}
 use Rattle.std.specs.Option.{option_and_then}
 use Rattle.coset_value.specs.Item.{Item, text, Pairs, no_pairs, pair}
 use Rattle.coset_value.specs.Parts.{as_bytes, as_integer, as_map, as_text}
-use Rattle.coset_iana.specs.Algorithm as algorithms
 use Rattle.coset_iana.specs.CwtClaimName as claim_names
 use Rattle.coset_iana.specs.declared.algorithms.Algorithm.TheVariants.{ES256, HMAC_256_256}
 use Rattle.coset_iana.specs.declared.claims.CwtClaimName.{CwtClaimName}
@@ -15,11 +14,10 @@ use Rattle.coset_codec.specs.declared.error.CoseError.{CoseError}
 use Rattle.coset_label.specs.LabelData.{assigned}
 use Rattle.coset_claims.specs.Claims.{ClaimsView, claims, claims_view, same_label}
 use Rattle.coset_claims.specs.declared.claims_set.ClaimsSet.{ClaimsSet}
-use Rattle.coset_claims.specs.declared.known.KnownClaims.{KnownClaims}
-use Rattle.cwt_gate.specs.JudgeWith.{JudgesWith}
-use Rattle.cwt_gate.specs.Keys.{KeysView}
-use Rattle.cwt_gate.specs.Policy.{PolicyView, strict}
-use Rattle.cwt_gate.specs.declared.policy.Unassigned.TheVariants.{LeftOut}
+use Rattle.cwt_keys.specs.Keys.{KeysView}
+use Rattle.cwt_verify.specs.Policy.{PolicyView, strict}
+use Rattle.cwt_verify.specs.Verify.{VerifiesToken}
+use Rattle.cwt_verify.specs.declared.token.VerifiedToken.{VerifiedToken}
 use Rattle.example_uses.specs.declared.attestation.NotAttested.{NotAttested}
 use Rattle.example_uses.specs.declared.attestation.NotAttested.TheVariants.{Refused, NotFresh}
 
@@ -41,9 +39,13 @@ integer_of name c = option_and_then as_integer (claim_of name c)
 abbrev pub text_of : CwtClaimName → ClaimsView → Option (List ℕ)
 text_of name c = option_and_then as_text (claim_of name c)
 
+-- A nonce has 8 to 64 bytes (RFC 9711, section 4.1).
+abbrev pub IsNonce : List ℕ → Type 0
+IsNonce nonce = (8 ≤ length nonce) × (length nonce ≤ 64)
+
 -- The claims have this nonce, and no other.
 abbrev pub IsFresh : List ℕ → ClaimsView → Type 0
-IsFresh nonce c = bytes_of Nonce c ≡ Some nonce
+IsFresh nonce c = IsNonce nonce × (bytes_of Nonce c ≡ Some nonce)
 
 -- ---- submodules (RFC 9711, section 4.2.18)
 
@@ -70,21 +72,18 @@ ReadsSubmodule name c (Err e) = (v : Item) × (submodule_of name c ≡ Some v) �
 
 -- ---- the token
 
--- The strict policy with these algorithms and a leeway of one minute. Tokens may lack an expiration, and claims that no
--- registry has are left out.
+-- The strict policy with these algorithms and a leeway of one minute. Tokens may lack an expiration time.
 abbrev pub attestation_policy : PolicyView
 attestation_policy = record strict {
-  signatures = assigned (algorithms.number ES256) ∷ [];
-  macs = assigned (algorithms.number HMAC_256_256) ∷ [];
-  unassigned = LeftOut;
-  expires = false;
+  algorithms = ES256 ∷ HMAC_256_256 ∷ [];
+  require_exp = false;
   leeway = 60;
 }
 
--- The result for the token b at a moment. The gate lets in claims with this nonce, or the gate refuses the token, or
--- the gate lets in claims with another nonce, several, or none.
-abbrev pub JudgesAttestation : {E : Type 0} → KeysView E → List ℕ → ℤ → List ℕ → Result KnownClaims (NotAttested E) → Type 0
-JudgesAttestation k nonce now b (Ok x) = JudgesWith k attestation_policy now b (Ok x) × IsFresh nonce (claims_view x.claims)
-JudgesAttestation k nonce now b (Err (Refused e)) = JudgesWith k attestation_policy now b (Err e)
-JudgesAttestation k nonce now b (Err NotFresh) =
-    (x : KnownClaims) × JudgesWith k attestation_policy now b (Ok x) × (IsFresh nonce (claims_view x.claims) → ⊥)
+-- The result for the token b at a moment. The token is verified by the policy and has this nonce; or it is refused; or
+-- it is verified, but doesn't have this nonce and no other, or the nonce is no nonce.
+abbrev pub VerifiesAttestation : {E : Type 0} → KeysView E → List ℕ → ℤ → List ℕ → Result VerifiedToken (NotAttested E) → Type 0
+VerifiesAttestation k nonce now b (Ok t) = VerifiesToken k attestation_policy now b (Ok t) × IsFresh nonce (claims_view t.claims)
+VerifiesAttestation k nonce now b (Err (Refused e)) = VerifiesToken k attestation_policy now b (Err e)
+VerifiesAttestation k nonce now b (Err NotFresh) =
+    (t : VerifiedToken) × VerifiesToken k attestation_policy now b (Ok t) × (IsFresh nonce (claims_view t.claims) → ⊥)

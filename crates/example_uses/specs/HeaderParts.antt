@@ -1,11 +1,20 @@
 -- Facts in a header: a certificate, the algorithm, and the key.
-use Rattle.std.specs.Prelude.{◌==◌, if◌then◌else◌, ℕ, List, length, Bool, Option, Some, None}
+use Rattle.std.specs.Prelude.{◌==◌, if◌then◌else◌, ℕ, List, length, Bool, false, Option, Some, None}
 use Rattle.std.specs.Cmp.Lexicographic.{pointwise}
+use Rattle.std.specs.List.{list_any}
 use Rattle.coset_value.specs.Item.{Item, bytes, array, item}
 use Rattle.coset_label.specs.LabelData.{RegisteredLabelView}
 use Rattle.coset_claims.specs.Claims.{same_label}
 use Rattle.coset_core.specs.Headers.{HeaderView, ProtectedView, fields_in}
-use Rattle.cwt_gate.specs.Policy.{is_there_and}
+
+-- There is a value, and it passes the test.
+abbrev pub is_there_and : {A : Type 0} → (A → Bool) → Option A → Bool
+is_there_and test None = false
+is_there_and test (Some x) = test x
+
+-- The label is one of these.
+abbrev pub is_one_of : List RegisteredLabelView → RegisteredLabelView → Bool
+is_one_of labels l = list_any (λ m. same_label m l) labels
 
 -- The end entity's certificate of COSE_X509 = bstr / [2*certs: bstr] (RFC 9360, section 2).
 abbrev pub leaf : Item → Option (List ℕ)

@@ -14,7 +14,6 @@ pub mod MadeClaims
 pub mod MadeKeys
 pub mod Oscore
 pub mod Parameters
-pub mod Readable
 pub mod ReadableParts
 pub mod Recipients
 pub mod Refusals

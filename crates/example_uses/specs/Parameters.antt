@@ -6,7 +6,7 @@ use Rattle.coset_iana.specs.declared.content_formats.CoapContentFormat.TheVarian
 use Rattle.coset_label.specs.LabelData.{LabelView, RegisteredLabelView, number, private_use, same_label}
 use Rattle.coset_core.specs.Built.{push_critical, push_pair, with_algorithm, with_content_type}
 use Rattle.coset_core.specs.Headers.{HeaderView, empty_header, fields_in}
-use Rattle.cwt_gate.specs.Policy.{is_there_and}
+use Rattle.example_uses.specs.HeaderParts.{is_there_and}
 use Rattle.example_uses.specs.declared.parameters.TheConstants.{TRACE}
 
 -- The content type "application/cwt".

@@ -1,39 +1,46 @@
-//! Attestation tokens (EAT, RFC 9711), including those of PSA (RFC 9783). They are let in like web
+//! Attestation tokens (EAT, RFC 9711), including those of PSA (RFC 9783). They are verified like web
 //! tokens.
 
 ghost use Rattle.std.specs.Prelude.{◌≡◌, ◌↔◌, IsTrue, option_map};
 ghost use Rattle.coset_value.specs.View.{value_item, value_pairs};
 ghost use Rattle.coset_claims.specs.Claims.{claims_view};
-ghost use Rattle.cwt_gate.specs.JudgeWith.{JudgesWith};
-ghost use Rattle.example_uses.specs.Attestation.{IsFresh, JudgesAttestation, ReadsSubmodule, attestation_policy, bytes_of, claim_of, held_under, integer_of, is_text, submodule_of, text_of};
+ghost use Rattle.cwt_verify.specs.Verify.{VerifiesToken};
+ghost use Rattle.example_uses.specs.Attestation.{IsFresh, IsNonce, ReadsSubmodule, VerifiesAttestation, attestation_policy, bytes_of, claim_of, held_under, integer_of, is_text, submodule_of, text_of};
 
 use coset::cbor::value::{Integer, Value};
-use coset::cwt::{ClaimName, ClaimsSet, KnownClaims};
+use coset::cwt::{ClaimName, ClaimsSet};
 use coset::iana::{Algorithm, CwtClaimName};
-use coset::{AsCborValue, RegisteredLabelWithPrivate, Result};
-use cwt_gate::{Keys, Policy, PolicyError, Unassigned, judge_with};
+use coset::{AsCborValue, Result};
+use cwt_verify::{Keys, Policy, TokenError, VerifiedToken, verify_token};
 use std::alloc::Global;
 
 /// The most seconds by which the clocks of the issuer and the verifier may differ.
 const LEEWAY: u64 = 60;
 
+/// The least number of bytes in a nonce (RFC 9711, section 4.1).
+const SHORTEST: usize = 8;
+
+/// The greatest number of bytes in a nonce (RFC 9711, section 4.1).
+const LONGEST: usize = 64;
+
 /// The reason why an attestation isn't accepted.
 #[derive(Debug, Drop)]
 pub enum NotAttested<E> {
-    /// The gate refuses the token.
-    Refused(PolicyError<E>),
-    /// The token is let in, but has another nonce, several, or none.
+    /// The token is refused.
+    Refused(TokenError<E>),
+    /// The token is verified, but has another nonce, several, or none; or the nonce is too short or
+    /// too long.
     NotFresh,
 }
 
-/// A token that the gate refuses.
-impl<E: Drop> From<PolicyError<E>> for NotAttested<E> {
+/// Wraps the reason against a token.
+impl<E: Drop> From<TokenError<E>> for NotAttested<E> {
     ghost use Rattle.std.specs.Prelude.{◌≡◌};
     ghost use Rattle.example_uses.specs.declared.attestation.NotAttested.TheVariants.{Refused};
 
     ghost from_gives = { λ error refusal. refusal ≡ Refused error };
 
-    fn from(error: PolicyError<E>) -> NotAttested<E> {
+    fn from(error: TokenError<E>) -> NotAttested<E> {
         NotAttested::Refused(error)
     }
 }
@@ -73,64 +80,69 @@ pub fn text_of<'a>(claims: &'a ClaimsSet, name: CwtClaimName) -> Option<&'a str>
     claim(claims, name)?.as_text()
 }
 
-/// Returns true if the token has this nonce, and no other.
+/// Returns true if there are 8 to 64 bytes, as in a nonce (RFC 9711, section 4.1).
+fn is_nonce(bytes: &[u8]) -> bool
+    ensures { IsTrue result ↔ IsNonce bytes.now }
+{
+    SHORTEST <= bytes.len() && bytes.len() <= LONGEST
+}
+
+/// Returns true if the token has this nonce and no other, and the nonce has 8 to 64 bytes (RFC
+/// 9711, section 4.1).
 pub fn is_fresh(claims: &ClaimsSet, nonce: &[u8]) -> bool
     ensures { IsTrue result ↔ IsFresh nonce.now (claims_view claims.now) }
 {
     match bytes_of(claims, CwtClaimName::Nonce) {
-        Some(held) => held == nonce,
+        Some(held) => is_nonce(nonce) && held == nonce,
         None => false,
     }
 }
 
-/// Returns the claims of a token, if the keys accept each of its layers. Signatures are ES256, and
+/// Returns an attestation token, if the keys accept each of its layers. Signatures are ES256, and
 /// MACs are HMAC with SHA-256.
 ///
 /// # Errors
-/// The error of [`judge_with`] with this policy.
-fn judge_attestation<K: Keys>(
+/// The error of [`verify_token`] with this policy.
+fn verify_layers<'k, K: Keys>(
     alloc: Global,
-    keys: &K,
+    keys: &'k K,
     token: &[u8],
     now: i64,
-) -> std::result::Result<KnownClaims, PolicyError<K::Error>>
-    ensures { JudgesWith (K.view keys.now) attestation_policy now token.now result }
+) -> std::result::Result<VerifiedToken<'k>, TokenError<K::Error>>
+    ensures { VerifiesToken (K.view keys.now) attestation_policy now token.now result }
 {
-    let signatures = [RegisteredLabelWithPrivate::Assigned(Algorithm::ES256)];
-    let macs = [RegisteredLabelWithPrivate::Assigned(Algorithm::HMAC_256_256)];
     let policy = Policy {
-        signatures: &signatures,
-        macs: &macs,
-        unassigned: Unassigned::LeftOut,
-        expires: false,
+        algorithms: &[Algorithm::ES256, Algorithm::HMAC_256_256],
+        require_exp: false,
         leeway: LEEWAY,
         ..Policy::strict()
     };
-    judge_with(alloc, &policy, keys, token, now)
+    verify_token(alloc, &policy, keys, token, now)
 }
 
-/// Returns the claims of an attestation token with this nonce, if the keys accept each of its
-/// layers.
+/// Returns an attestation token with this nonce, if the keys accept each of its layers.
 ///
-/// Claims that no registry has are `others` of the result.
+/// A token with an audience is refused. If it names an issuer, that is the one whose key accepted
+/// the innermost layer that authenticates. Claims that no registry has are `others` of the result.
 ///
 /// # Errors
-/// - `Refused` with the error of [`judge_with`], if the gate refuses the token by this policy.
-/// - `NotFresh` if the token has another nonce, several, or none.
-pub fn let_in_attestation<K: Keys>(
+/// - `Refused` with the error of [`verify_token`], if the token is refused by this policy.
+/// - `NotFresh` if the token has another nonce, several, or none; or if the nonce doesn't have 8 to
+///   64 bytes.
+pub fn let_in_attestation<'k, K: Keys>(
     alloc: Global,
-    keys: &K,
+    keys: &'k K,
     nonce: &[u8],
     token: &[u8],
     now: i64,
-) -> std::result::Result<KnownClaims, NotAttested<K::Error>>
-    ensures { JudgesAttestation (K.view keys.now) nonce.now now token.now result }
+) -> std::result::Result<VerifiedToken<'k>, NotAttested<K::Error>>
+    ensures { VerifiesAttestation (K.view keys.now) nonce.now now token.now result }
 {
-    let known = judge_attestation(alloc, keys, token, now)?;
-    if !is_fresh(&known.claims, nonce) {
+    let verified = verify_layers(alloc, keys, token, now)?;
+    if !is_fresh(&verified.claims, nonce) {
         return Err(NotAttested::NotFresh);
     }
-    Ok(known)
+    Ok(verified)
 }
 
 /// Returns true if the value is this text.
@@ -159,7 +171,8 @@ fn held_under<'a>(pairs: &'a [(Value, Value)], name: &str) -> Option<&'a Value>
 /// Its type says what it is:
 ///
 /// - A map is claims, which the token vouches for.
-/// - A byte string is a token of the submodule's own. It is let in by itself, with the keys for it.
+/// - A byte string is a token of the submodule's own. It is verified by itself, with the keys for
+///   it.
 /// - An array is a digest of claims that are elsewhere.
 pub fn submodule<'a>(claims: &'a ClaimsSet, name: &str) -> Option<&'a Value>
     ensures { option_map (λ v. value_item v.now) result

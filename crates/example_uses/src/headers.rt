@@ -12,8 +12,7 @@ ghost use Rattle.coset_iana.specs.declared.headers.HeaderParameter.TheVariants.{
 ghost use Rattle.coset_label.specs.LabelData.{assigned, number, same_label};
 ghost use Rattle.coset_core.specs.Headers.{fields_in};
 ghost use Rattle.coset_core.specs.Views.{critical_view, header_view, protected_view};
-ghost use Rattle.cwt_gate.specs.Policy.{is_one_of};
-ghost use Rattle.example_uses.specs.HeaderParts.{has_algorithm, leaf, names_key, one_names_key};
+ghost use Rattle.example_uses.specs.HeaderParts.{has_algorithm, is_one_of, leaf, names_key, one_names_key};
 
 use coset::cbor::value::Value;
 use coset::iana::{Algorithm, EnumI64, HeaderParameter};

@@ -1,3 +1,2 @@
 pub mod Replying
 pub mod Pairing
-mod Wanted

@@ -8,7 +8,7 @@
 ghost use Rattle.std.specs.Prelude.{◌≡◌};
 
 use crate::pairs::Pair;
-use ffi_token::Opened;
+use ffi_token::{Opened, Text};
 use std::mem;
 
 /// The greatest length in bytes.
@@ -57,6 +57,29 @@ pub(crate) fn within_layers<T: Drop>(query: Option<T>, layers: &[Opened]) -> Opt
     ensures { result ≡ query }
 {
     if layers.len() <= MAX_LENGTH / mem::size_of::<Opened>() {
+        query
+    } else {
+        None
+    }
+}
+
+/// Returns true if each text has a length that an object can have.
+fn are_within(texts: &[Text<'_>]) -> bool
+    ensures { result ≡ true }
+{
+    for text in texts {
+        if text.bytes.len() > MAX_LENGTH {
+            return false;
+        }
+    }
+    true
+}
+
+/// Returns the query, or `None` if there are too many texts, or if one of them is too long.
+pub(crate) fn within_texts<T: Drop>(query: Option<T>, texts: &[Text<'_>]) -> Option<T>
+    ensures { result ≡ query }
+{
+    if texts.len() <= MAX_LENGTH / mem::size_of::<Text<'_>>() && are_within(texts) {
         query
     } else {
         None

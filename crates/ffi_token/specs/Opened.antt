@@ -1,13 +1,17 @@
 -- The layers that a caller opened.
 use Rattle.std.specs.Prelude.{◌≡◌, ◌==◌, ◌&&◌, ◌+◌, ℕ, List, [], ◌∷◌, length}
-use Rattle.std.specs.Prelude.{drop, take, nat_lt, Bool, false, Option, Some, None, if◌then◌else◌}
+use Rattle.std.specs.Prelude.{drop, take, nat_lt, Bool, true, false, is_some, Option, Some, None, if◌then◌else◌}
 use Rattle.std.specs.Cmp.Lexicographic.{pointwise}
-use Rattle.cwt_gate.specs.Keys.{KeysView, SealView}
-use Rattle.cwt_gate.specs.declared.form.Form.{Form}
-use Rattle.cwt_gate.specs.declared.form.Form.TheVariants.{Sign1, Mac0, Encrypt0}
+use Rattle.std.specs.Option.{option_and_then, option_map_or}
+use Rattle.coset.specs.Shape.{both}
+use Rattle.cwt_keys.specs.Keys.{KeysView, Name}
+use Rattle.cwt_keys.specs.Sealed.{SealView}
+use Rattle.cwt_keys.specs.declared.form.Form.{Form}
+use Rattle.cwt_keys.specs.declared.form.Form.TheVariants.{Sign1, Mac0, Encrypt0}
 use Rattle.ffi_token.specs.declared.layer.Waiting.{Waiting}
 use Rattle.ffi_token.specs.declared.layer.Waiting.TheVariants.{Layer, OutOfMemory}
 use Rattle.ffi_token.specs.declared.opened.Opened.{Opened}
+use Rattle.ffi_token.specs.Texts.{text_in}
 use Rattle.ffi_token.specs.Waiting.{IsLayer}
 
 -- The number of a form in `coset.h`.
@@ -29,35 +33,51 @@ abbrev pub is_at : List ℕ → ℕ → ℕ → List ℕ → Bool
 is_at b offset n t = is_slice (slice_at b offset n) t
 
 -- At the places that o names, b has the structure of this layer, and then its proof. o has the layer's form.
-abbrev pub is_of : List ℕ → Form → SealView → Opened → Bool
-is_of b form s o =
-    o.form == form_number form
+abbrev pub is_of : List ℕ → SealView → Opened → Bool
+is_of b s o =
+    o.form == form_number s.form
     && is_at b o.offset o.structure_len s.structure
     && is_at b (o.offset + o.structure_len) o.proof_len s.proof
 
--- The plaintext that o names, if o names this layer.
-abbrev pub content_in : List ℕ → Form → SealView → Opened → Option (List ℕ)
-content_in b form s o = if is_of b form s o then slice_at b o.plaintext o.plaintext_len else None
+-- The name that the bytes b are: no name if they are empty. The outer `None` means that they aren't UTF-8.
+abbrev pub name_of : List ℕ → Option (List ℕ) → Option Name
+name_of [] t = Some None
+name_of (c ∷ cs) None = None
+name_of (c ∷ cs) (Some t) = Some (Some t)
 
--- The plaintext of the first entry that has one.
-abbrev pub first_content : Option (List ℕ) → Option (List ℕ) → Option (List ℕ)
+abbrev pub name_in : List ℕ → Option Name
+name_in b = name_of b (text_in b)
+
+-- The name of the issuer that o names, if it is in b.
+abbrev pub name_at : List ℕ → Opened → Option Name
+name_at b o = option_and_then name_in (slice_at b o.issuer o.issuer_len)
+
+-- The name of the issuer is UTF-8, or isn't in b.
+abbrev pub has_text : List ℕ → Opened → Bool
+has_text b o = option_map_or (λ s. is_some (text_in s)) (slice_at b o.issuer o.issuer_len) true
+
+-- The plaintext and the name of the issuer that o names, if o names this layer.
+abbrev pub content_in : List ℕ → SealView → Opened → Option (List ℕ × Name)
+content_in b s o = if is_of b s o then both (λ p n. (p, n)) (slice_at b o.plaintext o.plaintext_len) (name_at b o) else None
+
+-- Those of the first entry that has them.
+abbrev pub first_content : Option (List ℕ × Name) → Option (List ℕ × Name) → Option (List ℕ × Name)
 first_content (Some c) rest = Some c
 first_content None rest = rest
 
-abbrev pub opened_in : List ℕ → List Opened → Form → SealView → Option (List ℕ)
-opened_in b [] form s = None
-opened_in b (o ∷ os) form s = first_content (content_in b form s o) (opened_in b os form s)
+abbrev pub opened_in : List ℕ → List Opened → SealView → Option (List ℕ × Name)
+opened_in b [] s = None
+opened_in b (o ∷ os) s = first_content (content_in b s o) (opened_in b os s)
 
 -- The layer isn't opened, and l has its texts and its view; or an allocation failed.
-abbrev pub Waits : List ℕ → List Opened → Form → SealView → Waiting → Type 0
-Waits b os form s (Layer l) = (opened_in b os form s ≡ None) × IsLayer form s l
-Waits b os form s OutOfMemory = Unit {0}
+abbrev pub Waits : List ℕ → List Opened → SealView → Waiting → Type 0
+Waits b os s (Layer l) = (opened_in b os s ≡ None) × IsLayer s l
+Waits b os s OutOfMemory = Unit {0}
 
 -- Keys that accept exactly the layers that the caller opened.
 abbrev pub opened_view : List ℕ → List Opened → KeysView Waiting
 opened_view b os = record {
-  verifies = λ s. (c : List ℕ) × (opened_in b os Sign1 s ≡ Some c);
-  verifies_tag = λ s. (c : List ℕ) × (opened_in b os Mac0 s ≡ Some c);
-  decrypts = λ s p. opened_in b os Encrypt0 s ≡ Some p;
-  refuses = λ form s e. Waits b os form s e;
+  accepts = λ s n. (p : List ℕ) × (opened_in b os s ≡ Some (p, n));
+  decrypts = λ s p n. opened_in b os s ≡ Some (p, n);
+  refuses = λ s e. Waits b os s e;
 }

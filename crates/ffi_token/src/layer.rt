@@ -2,12 +2,13 @@
 
 ghost use Rattle.std.specs.Prelude.{◌≡◌, ◌++◌, IfOk, option_map};
 ghost use Rattle.coset.specs.LabelViews.{algorithm_view};
-ghost use Rattle.cwt_gate.specs.Keys.{seal_view, first_nonempty};
-ghost use Rattle.ffi_token.specs.Waiting.{IsLayer, IsWaiting, number_in, number_of, place_of};
+ghost use Rattle.cwt_keys.specs.Sealed.{seal_view};
+ghost use Rattle.cwt_verify.specs.Policy.{number_in, number_of};
+ghost use Rattle.ffi_token.specs.Waiting.{IsLayer, IsWaiting, place_of};
 
 use coset::iana::EnumI64;
 use coset::{Algorithm, RegisteredLabelWithPrivate};
-use cwt_gate::{Form, Sealed};
+use cwt_keys::{Form, Sealed};
 use ffi_query::KeyIdPlace;
 use std::alloc::{AllocError, Global};
 
@@ -76,13 +77,6 @@ fn number_in(algorithm: &Option<Algorithm>) -> Option<i64>
     }
 }
 
-/// Returns `first`, or `second` if `first` is empty.
-fn first_nonempty<'a>(first: &'a [u8], second: &'a [u8]) -> &'a [u8]
-    ensures { result.now ≡ first_nonempty first.now second.now }
-{
-    if first.is_empty() { second } else { first }
-}
-
 /// Returns the header that has the key identifier, by the identifiers in both headers.
 fn place_of(protected: &[u8], unprotected: &[u8]) -> KeyIdPlace
     ensures { result ≡ place_of protected.now unprotected.now }
@@ -119,17 +113,17 @@ fn joined(
     Ok(text)
 }
 
-/// Returns the view and the texts of a layer of this form.
+/// Returns the view and the texts of a layer.
 ///
 /// # Errors
 /// `AllocError` if an allocation fails.
-fn layer_of(alloc: Global, form: Form, sealed: &Sealed<'_>) -> Result<Layer, AllocError>
-    ensures { IfOk result (λ layer. IsLayer form (seal_view sealed.now) layer) }
+fn layer_of(alloc: Global, sealed: &Sealed<'_>) -> Result<Layer, AllocError>
+    ensures { IfOk result (λ layer. IsLayer (seal_view sealed.now) layer) }
 {
     let header = &sealed.protected.header;
     let key_id = sealed.key_id();
-    let iv = first_nonempty(&header.iv, &sealed.unprotected.iv);
-    let partial_iv = first_nonempty(&header.partial_iv, &sealed.unprotected.partial_iv);
+    let iv = sealed.iv();
+    let partial_iv = sealed.partial_iv();
     let text = joined(
         alloc,
         sealed.structure,
@@ -139,7 +133,7 @@ fn layer_of(alloc: Global, form: Form, sealed: &Sealed<'_>) -> Result<Layer, All
         partial_iv,
     )?;
     let view = LayerView {
-        form,
+        form: sealed.form,
         algorithm: number_in(&header.alg),
         key_id_place: place_of(&header.key_id, &sealed.unprotected.key_id),
         structure_len: sealed.structure.len(),
@@ -152,11 +146,11 @@ fn layer_of(alloc: Global, form: Form, sealed: &Sealed<'_>) -> Result<Layer, All
     Ok(Layer { view, text })
 }
 
-/// Returns the layer of this form as waiting, or `OutOfMemory` if an allocation fails.
-pub(crate) fn wait_for(alloc: Global, form: Form, sealed: &Sealed<'_>) -> Waiting
-    ensures { IsWaiting form (seal_view sealed.now) result }
+/// Returns the layer as waiting, or `OutOfMemory` if an allocation fails.
+pub(crate) fn wait_for(alloc: Global, sealed: &Sealed<'_>) -> Waiting
+    ensures { IsWaiting (seal_view sealed.now) result }
 {
-    match layer_of(alloc, form, sealed) {
+    match layer_of(alloc, sealed) {
         Ok(layer) => Waiting::Layer(layer),
         Err(_) => Waiting::OutOfMemory,
     }

@@ -1,12 +1,15 @@
 //! The layers that a caller opened.
 
-ghost use Rattle.std.specs.Prelude.{◌≡◌};
+ghost use Rattle.std.specs.Prelude.{◌≡◌, option_map};
+ghost use Rattle.std.specs.List.{list_all};
 ghost use Rattle.std.specs.Option.{option_copied};
-ghost use Rattle.cwt_gate.specs.Keys.{seal_view};
-ghost use Rattle.ffi_token.specs.Opened.{content_in, form_number, is_at, is_of, opened_in, slice_at};
+ghost use Rattle.cwt_keys.specs.Keys.{name_view};
+ghost use Rattle.cwt_keys.specs.Sealed.{seal_view};
+ghost use Rattle.ffi_token.specs.Opened.{content_in, form_number, has_text, is_at, is_of, name_at, name_in, opened_in, slice_at};
 
 use crate::layer::{Waiting, wait_for};
-use cwt_gate::{Form, Keys, Sealed};
+use crate::text::text_in;
+use cwt_keys::{Form, Keys, Sealed};
 use std::alloc::Global;
 
 /// A layer that the caller opened: it verified the signature or the MAC, or decrypted the
@@ -28,6 +31,10 @@ pub struct Opened {
     pub plaintext: usize,
     /// The length of an encrypted layer's plaintext, or 0 for any other layer.
     pub plaintext_len: usize,
+    /// The offset of the name of the issuer whose key opened the layer, or 0 for no name.
+    pub issuer: usize,
+    /// The length of that name, or 0 for no name.
+    pub issuer_len: usize,
 }
 
 /// The layers that a caller opened, in any order.
@@ -70,11 +77,11 @@ pub fn form_number(form: Form) -> u32
     }
 }
 
-/// Returns true if `opened` is this layer of this form.
-fn is_of(bytes: &[u8], opened: &Opened, form: Form, sealed: &Sealed<'_>) -> bool
-    ensures { result ≡ is_of bytes.now form (seal_view sealed.now) opened.now }
+/// Returns true if `opened` is this layer.
+fn is_of(bytes: &[u8], opened: &Opened, sealed: &Sealed<'_>) -> bool
+    ensures { result ≡ is_of bytes.now (seal_view sealed.now) opened.now }
 {
-    if opened.form != form_number(form) {
+    if opened.form != form_number(sealed.form) {
         return false;
     }
     if !is_at(bytes, opened.offset, opened.structure_len, sealed.structure) {
@@ -86,30 +93,77 @@ fn is_of(bytes: &[u8], opened: &Opened, form: Form, sealed: &Sealed<'_>) -> bool
     }
 }
 
-/// Returns the plaintext if `opened` is this layer of this form.
+/// Returns the name that the bytes are: no name if they are empty. Returns `None` if they aren't
+/// UTF-8.
+fn name_in(bytes: &[u8]) -> Option<Option<&str>>
+    ensures { option_map name_view result ≡ name_in bytes.now }
+{
+    if bytes.is_empty() {
+        return Some(None);
+    }
+    match text_in(bytes) {
+        Some(name) => Some(Some(name)),
+        None => None,
+    }
+}
+
+/// Returns the name of the issuer whose key opened the layer. Returns `None` if it isn't in the
+/// bytes, or isn't UTF-8.
+fn name_at<'a>(bytes: &'a [u8], opened: &Opened) -> Option<Option<&'a str>>
+    ensures { option_map name_view result ≡ name_at bytes.now opened.now }
+{
+    match slice_at(bytes, opened.issuer, opened.issuer_len) {
+        Some(name) => name_in(name),
+        None => None,
+    }
+}
+
+/// Returns the plaintext, and the name of the issuer, if `opened` is this layer.
 fn content_in<'a>(
     bytes: &'a [u8],
     opened: &Opened,
-    form: Form,
     sealed: &Sealed<'_>,
-) -> Option<&'a [u8]>
-    ensures { option_copied result ≡ content_in bytes.now form (seal_view sealed.now) opened.now }
+) -> Option<(&'a [u8], Option<&'a str>)>
+    ensures { option_map (λ x. (x.0.now, name_view x.1)) result
+        ≡ content_in bytes.now (seal_view sealed.now) opened.now }
 {
-    if is_of(bytes, opened, form, sealed) {
-        slice_at(bytes, opened.plaintext, opened.plaintext_len)
-    } else {
-        None
+    if !is_of(bytes, opened, sealed) {
+        return None;
+    }
+    let content = slice_at(bytes, opened.plaintext, opened.plaintext_len)?;
+    let issuer = name_at(bytes, opened)?;
+    Some((content, issuer))
+}
+
+/// Returns true if the name of the issuer is UTF-8, or isn't in the bytes.
+fn has_text(bytes: &[u8], opened: &Opened) -> bool
+    ensures { result ≡ has_text bytes.now opened.now }
+{
+    match slice_at(bytes, opened.issuer, opened.issuer_len) {
+        Some(name) => text_in(name).is_some(),
+        None => true,
     }
 }
 
 impl<'a> OpenedLayers<'a> {
-    /// Returns the plaintext of the first opened layer that is this one.
-    fn find(&self, form: Form, sealed: &Sealed<'_>) -> Option<&'a [u8]>
-        ensures { option_copied result
-            ≡ opened_in self.now.bytes.now self.now.layers.now form (seal_view sealed.now) }
+    /// Returns true if the names of all issuers are UTF-8. A name that isn't in the bytes doesn't
+    /// count: its layer is not opened.
+    pub fn have_texts(&self) -> bool
+        ensures { result ≡ list_all (has_text self.now.bytes.now) self.now.layers.now }
+    {
+        self.layers
+            .iter()
+            .all(|opened| has_text(self.bytes, opened))
+    }
+
+    /// Returns the plaintext of the first opened layer that is this one, and the name of its
+    /// issuer.
+    fn find(&self, sealed: &Sealed<'_>) -> Option<(&'a [u8], Option<&'a str>)>
+        ensures { option_map (λ x. (x.0.now, name_view x.1)) result
+            ≡ opened_in self.now.bytes.now self.now.layers.now (seal_view sealed.now) }
     {
         for opened in self.layers {
-            if let Some(content) = content_in(self.bytes, opened, form, sealed) {
+            if let Some(content) = content_in(self.bytes, opened, sealed) {
                 return Some(content);
             }
         }
@@ -124,36 +178,24 @@ impl Keys for OpenedLayers<'_> {
 
     ghost view = { λ k. opened_view k.bytes.now k.layers.now };
 
-    /// Returns the layer as waiting. Isn't called for an opened layer, for which it would return
-    /// `OutOfMemory`.
-    fn no_key(&self, form: Form, sealed: &Sealed<'_>) -> Waiting {
-        match self.find(form, sealed) {
-            Some(_) => Waiting::OutOfMemory,
-            None => wait_for(self.alloc, form, sealed),
+    fn verify<'k>(&'k self, sealed: &Sealed<'_>) -> Result<Option<&'k str>, Waiting> {
+        match self.find(sealed) {
+            Some((_, issuer)) => Ok(issuer),
+            None => Err(wait_for(self.alloc, sealed)),
         }
     }
 
-    fn verify(&self, sealed: &Sealed<'_>) -> Result<(), Waiting> {
-        match self.find(Form::Sign1, sealed) {
-            Some(_) => Ok(()),
-            None => Err(wait_for(self.alloc, Form::Sign1, sealed)),
-        }
-    }
-
-    fn verify_tag(&self, sealed: &Sealed<'_>) -> Result<(), Waiting> {
-        match self.find(Form::Mac0, sealed) {
-            Some(_) => Ok(()),
-            None => Err(wait_for(self.alloc, Form::Mac0, sealed)),
-        }
-    }
-
-    fn decrypt(&self, alloc: Global, sealed: &Sealed<'_>) -> Result<Vec<u8>, Waiting> {
-        match self.find(Form::Encrypt0, sealed) {
-            Some(plaintext) => match Vec::from_slice(alloc, plaintext) {
-                Ok(plaintext) => Ok(plaintext),
+    fn decrypt<'k>(
+        &'k self,
+        alloc: Global,
+        sealed: &Sealed<'_>,
+    ) -> Result<(Vec<u8>, Option<&'k str>), Waiting> {
+        match self.find(sealed) {
+            Some((plaintext, issuer)) => match Vec::from_slice(alloc, plaintext) {
+                Ok(plaintext) => Ok((plaintext, issuer)),
                 Err(_) => Err(Waiting::OutOfMemory),
             },
-            None => Err(wait_for(alloc, Form::Encrypt0, sealed)),
+            None => Err(wait_for(alloc, sealed)),
         }
     }
 }

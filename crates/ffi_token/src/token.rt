@@ -1,30 +1,35 @@
-//! The claims of a token, once the caller opened its layers.
+//! A token, once the caller opened its layers.
 
-ghost use Rattle.coset.specs.Claims.{claims_view};
-ghost use Rattle.ffi_token.specs.Rules.{rules_view};
-ghost use Rattle.ffi_token.specs.Tokens.{ReturnsToken, ReturnsJudged, WritesLayer, WritesClaims};
+ghost use Rattle.std.specs.Option.{option_and_then};
+ghost use Rattle.cwt_verify.specs.Verify.{token_view};
+ghost use Rattle.ffi_token.specs.Rules.{policy_in, rules_view};
+ghost use Rattle.ffi_token.specs.Tokens.{ReturnsVerified, ReturnsToken, WritesLayer, WritesToken};
 
 use crate::layer::{Layer, Waiting};
 use crate::opened::OpenedLayers;
 use crate::refusal::{Apart, Refusal, taken_apart};
 use crate::rules::Rules;
-use coset::CborSerializable;
-use coset::cwt::{ClaimsSet, KnownClaims};
-use cwt_gate::PolicyError;
+use crate::written::Written;
+use coset_codec::write::encode_to_vec;
+use cwt_verify::{LayerError, TokenError, VerifiedToken};
 use ffi_query::write_found;
 use std::alloc::Global;
 
-/// Writes the claims to the front of `out` in their shortest encoding, and returns their length.
+/// Writes the token to the front of `out` in its shortest encoding, and returns its length.
 ///
 /// # Errors
 /// - `Answer` with `Short` if `out` is too small.
-/// - `Answer` with `Cose` if an allocation fails, or if the claims have a label twice.
+/// - `Answer` with `Cose` if an allocation fails, or if the token has no encoding.
 ///
 /// `out` is then unchanged.
-fn write_claims(alloc: Global, claims: ClaimsSet, out: &mut [u8]) -> Result<usize, Refusal>
-    ensures { WritesClaims (claims_view claims) out.old out.new result }
+fn write_token<'a>(
+    alloc: Global,
+    token: &'a VerifiedToken<'a>,
+    out: &mut [u8],
+) -> Result<usize, Refusal>
+    ensures { WritesToken (token_view token.now) out.old out.new result }
 {
-    let written = match claims.to_vec(alloc) {
+    let written = match encode_to_vec(alloc, &Written(token)) {
         Ok(bytes) => write_found(Ok(Some(bytes)), out),
         Err(error) => Err(ffi_query::Refusal::Cose(error)),
     };
@@ -35,41 +40,60 @@ fn write_claims(alloc: Global, claims: ClaimsSet, out: &mut [u8]) -> Result<usiz
 }
 
 /// Writes the texts of a waiting layer to the front of `out`, and returns the layer's view.
-fn write_layer(layer: Layer, out: &mut [u8]) -> Refusal
-    ensures { WritesLayer layer out.old out.new result }
+fn write_layer(index: usize, layer: Layer, out: &mut [u8]) -> Refusal
+    ensures { WritesLayer index layer out.old out.new result }
 {
     match write_found(Ok(Some(layer.text)), out) {
-        Ok(_) => Refusal::Layer(layer.view),
+        Ok(_) => Refusal::Token(TokenError::Layer(index, LayerError::Keys(layer.view))),
         Err(refusal) => Refusal::Answer(refusal),
     }
 }
 
-/// Returns the result for a judged token.
+/// Returns the result for a token that was verified or refused.
 fn answer(
     alloc: Global,
-    judged: Result<KnownClaims, PolicyError<Waiting>>,
+    verified: Result<VerifiedToken<'_>, TokenError<Waiting>>,
     out: &mut [u8],
 ) -> Result<usize, Refusal>
-    ensures { ReturnsJudged judged out.old out.new result }
+    ensures { ReturnsVerified verified out.old out.new result }
 {
-    match judged {
-        Ok(known) => write_claims(alloc, known.claims, out),
+    match verified {
+        Ok(token) => write_token(alloc, &token, out),
         Err(error) => match taken_apart(error) {
-            Apart::Layer(layer) => Err(write_layer(layer, out)),
-            Apart::Refused(refusal) => Err(refusal),
+            Apart::Layer(index, layer) => Err(write_layer(index, layer, out)),
+            Apart::Refused(error) => Err(Refusal::Token(error)),
         },
     }
 }
 
-/// Writes the claims of a token to the front of `out`, and returns their length.
+/// Writes a token that is accepted to the front of `out`, and returns the length.
 ///
-/// The caller must have opened each layer of the token. The token must be valid at `now`, which is
-/// in seconds since 1970 began in UTC, and meet the rules (RFC 8392, section 7.2). The claims are
-/// written in their shortest encoding, without those that the rules leave out.
+/// The token is accepted if the caller opened each of its layers, and it meets the rules at `now`
+/// (RFC 8392, section 7.2). `now` is in seconds since 1970 began in UTC. The token is written as
+/// one item in its shortest encoding:
+///
+/// ```cddl
+/// verified_token = [
+///   claims : Claims_Set,
+///   audience : [* tstr],
+///   others : { * label => any },
+///   issuer : tstr / nil,
+///   layers : [+ verified_layer]
+/// ]
+/// verified_layer = [
+///   form : 1 / 3 / 5,
+///   protected : bstr,
+///   unprotected : header_map,
+///   issuer : tstr / nil
+/// ]
+/// ```
+///
+/// The parts are those of [`VerifiedToken`]. The claims are without `aud` if that is an array. A
+/// protected header has the bytes as they were received.
 ///
 /// A layer is opened if `opened` names its form and the bytes that were written for it when it
 /// waited. These are the structure, and the signature, MAC or ciphertext. Any other layer waits.
-/// `Layer` then has its view, and `out` begins with five texts, one after another:
+/// The error then has its view, and `out` begins with five texts, one after another:
 /// - the structure,
 /// - the signature, the MAC or the ciphertext,
 /// - the key identifier,
@@ -78,13 +102,19 @@ fn answer(
 ///
 /// The last three are from the protected header, else from the unprotected one. The caller verifies
 /// the signature or the MAC over the structure, or decrypts the ciphertext with the structure as
-/// additional authenticated data. The caller uses a key that it trusts, adds the layer to `opened`,
-/// and calls again.
+/// additional authenticated data. The caller uses a key that it trusts, adds the layer to `opened`
+/// with the name of the key's issuer, and calls again.
 ///
 /// # Errors
-/// The first [`Refusal`] that applies to the token, layer by layer from the outermost in, in the
-/// order of [`judge_with`](cwt_gate::judge_with). Except for `Layer`, `out` is then unchanged.
-pub fn claims_of(
+/// - `Misuse` if the rules have no meaning, or the name of an issuer isn't UTF-8.
+/// - `Token` with the first reason against the token, in the order of [`TokenError`]. `Keys` is the
+///   layer that waits. If the keys failed to allocate, the reason is `Message` of the layer.
+/// - `Answer` with `Short` if the token or the texts of a layer don't fit.
+/// - `Answer` with `Cose` if an allocation fails while the token is written, or if it has no
+///   encoding.
+///
+/// Except for `Keys`, `out` is then unchanged.
+pub fn open_token(
     alloc: Global,
     rules: &Rules<'_>,
     opened: &OpenedLayers<'_>,
@@ -92,9 +122,12 @@ pub fn claims_of(
     now: i64,
     out: &mut [u8],
 ) -> Result<usize, Refusal>
-    ensures { ReturnsToken opened.now.bytes.now opened.now.layers.now (rules_view rules.now)
-        token.now now out.old out.new result }
+    ensures { ReturnsToken opened.now.bytes.now opened.now.layers.now
+        (policy_in (rules_view rules.now)) token.now now out.old out.new result }
 {
-    let judged = rules.judge(alloc, opened, token, now);
-    answer(alloc, judged, out)
+    if !rules.has_meaning() || !opened.have_texts() {
+        return Err(Refusal::Misuse);
+    }
+    let verified = rules.verify(alloc, opened, token, now);
+    answer(alloc, verified, out)
 }

@@ -1,11 +1,11 @@
 //! Attestation tokens that are let in, and their claims. Plain Python made the tokens and their
 //! structures by RFC 8949, RFC 8152, RFC 9711 and RFC 9783.
 
-use coset::CoseError;
 use coset::cbor::value::{Integer, Value};
-use coset::cwt::{ClaimsSet, KnownClaims};
+use coset::cwt::ClaimsSet;
 use coset::iana::CwtClaimName;
-use cwt_gate::{Form, GateError, Keys, PolicyError, Sealed};
+use coset::{CborSerializable, CoseError};
+use cwt_verify::{Form, Keys, LayerError, Sealed, TokenError, VerifiedToken};
 use example_uses::attestation::{
     NotAttested, bytes_of, claim, integer_of, is_fresh, let_in_attestation, submodule,
     submodule_claims, text_of,
@@ -17,60 +17,61 @@ use std::test::*;
 #[derive(Clone, Copy, Debug, Drop)]
 struct No;
 
-/// Keys that accept the signature or MAC `s` of one structure, which begins with these bytes and
-/// ends with the claims.
+/// Keys of an issuer. They accept the signature or MAC `s` of one structure, which begins with these
+/// bytes and ends with the claims.
 #[derive(Clone, Copy, Debug)]
 struct OneStructure<'a> {
+    name: Option<&'a str>,
     before: &'a [u8],
     claims: &'a [u8],
 }
 
-impl OneStructure<'_> {
-    fn accept(&self, sealed: &Sealed<'_>) -> Result<(), No> {
-        match sealed.structure.strip_prefix(self.before) {
-            Some(behind) if behind == self.claims && sealed.proof == b"s".as_slice() => Ok(()),
-            _ => Err(No),
-        }
-    }
-}
-
 impl Keys for OneStructure<'_> {
-    ghost use Rattle.cwt_gate.specs.Keys.{accept_anything};
+    ghost use Rattle.cwt_keys.specs.Keys.{accept_anything};
 
     type Error = No;
 
     ghost view = { λ keys. accept_anything };
 
-    fn no_key(&self, _form: Form, _sealed: &Sealed<'_>) -> No {
-        No
+    fn verify<'k>(&'k self, sealed: &Sealed<'_>) -> Result<Option<&'k str>, No> {
+        match sealed.structure.strip_prefix(self.before) {
+            Some(behind) if behind == self.claims && sealed.proof == b"s".as_slice() => Ok(
+                self.name,
+            ),
+            _ => Err(No),
+        }
     }
 
-    fn verify(&self, sealed: &Sealed<'_>) -> Result<(), No> {
-        self.accept(sealed)
-    }
-
-    fn verify_tag(&self, sealed: &Sealed<'_>) -> Result<(), No> {
-        self.accept(sealed)
+    fn decrypt<'k>(
+        &'k self,
+        _alloc: Global,
+        _sealed: &Sealed<'_>,
+    ) -> Result<(Vec<u8>, Option<&'k str>), No> {
+        Err(No)
     }
 }
 
-/// Judges a token with keys that accept one structure. The claims are between these bytes and the
-/// proof `s`.
-fn let_in(
-    alloc: Global,
-    token: &[u8],
-    structure: &[u8],
-    claims: &[u8],
-    nonce: &[u8],
-) -> Result<Result<KnownClaims, NotAttested<No>>, Fail> {
-    let mut bytes = Vec::from_slice(alloc, token)?;
-    bytes.extend_from_slice(claims)?;
-    bytes.extend_from_slice(b"\x41s")?;
-    let keys = OneStructure {
-        before: structure,
+/// Returns keys that accept the structure of these claims, for an issuer without a name.
+fn keys_for<'a>(before: &'a [u8], claims: &'a [u8]) -> OneStructure<'a> {
+    OneStructure {
+        name: None,
+        before,
         claims,
-    };
-    Ok(let_in_attestation(alloc, &keys, nonce, &bytes, 0))
+    }
+}
+
+/// Verifies a token with keys that accept one structure. The claims of the structure are between
+/// these bytes and the proof `s`.
+fn let_in<'k>(
+    alloc: Global,
+    keys: &'k OneStructure<'_>,
+    token: &[u8],
+    nonce: &[u8],
+) -> Result<Result<VerifiedToken<'k>, NotAttested<No>>, Fail> {
+    let mut bytes = Vec::from_slice(alloc, token)?;
+    bytes.extend_from_slice(keys.claims)?;
+    bytes.extend_from_slice(b"\x41s")?;
+    Ok(let_in_attestation(alloc, keys, nonce, &bytes, 0))
 }
 
 const NONCE: &[u8] = b"nnnnnnnnnnnnnnnnnnnnnnnnnnnnnnnn";
@@ -103,12 +104,15 @@ const BY_ANOTHER_ALGORITHM: (&[u8], &[u8]) = (
 #[test]
 fn psa_tokens(rt: HostRuntime) -> Result<(), Fail> {
     let alloc = rt.alloc();
-    for (token, structure) in [SIGNED, MACED] {
-        let known = let_in(alloc, token, structure, PSA, NONCE)?
-            .ok()
-            .ok_or("refused")?;
-        let claims = &known.claims;
-        assert!(rt; known.others.is_empty());
+    for ((token, structure), form) in [(SIGNED, Form::Sign1), (MACED, Form::Mac0)] {
+        let keys = keys_for(structure, PSA);
+        let verified = let_in(alloc, &keys, token, NONCE)?.ok().ok_or("refused")?;
+        assert!(rt; verified.others.is_empty());
+        assert!(rt; verified.audience.is_empty());
+        assert!(rt; verified.issuer.is_none());
+        let layers = &verified.layers;
+        assert!(rt; layers.len() == 1 && layers.first().is_some_and(|it| it.form == form));
+        let claims = &verified.claims;
         assert!(rt; is_fresh(claims, NONCE));
         assert!(rt; bytes_of(claims, CwtClaimName::Nonce) == Some(NONCE));
         let device = bytes_of(claims, CwtClaimName::UEID);
@@ -140,26 +144,121 @@ const TWO_NONCES_SIGNED: (&[u8], &[u8]) = (
 fn tokens_that_are_refused(rt: HostRuntime) -> Result<(), Fail> {
     let alloc = rt.alloc();
     let (token, structure) = SIGNED;
-    let other_nonce = let_in(alloc, token, structure, PSA, b"nnnnnnnn")?;
+    let keys = keys_for(structure, PSA);
+    let other_nonce = let_in(alloc, &keys, token, b"nnnnnnnn")?;
     assert!(rt; matches!(other_nonce, Err(NotAttested::NotFresh)));
     let (of_two, structure_of_two) = TWO_NONCES_SIGNED;
-    let two = let_in(alloc, of_two, structure_of_two, TWO_NONCES, b"nnnnnnnn")?;
+    let keys = keys_for(structure_of_two, TWO_NONCES);
+    let two = let_in(alloc, &keys, of_two, b"nnnnnnnn")?;
     assert!(rt; matches!(two, Err(NotAttested::NotFresh)));
-    let other_structure = let_in(alloc, token, MACED.1, PSA, NONCE)?;
+    let keys = keys_for(MACED.1, PSA);
+    let other_structure = let_in(alloc, &keys, token, NONCE)?;
     assert!(rt;
         matches!(
             other_structure,
-            Err(NotAttested::Refused(PolicyError::Gate(GateError::Caller(No))))
+            Err(NotAttested::Refused(TokenError::Layer(0, LayerError::Keys(No))))
         )
     );
     let (by_another, structure) = BY_ANOTHER_ALGORITHM;
-    let other_algorithm = let_in(alloc, by_another, structure, PSA, NONCE)?;
+    let keys = keys_for(structure, PSA);
+    let other_algorithm = let_in(alloc, &keys, by_another, NONCE)?;
     assert!(rt;
         matches!(
             other_algorithm,
-            Err(NotAttested::Refused(PolicyError::Algorithm))
+            Err(NotAttested::Refused(TokenError::Layer(0, LayerError::Algorithm(Some(-35)))))
         )
     );
+    Ok(())
+}
+
+/// The bytes before claims of 14 bytes in a signed token, and in its structure.
+const OF_14_BYTES: (&[u8], &[u8]) = (b"\xd2\x84C\xa1\x01&\xa0N", b"\x84jSignature1C\xa1\x01&@N");
+
+/// Claims with the issuer `a` and a nonce.
+const FROM_A: &[u8] = b"\xa2\x01aa\x0aHnnnnnnnn";
+
+/// Claims with the audience `a` and a nonce.
+const FOR_A: &[u8] = b"\xa2\x03aa\x0aHnnnnnnnn";
+
+#[test]
+fn issuers(rt: HostRuntime) -> Result<(), Fail> {
+    let alloc = rt.alloc();
+    let (token, before) = OF_14_BYTES;
+    let of_a = OneStructure {
+        name: Some("a"),
+        before,
+        claims: FROM_A,
+    };
+    let verified = let_in(alloc, &of_a, token, b"nnnnnnnn")?
+        .ok()
+        .ok_or("refused")?;
+    assert!(rt; verified.issuer == Some("a"));
+    for name in [None, Some("b"), Some("")] {
+        let of_another = OneStructure {
+            name,
+            before,
+            claims: FROM_A,
+        };
+        let refused = let_in(alloc, &of_another, token, b"nnnnnnnn")?;
+        assert!(rt; matches!(refused, Err(NotAttested::Refused(TokenError::Issuer))));
+    }
+    Ok(())
+}
+
+#[test]
+fn an_audience_is_refused(rt: HostRuntime) -> Result<(), Fail> {
+    let alloc = rt.alloc();
+    let (token, structure) = OF_14_BYTES;
+    let keys = keys_for(structure, FOR_A);
+    let refused = let_in(alloc, &keys, token, b"nnnnnnnn")?;
+    assert!(rt; matches!(refused, Err(NotAttested::Refused(TokenError::Audience))));
+    Ok(())
+}
+
+/// Claims with a nonce of 7, 8, 64 and 65 bytes, and the bytes before each in a signed token and in
+/// its structure. A nonce has 8 to 64 bytes (RFC 9711, section 4.1).
+const NONCES: [(&[u8], &[u8], &[u8], bool); 4] = [
+    (
+        b"\xa1\x0aGnnnnnnn",
+        b"\xd2\x84C\xa1\x01&\xa0J",
+        b"\x84jSignature1C\xa1\x01&@J",
+        false,
+    ),
+    (
+        b"\xa1\x0aHnnnnnnnn",
+        b"\xd2\x84C\xa1\x01&\xa0K",
+        b"\x84jSignature1C\xa1\x01&@K",
+        true,
+    ),
+    (
+        b"\xa1\x0aX@nnnnnnnnnnnnnnnnnnnnnnnnnnnnnnnnnnnnnnnnnnnnnnnnnnnnnnnnnnnnnnnn",
+        b"\xd2\x84C\xa1\x01&\xa0XD",
+        b"\x84jSignature1C\xa1\x01&@XD",
+        true,
+    ),
+    (
+        b"\xa1\x0aXAnnnnnnnnnnnnnnnnnnnnnnnnnnnnnnnnnnnnnnnnnnnnnnnnnnnnnnnnnnnnnnnnn",
+        b"\xd2\x84C\xa1\x01&\xa0XE",
+        b"\x84jSignature1C\xa1\x01&@XE",
+        false,
+    ),
+];
+
+#[test]
+fn lengths_of_nonces(rt: HostRuntime) -> Result<(), Fail> {
+    let alloc = rt.alloc();
+    for (claims, token, structure, is_nonce) in NONCES {
+        let keys = keys_for(structure, claims);
+        let read = ClaimsSet::from_slice(alloc, claims)
+            .ok()
+            .ok_or("no claims")?;
+        let nonce = bytes_of(&read, CwtClaimName::Nonce).ok_or("no nonce")?;
+        assert!(rt; is_fresh(&read, nonce) == is_nonce);
+        match let_in(alloc, &keys, token, nonce)? {
+            Ok(_) => assert!(rt; is_nonce),
+            Err(error) => assert!(rt; !is_nonce && matches!(error, NotAttested::NotFresh)),
+        }
+    }
     Ok(())
 }
 
@@ -185,20 +284,22 @@ const INNER_STRUCTURE: &[u8] = b"\x84jSignature1C\xa1\x01&@K";
 /// Returns the claims with submodules.
 fn with_submodules(alloc: Global) -> Result<ClaimsSet, Fail> {
     let (token, structure) = MODULES_SIGNED;
-    let known = let_in(alloc, token, structure, MODULES, b"nnnnnnnn")?
+    let keys = keys_for(structure, MODULES);
+    let verified = let_in(alloc, &keys, token, b"nnnnnnnn")?
         .ok()
         .ok_or("refused")?;
-    Ok(known.claims)
+    Ok(verified.claims)
 }
 
 #[test]
 fn claims_that_no_registry_has(rt: HostRuntime) -> Result<(), Fail> {
     let alloc = rt.alloc();
     let (token, structure) = MODULES_SIGNED;
-    let known = let_in(alloc, token, structure, MODULES, b"nnnnnnnn")?
+    let keys = keys_for(structure, MODULES);
+    let verified = let_in(alloc, &keys, token, b"nnnnnnnn")?
         .ok()
         .ok_or("refused")?;
-    assert!(rt; known.others.len() == 1);
+    assert!(rt; verified.others.len() == 1);
     Ok(())
 }
 
@@ -227,12 +328,9 @@ fn a_submodule_that_is_a_token(rt: HostRuntime) -> Result<(), Fail> {
         .and_then(Value::as_bytes)
         .ok_or("no token")?;
     assert!(rt; inner.as_slice() == INNER);
-    let keys = OneStructure {
-        before: INNER_STRUCTURE,
-        claims: INNER_CLAIMS,
-    };
-    let known = let_in_attestation(alloc, &keys, b"nnnnnnnn", inner, 0);
-    let known = known.ok().ok_or("refused")?;
-    assert!(rt; is_fresh(&known.claims, b"nnnnnnnn"));
+    let keys = keys_for(INNER_STRUCTURE, INNER_CLAIMS);
+    let verified = let_in_attestation(alloc, &keys, b"nnnnnnnn", inner, 0);
+    let verified = verified.ok().ok_or("refused")?;
+    assert!(rt; is_fresh(&verified.claims, b"nnnnnnnn"));
     Ok(())
 }

@@ -12,7 +12,8 @@ use coset::{
     CallError, CborSerializable, CoseEncrypt0Builder, CoseError, CoseMac0Builder, CoseSign1,
     CoseSign1Builder, HeaderBuilder,
 };
-use cwt_gate::{GateError, PolicyError};
+use cwt_gate::GateError;
+use cwt_verify::{LayerError, TokenError};
 use std::alloc::Global;
 use std::error::Error;
 use std::fmt;
@@ -154,22 +155,22 @@ fn what_the_errors_say(rt: HostRuntime) -> Result<(), Fail> {
 
 /// The error of a caller's own program.
 #[derive(Drop)]
-struct Stopped(PolicyError<NoKey>);
+struct Stopped(TokenError<NoKey>);
 
-impl From<PolicyError<NoKey>> for Stopped {
-    fn from(error: PolicyError<NoKey>) -> Stopped {
+impl From<TokenError<NoKey>> for Stopped {
+    fn from(error: TokenError<NoKey>) -> Stopped {
         Stopped(error)
     }
 }
 
-/// Passes an error of the gate into an error of the caller's own by `?`.
-fn passed_on(error: PolicyError<NoKey>) -> Result<(), Stopped> {
-    Err::<(), PolicyError<NoKey>>(error)?;
+/// Passes an error of verifying a token into an error of the caller's own by `?`.
+fn passed_on(error: TokenError<NoKey>) -> Result<(), Stopped> {
+    Err::<(), TokenError<NoKey>>(error)?;
     Ok(())
 }
 
 #[test]
-fn what_the_gate_says(rt: HostRuntime) -> Result<(), Fail> {
+fn what_tokens_are_refused_for(rt: HostRuntime) -> Result<(), Fail> {
     let alloc = rt.alloc();
     let refused: GateError<NoKey> = GateError::Token(CoseError::ExtraneousData);
     assert_eq!(rt;
@@ -181,11 +182,13 @@ fn what_the_gate_says(rt: HostRuntime) -> Result<(), Fail> {
         text(alloc, &refused)?.as_str(),
         "not a claims set: duplicate map key"
     );
-    let Stopped(refused) = passed_on(PolicyError::Gate(GateError::Caller(NoKey)))
+    let refused: GateError<NoKey> = GateError::Caller(NoKey);
+    assert_eq!(rt; text(alloc, &refused)?.as_str(), "no such key");
+    let Stopped(refused) = passed_on(TokenError::Layer(1, LayerError::Keys(NoKey)))
         .err()
         .ok_or("went on")?;
-    assert_eq!(rt; text(alloc, &refused)?.as_str(), "no such key");
-    let refused: PolicyError<NoKey> = PolicyError::Audience;
+    assert_eq!(rt; text(alloc, &refused)?.as_str(), "layer 1: no such key");
+    let refused: TokenError<NoKey> = TokenError::Audience;
     assert_eq!(rt; text(alloc, &refused)?.as_str(), "another audience");
     Ok(())
 }
@@ -195,7 +198,8 @@ fn every_error_is_one(_rt: HostRuntime) -> Result<(), Fail> {
     is_error::<CoseError>();
     is_error::<CallError<NoKey>>();
     is_error::<GateError<NoKey>>();
-    is_error::<PolicyError<NoKey>>();
+    is_error::<LayerError<NoKey>>();
+    is_error::<TokenError<NoKey>>();
     is_error::<OutOfMemory>();
     is_error::<EndOfFile>();
     is_error::<de::Error<EndOfFile>>();

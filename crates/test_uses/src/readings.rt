@@ -1,7 +1,7 @@
-//! Claims and keys that are read although others aren't understood.
+//! Claims that are read although others aren't understood.
 
-use coset::{CoseError, RegisteredLabel, iana};
-use example_uses::readable::{claims_kept, keys_that_read};
+use coset::CoseError;
+use example_uses::readable::claims_kept;
 use std::test::*;
 
 /// The claims of RFC 8392, appendix A.1. They also have a claim 500 with two elements, a claim with
@@ -38,31 +38,5 @@ fn claims_that_are_refused(rt: HostRuntime) -> Result<(), Fail> {
     assert!(rt; matches!(no_map, Err(CoseError::UnexpectedItem(_, _))));
     let more = claims_kept(alloc, b"\xa0\x00");
     assert!(rt; matches!(more, Err(CoseError::ExtraneousData)));
-    Ok(())
-}
-
-/// A key of type 99, a symmetric key `a`, an integer, a key without a type, a key with an unknown
-/// algorithm, and a symmetric key `b`.
-const KEYS: &[u8] =
-    b"\x86\xa1\x01\x18\x63\xa2\x01\x04\x02\x41a\x01\xa1\x02\x41c\xa3\x01\x04\x02\x41d\
-\x03\x19\xfb\xff\xa2\x01\x04\x02\x41b";
-
-#[test]
-fn keys_that_are_read(rt: HostRuntime) -> Result<(), Fail> {
-    let alloc = rt.alloc();
-    let set = keys_that_read(alloc, KEYS).ok().ok_or("refused")?;
-    let mut keys = set.0.iter();
-    for key_id in [b"a", b"b"] {
-        let key = keys.next().ok_or("too few")?;
-        assert!(rt; key.key_id.as_slice() == key_id.as_slice());
-        assert!(rt; key.kty == RegisteredLabel::Assigned(iana::KeyType::Symmetric));
-    }
-    assert!(rt; keys.next().is_none());
-    let none = keys_that_read(alloc, b"\x80").ok().ok_or("refused")?;
-    assert!(rt; none.0.is_empty());
-    let no_array = keys_that_read(alloc, b"\xa0");
-    assert!(rt; matches!(no_array, Err(CoseError::UnexpectedItem(_, _))));
-    let cut = keys_that_read(alloc, b"\x82\xa0");
-    assert!(rt; matches!(cut, Err(CoseError::DecodeFailed(_))));
     Ok(())
 }

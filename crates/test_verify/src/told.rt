@@ -29,7 +29,7 @@ fn names(alloc: Global, names: &[String]) -> Result<String> {
 ///
 /// # Errors
 /// `OutOfMemory` if an allocation fails.
-fn issuer(alloc: Global, name: Option<&str>) -> Result<String> {
+fn spelled_issuer(alloc: Global, name: Option<&str>) -> Result<String> {
     match name {
         Some(name) => Ok(format!(in alloc; "@{name}")?),
         None => Ok(String::from_str(alloc, "-")?),
@@ -40,7 +40,7 @@ fn issuer(alloc: Global, name: Option<&str>) -> Result<String> {
 ///
 /// # Errors
 /// `OutOfMemory` if an allocation fails.
-fn others(alloc: Global, others: Vec<(Label, Value)>) -> Result<String> {
+fn spelled_others(alloc: Global, others: Vec<(Label, Value)>) -> Result<String> {
     if others.is_empty() {
         return Ok(String::from_str(alloc, "-")?);
     }
@@ -53,7 +53,7 @@ fn others(alloc: Global, others: Vec<(Label, Value)>) -> Result<String> {
 }
 
 /// Returns the name of the form, as a line spells it.
-fn form(form: Form) -> &'static str {
+fn spelled_form(form: Form) -> &'static str {
     match form {
         Form::Sign1 => "sign",
         Form::Mac0 => "mac",
@@ -65,14 +65,20 @@ fn form(form: Form) -> &'static str {
 ///
 /// # Errors
 /// `OutOfMemory` if an allocation fails.
-fn layer(alloc: Global, layer: VerifiedLayer<'_>) -> Result<String> {
-    let issuer = issuer(alloc, layer.issuer)?;
-    let protected = match &layer.protected.original_data {
+fn spelled_layer(alloc: Global, layer: VerifiedLayer<'_>) -> Result<String> {
+    let VerifiedLayer {
+        form,
+        protected,
+        unprotected,
+        issuer,
+    } = layer;
+    let issuer = spelled_issuer(alloc, issuer)?;
+    let protected = match &protected.original_data {
         Some(bytes) => hexadecimal(alloc, bytes)?,
         None => String::from_str(alloc, "none")?,
     };
-    let unprotected = hexadecimal(alloc, &layer.unprotected.to_vec(alloc)?)?;
-    let form = form(layer.form);
+    let unprotected = hexadecimal(alloc, &unprotected.to_vec(alloc)?)?;
+    let form = spelled_form(form);
     Ok(format!(in alloc; " {form}/{protected}/{unprotected}/{issuer}")?)
 }
 
@@ -81,14 +87,21 @@ fn layer(alloc: Global, layer: VerifiedLayer<'_>) -> Result<String> {
 /// # Errors
 /// `OutOfMemory` if an allocation fails.
 fn accepted(alloc: Global, token: VerifiedToken<'_>) -> Result<String> {
-    let audience = names(alloc, &token.audience)?;
-    let issuer = issuer(alloc, token.issuer)?;
-    let others = others(alloc, token.others)?;
-    let claims = tell::value(alloc, Ok(token.claims))?;
+    let VerifiedToken {
+        claims,
+        audience,
+        others,
+        issuer,
+        layers,
+    } = token;
+    let audience = names(alloc, &audience)?;
+    let issuer = spelled_issuer(alloc, issuer)?;
+    let others = spelled_others(alloc, others)?;
+    let claims = tell::value(alloc, Ok(claims))?;
     let mut text = format!(in alloc; "{claims} aud {audience} others {others} iss {issuer}")?;
     text.push_str(" layers")?;
-    for verified in token.layers {
-        text.push_str(&layer(alloc, verified)?)?;
+    for verified in layers {
+        text.push_str(&spelled_layer(alloc, verified)?)?;
     }
     Ok(text)
 }

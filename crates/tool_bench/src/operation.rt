@@ -7,7 +7,7 @@ use crate::calls::{time_canonicalize, time_check, time_compare, time_copy, time_
 use crate::fault::Fault;
 use crate::kind::Kind;
 use crate::structure::Structure;
-use crate::tokens::{time_by_hand, time_judge, time_judge_with};
+use crate::tokens::{time_by_hand, time_judge, time_verify_token};
 use coset_recipient::{CoseRecipient, CoseSign1};
 use std::rt::Clock;
 use std::time::Duration;
@@ -37,12 +37,12 @@ pub enum Operation {
     RecipientCompare,
     /// Putting the parameters of a key in order.
     KeyCanonicalize,
+    /// Verifying a token by a ring of keys and a policy, with `verify_token`.
+    VerifyToken,
     /// Judging a token with `judge`.
     Judge,
-    /// Judging a token by a policy, with `judge_with`.
-    JudgeWith,
     /// Reading a token's message, its structure and its claims by hand.
-    JudgeByHand,
+    TokenByHand,
 }
 
 impl Operation {
@@ -69,9 +69,9 @@ impl Operation {
             "recipient_copy" => Some(Operation::RecipientCopy),
             "recipient_compare" => Some(Operation::RecipientCompare),
             "key_canonicalize" => Some(Operation::KeyCanonicalize),
+            "verify_token" => Some(Operation::VerifyToken),
             "judge" => Some(Operation::Judge),
-            "judge_with" => Some(Operation::JudgeWith),
-            "judge_by_hand" => Some(Operation::JudgeByHand),
+            "token_by_hand" => Some(Operation::TokenByHand),
             _ => None,
         }
     }
@@ -98,9 +98,9 @@ impl Operation {
             Operation::RecipientCopy => time_copy::<CoseRecipient, R>(rt, bytes, calls),
             Operation::RecipientCompare => time_compare::<CoseRecipient, R>(rt, bytes, calls),
             Operation::KeyCanonicalize => time_canonicalize(rt, bytes, calls),
+            Operation::VerifyToken => time_verify_token(rt, bytes, calls),
             Operation::Judge => time_judge(rt, bytes, calls),
-            Operation::JudgeWith => time_judge_with(rt, bytes, calls),
-            Operation::JudgeByHand => time_by_hand(rt, bytes, calls),
+            Operation::TokenByHand => time_by_hand(rt, bytes, calls),
         }
     }
 }

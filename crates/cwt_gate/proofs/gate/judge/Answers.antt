@@ -21,7 +21,7 @@ returns-then-has_expired g c = (
   claims_view c.in_ok-claims.claims,
   (sign1_view c.in-Ok.message, c.in-Ok.ensures.read, c.in_ok-claims.ensures),
   sym c.has_fraction.ensures ∙ c.if-has_fraction.false,
-  moved (λ n. has_expired 0 n (claims_view c.in_ok-claims.claims).expiration_time) c.args.now c.ranges.now (sym c.has_expired.ensures ∙ c.if-has_expired.true),
+  moved (λ n. has_expired n (claims_view c.in_ok-claims.claims).expiration_time) c.args.now c.ranges.now (sym c.has_expired.ensures ∙ c.if-has_expired.true),
 )
 
 pub returns-then-is_early : goal.returns-then-is_early
@@ -29,8 +29,8 @@ returns-then-is_early g c = (
   claims_view c.in_ok-claims.claims,
   (sign1_view c.in-Ok.message, c.in-Ok.ensures.read, c.in_ok-claims.ensures),
   sym c.has_fraction.ensures ∙ c.if-has_fraction.false,
-  moved (λ n. has_expired 0 n (claims_view c.in_ok-claims.claims).expiration_time) c.args.now c.ranges.now (sym c.has_expired.ensures ∙ c.if-has_expired.false),
-  moved (λ n. is_early 0 n (claims_view c.in_ok-claims.claims).not_before) c.args.now c.ranges.now (sym c.is_early.ensures ∙ c.if-is_early.true),
+  moved (λ n. has_expired n (claims_view c.in_ok-claims.claims).expiration_time) c.args.now c.ranges.now (sym c.has_expired.ensures ∙ c.if-has_expired.false),
+  moved (λ n. is_early n (claims_view c.in_ok-claims.claims).not_before) c.args.now c.ranges.now (sym c.is_early.ensures ∙ c.if-is_early.true),
 )
 
 pub returns-then-has_fraction : goal.returns-then-has_fraction
@@ -44,6 +44,6 @@ pub returns : goal.returns
 returns g c = (
   (sign1_view c.in-Ok.message, c.in-Ok.ensures.read, c.in_ok-claims.ensures),
   sym c.has_fraction.ensures ∙ c.if-has_fraction.false,
-  moved (λ n. has_expired 0 n (claims_view c.in_ok-claims.claims).expiration_time) c.args.now c.ranges.now (sym c.has_expired.ensures ∙ c.if-has_expired.false),
-  moved (λ n. is_early 0 n (claims_view c.in_ok-claims.claims).not_before) c.args.now c.ranges.now (sym c.is_early.ensures ∙ c.if-is_early.false),
+  moved (λ n. has_expired n (claims_view c.in_ok-claims.claims).expiration_time) c.args.now c.ranges.now (sym c.has_expired.ensures ∙ c.if-has_expired.false),
+  moved (λ n. is_early n (claims_view c.in_ok-claims.claims).not_before) c.args.now c.ranges.now (sym c.is_early.ensures ∙ c.if-is_early.false),
 )

@@ -4,7 +4,7 @@ use Rattle.coset_label.specs.LabelData.{assigned}
 use Rattle.coset_label.specs.Views.{algorithm_view}
 use Rattle.coset_core.specs.Fields.{FieldsView}
 use Rattle.coset_claims.specs.Claims.{same_label}
-use Rattle.cwt_gate.specs.Policy.{is_there_and}
+use Rattle.example_uses.specs.HeaderParts.{is_there_and}
 use Rattle.example_uses.proofs.Opened.{opened}
 use Rattle.example_uses.proofs.headers.has_algorithm.Goals as goal
 

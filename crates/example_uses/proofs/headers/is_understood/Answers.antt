@@ -5,7 +5,7 @@ use Rattle.std.proofs.lemmas.Iterator.Search.{all_from_yields_List}
 use Rattle.coset_core.specs.Fields.{FieldsView}
 use Rattle.coset_core.specs.Views.{critical_view}
 use Rattle.coset_core.specs.declared.header.Header.{out-Header}
-use Rattle.cwt_gate.specs.Policy.{is_one_of}
+use Rattle.example_uses.specs.HeaderParts.{is_one_of}
 use Rattle.example_uses.proofs.Opened.{all-map, opened}
 use Rattle.example_uses.proofs.headers.is_understood.Goals as goal
 

@@ -1,0 +1,37 @@
+/* Verifies a web token (RFC 8392) of one of two issuers, with the ciphers of OpenSSL: `accept KEYS KEYS TOKEN`. The files
+ * are the COSE_KeySets of the issuers, and the token. Prints the issuer and the subject of the token. */
+#include "coset_openssl.h"
+#include <stdio.h>
+#include <time.h>
+
+static size_t contents(const char *name, uint8_t *at, size_t cap) {
+  FILE *file = fopen(name, "rb");
+  const size_t len = file ? fread(at, 1, cap, file) : 0;
+  if (file) fclose(file);
+  return len;
+}
+
+int main(int count, char **names) {
+  static uint8_t as[4096], hub[4096], in[4096], work[9 * sizeof in + 1024], subject[256];
+  static const int64_t algorithms[] = {COSET_ES256, COSET_HMAC_256_256};
+  static const coset_text here = COSET_LITERAL("coap://light.example.com");
+  if (count != 4) return 2;
+  const coset_issuer issuers[] = {
+      {COSET_LITERAL("coap://as.example.com"), as, contents(names[1], as, sizeof as)},    /* a key for each algorithm */
+      {COSET_LITERAL("coap://hub.example.com"), hub, contents(names[2], hub, sizeof hub)} /* a key for ES256 */
+  };
+  coset_openssl_ring ring = {issuers, 2};
+  coset_token_policy policy = {0};
+  coset_token token;
+  size_t len;
+  policy.rules.leeway = 60;
+  policy.algorithms = algorithms, policy.algorithms_len = 2;
+  policy.audiences = &here, policy.audiences_len = 1;
+  coset_status status = coset_token_verify(in, contents(names[3], in, sizeof in), time(NULL), &policy, coset_openssl_open, &ring,
+                                           work, sizeof work, &token);
+  if (!status)
+    status = coset_label_bytes(COSET_CLAIMS, token.claims, token.claims_len, COSET_IN_ITEM, 2, subject, sizeof subject, &len);
+  if (status) return fprintf(stderr, "refused: %s\n", coset_status_text(status)), 1;
+  printf("%.*s says %.*s\n", (int)token.issuer_len, token.issuer, (int)len, (char *)subject);
+  return 0;
+}
