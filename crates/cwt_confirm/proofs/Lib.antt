@@ -1,0 +1,5 @@
+mod Lists
+mod MapMembers
+mod LayerOrder
+mod NonceOrder
+mod Refused

@@ -21,8 +21,8 @@ use Rattle.cwt_confirm.specs.Concealed.{conceal_cnf}
 use Rattle.cwt_confirm.specs.Encrypted.{ciphertext_of, encrypted_key, encrypted_view}
 use Rattle.cwt_confirm.specs.KeyMembers.{is_complete, is_private, is_symmetric}
 use Rattle.cwt_confirm.specs.Members.{has_distinct_labels, member}
-use Rattle.cwt_confirm.specs.declared.confirmation.Confirmation.{Confirmation}
-use Rattle.cwt_confirm.specs.declared.confirmation.Confirmation.TheVariants as confirmed
+use Rattle.cwt_confirm.specs.declared.confirmed.Confirmation.{Confirmation}
+use Rattle.cwt_confirm.specs.declared.confirmed.Confirmation.TheVariants as confirmed
 use Rattle.cwt_confirm.specs.declared.encrypted.EncryptedKey.{EncryptedKey}
 use Rattle.cwt_confirm.specs.declared.error.ConfirmationError.{ConfirmationError}
 use Rattle.cwt_confirm.specs.declared.error.ConfirmationError.TheVariants as error

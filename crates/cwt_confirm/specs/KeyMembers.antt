@@ -71,8 +71,11 @@ abbrev pub has_algorithm : KeyType → KeyView → Bool
 has_algorithm kty.AKP k = is_some k.alg
 has_algorithm t k = true
 
+abbrev pub has_members : KeyType → KeyView → Bool
+has_members t k = list_all (λ r. has_member r.0 r.1 k) (required t)
+
 abbrev pub has_required : KeyType → KeyView → Bool
-has_required t k = has_algorithm t k && list_all (λ r. has_member r.0 r.1 k) (required t)
+has_required t k = has_algorithm t k && has_members t k
 
 -- Returns true if IANA assigned the key's type, and the key has each member that the type requires.
 abbrev pub is_complete : KeyView → Bool

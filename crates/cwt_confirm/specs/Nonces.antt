@@ -9,8 +9,8 @@ use Rattle.coset.specs.Shape.{both}
 use Rattle.coset_iana.specs.declared.claims.CwtClaimName.TheVariants.{Nonce}
 use Rattle.cwt_verify.specs.Verify.{TokenView}
 use Rattle.cwt_confirm.specs.Confirm.{claim_of}
-use Rattle.cwt_confirm.specs.declared.nonces.NonceError.{NonceError}
-use Rattle.cwt_confirm.specs.declared.nonces.NonceError.TheVariants.{OutOfMemory, NotNonces}
+use Rattle.cwt_confirm.specs.declared.nonce.NonceError.{NonceError}
+use Rattle.cwt_confirm.specs.declared.nonce.NonceError.TheVariants.{OutOfMemory, NotNonces}
 
 -- bstr .size (8..64)
 abbrev pub sized : List ℕ → Option (List ℕ)

@@ -4,8 +4,8 @@ use Rattle.std.specs.Fmt.{◌++?◌}
 use Rattle.coset.specs.Errors.{error_text}
 use Rattle.cwt_confirm.specs.declared.error.ConfirmationError.{ConfirmationError}
 use Rattle.cwt_confirm.specs.declared.error.ConfirmationError.TheVariants as confirmation
-use Rattle.cwt_confirm.specs.declared.nonces.NonceError.{NonceError}
-use Rattle.cwt_confirm.specs.declared.nonces.NonceError.TheVariants as nonce
+use Rattle.cwt_confirm.specs.declared.nonce.NonceError.{NonceError}
+use Rattle.cwt_confirm.specs.declared.nonce.NonceError.TheVariants as nonce
 
 -- The text of a reason against a confirmation claim.
 abbrev pub confirmation_error_text : ConfirmationError → Option (List ℕ)

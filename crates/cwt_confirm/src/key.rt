@@ -4,7 +4,7 @@
 ghost use Rattle.std.specs.Prelude.{◌≡◌};
 ghost use Rattle.coset.specs.Keys.{key_view};
 ghost use Rattle.coset.specs.View.{value_item};
-ghost use Rattle.cwt_confirm.specs.KeyMembers.{has_algorithm, has_member, has_private, has_required, is_complete, is_of_kind, is_private, is_symmetric, private, required, type_of};
+ghost use Rattle.cwt_confirm.specs.KeyMembers.{has_algorithm, has_member, has_members, has_private, has_required, is_complete, is_of_kind, is_private, is_symmetric, private, required, type_of};
 
 use coset::cbor::value::Value;
 use coset::iana::KeyType;
@@ -114,14 +114,20 @@ fn has_algorithm(key: &CoseKey, kty: KeyType) -> bool
     }
 }
 
-/// Returns true if the key has each member that this type requires.
+/// Returns true if the key has each of the members that this type requires.
+fn has_members(key: &CoseKey, kty: KeyType) -> bool
+    ensures { result ≡ has_members kty (key_view key.now) }
+{
+    required(kty)
+        .iter()
+        .all(|(label, kind)| has_member(key, *label, *kind))
+}
+
+/// Returns true if the key has what this type requires.
 fn has_required(key: &CoseKey, kty: KeyType) -> bool
     ensures { result ≡ has_required kty (key_view key.now) }
 {
-    has_algorithm(key, kty)
-        && required(kty)
-            .iter()
-            .all(|(label, kind)| has_member(key, *label, *kind))
+    has_algorithm(key, kty) && has_members(key, kty)
 }
 
 /// Returns true if IANA assigned the key's type, and the key has each member that the type

@@ -4,15 +4,17 @@
 //! [`confirmation`] reads the claim of a token that `cwt_verify` verified.
 #![tactic(auto)]
 
-mod confirmation;
+mod claim;
+mod confirmed;
 mod encrypted;
 mod error;
 mod key;
 mod layers;
 mod member;
-mod nonces;
+mod nonce;
 
-pub use confirmation::{Confirmation, confirmation};
+pub use claim::confirmation;
+pub use confirmed::Confirmation;
 pub use encrypted::EncryptedKey;
 pub use error::ConfirmationError;
-pub use nonces::{NonceError, nonces};
+pub use nonce::{NonceError, nonces};

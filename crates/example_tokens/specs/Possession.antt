@@ -14,8 +14,8 @@ use Rattle.coset.specs.Sign1.{Sign1View, sign1, sign1_structure}
 use Rattle.coset_iana.specs.Algorithm as algorithms
 use Rattle.coset_iana.specs.declared.algorithms.Algorithm.TheVariants.{ES256}
 use Rattle.cwt_confirm.specs.Confirm.{ReadsConfirmation}
-use Rattle.cwt_confirm.specs.declared.confirmation.Confirmation.{Confirmation}
-use Rattle.cwt_confirm.specs.declared.confirmation.Confirmation.TheVariants.{Key, EncryptedKey, KeyId}
+use Rattle.cwt_confirm.specs.declared.confirmed.Confirmation.{Confirmation}
+use Rattle.cwt_confirm.specs.declared.confirmed.Confirmation.TheVariants.{Key, EncryptedKey, KeyId}
 use Rattle.cwt_keys.specs.Sealed.{SealView, algorithm_of}
 use Rattle.cwt_keys.specs.declared.form.Form.TheVariants as forms
 use Rattle.cwt_ring.specs.Fits.{fits}

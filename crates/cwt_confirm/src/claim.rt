@@ -7,6 +7,7 @@ ghost use Rattle.cwt_verify.specs.Claims.{IsFirst};
 ghost use Rattle.cwt_verify.specs.Verify.{token_view};
 ghost use Rattle.cwt_confirm.specs.Confirm.{ReadsChoice, ReadsClaim, ReadsConfirmation, ReadsEncrypted, ReadsIdentifier, ReadsKey, chosen, identifier_of, key_reasons, may_be, unread};
 
+use crate::confirmed::Confirmation;
 use crate::encrypted::{EncryptedKey, read_encrypted_key};
 use crate::error::ConfirmationError;
 use crate::key::{is_complete, is_private, is_symmetric};
@@ -27,21 +28,6 @@ const ENCRYPTED_COSE_KEY: i64 = 2;
 
 /// The label of `kid`.
 const KID: i64 = 3;
-
-/// The key that the sender of a token must prove to possess: the claim `cnf` (RFC 8747, section
-/// 3.1).
-#[derive(Debug, Drop)]
-pub enum Confirmation {
-    /// A public key, or a symmetric key that only those who decrypt the token can read: `COSE_Key`
-    /// (section 3.2). It has the members that its type requires.
-    Key(CoseKey),
-    /// A key that the caller must decrypt: `Encrypted_COSE_Key` (section 3.3). The plaintext is the
-    /// encoded `COSE_Key`.
-    EncryptedKey(EncryptedKey),
-    /// The identifier of a key that the caller has: `kid` (section 3.4). It isn't empty. Several
-    /// keys may have the same identifier.
-    KeyId(Vec<u8>),
-}
 
 /// Returns the error for a key or an encrypted key that can't be read.
 fn unread(error: CoseError) -> ConfirmationError

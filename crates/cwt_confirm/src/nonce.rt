@@ -39,7 +39,7 @@ impl Error for NonceError {}
 
 impl<T: Drop> From<AllocFailed<T>> for NonceError {
     ghost use Rattle.std.specs.Prelude.{◌≡◌};
-    ghost use Rattle.cwt_confirm.specs.declared.nonces.NonceError.TheVariants.{OutOfMemory};
+    ghost use Rattle.cwt_confirm.specs.declared.nonce.NonceError.TheVariants.{OutOfMemory};
 
     ghost from_gives = { λ _ e. e ≡ OutOfMemory };
 
