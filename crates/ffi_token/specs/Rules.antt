@@ -90,17 +90,17 @@ has_meaning r =
     is_consistent r.any_audience r.audiences
     && (are_assigned algorithm_of r.algorithms && (are_assigned claim_of r.required && (are_texts r.audiences && are_texts r.types)))
 
--- The audiences that are accepted. If none is given, a token with an audience is refused.
-abbrev pub audience_of : Bool → List (List ℕ) → AudienceView
-audience_of true ts = unchecked
-audience_of false [] = absent
-audience_of false (t ∷ ts) = one_of (filter_map text_in (t ∷ ts))
+-- The audiences that are accepted: those with these names. If no texts are given, a token with an audience is refused.
+abbrev pub audience_of : Bool → List (List ℕ) → List (List ℕ) → AudienceView
+audience_of true ts names = unchecked
+audience_of false [] names = absent
+audience_of false (t ∷ ts) names = one_of names
 
 -- The policy that rules with a meaning describe. Numbers and texts without one are left out.
 abbrev pub policy_with : RulesView → PolicyView
 policy_with r = record {
   algorithms = filter_map algorithm_of r.algorithms;
-  audience = audience_of r.any_audience r.audiences;
+  audience = audience_of r.any_audience r.audiences (filter_map text_in r.audiences);
   types = filter_map text_in r.types;
   required = filter_map claim_of r.required;
   critical = map parameter_named r.critical;

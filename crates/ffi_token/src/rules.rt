@@ -2,9 +2,11 @@
 
 ghost use Rattle.std.specs.Prelude.{◌≡◌, IfOk, filter_map, map};
 ghost use Rattle.coset.specs.LabelViews.{registered_or_private_view};
+ghost use Rattle.cwt_verify.specs.Policy.{audience_view};
 ghost use Rattle.cwt_verify.specs.Verify.{VerifiesToken};
 ghost use Rattle.ffi_token.specs.Opened.{opened_view};
-ghost use Rattle.ffi_token.specs.Rules.{ListsOf, are_assigned, has_meaning, named, policy_with, rules_view};
+ghost use Rattle.ffi_token.specs.Rules.{ListsOf, are_assigned, audience_of, has_meaning, named, policy_with, rules_view};
+ghost use Rattle.ffi_token.specs.Texts.{texts_view};
 
 use crate::layer::Waiting;
 use crate::opened::OpenedLayers;
@@ -96,6 +98,20 @@ fn values<T: EnumI64 + Drop>(alloc: Global, numbers: &[i64]) -> Result<Vec<T>, A
         .collect(alloc)
 }
 
+/// Returns the audiences that are accepted: those with these names, if texts are given.
+fn audience_of<'a>(any: bool, given: &[Text<'_>], names: &'a [&'a str]) -> Audience<'a>
+    ensures { audience_view result ≡ audience_of any (texts_view given.now)
+        (map (λ s. s.now) names.now) }
+{
+    if any {
+        return Audience::Unchecked;
+    }
+    if given.is_empty() {
+        return Audience::Absent;
+    }
+    Audience::OneOf(names)
+}
+
 /// The lists of a policy.
 #[derive(Drop)]
 struct Lists<'a> {
@@ -155,16 +171,9 @@ impl<'a> Rules<'a> {
         let Ok(lists) = self.lists(alloc) else {
             return Err(TokenError::Layer(0, LayerError::Message(CoseError::OutOfMemory)));
         };
-        let audience = if self.any_audience {
-            Audience::Unchecked
-        } else if self.audiences.is_empty() {
-            Audience::Absent
-        } else {
-            Audience::OneOf(&lists.audiences)
-        };
         let policy = Policy {
             algorithms: &lists.algorithms,
-            audience,
+            audience: audience_of(self.any_audience, self.audiences, &lists.audiences),
             types: &lists.types,
             required: &lists.required,
             critical: &lists.critical,

@@ -55,7 +55,7 @@ fn answer(
     verified: Result<VerifiedToken<'_>, TokenError<Waiting>>,
     out: &mut [u8],
 ) -> Result<usize, Refusal>
-    ensures { ReturnsVerified verified out.old out.new result }
+    ensures { ReturnsVerified verified.entry out.old out.new result }
 {
     match verified {
         Ok(token) => write_token(alloc, &token, out),
