@@ -1,2 +1,1 @@
 pub mod VerifyFor
-pub mod Possession

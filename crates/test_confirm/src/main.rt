@@ -11,25 +11,18 @@
 //!
 //! `nonces CLAIMS` prints `ok` and each nonce, or both texts of the error.
 //!
-//! `possess LAYERS CLAIMS CHALLENGE PROOF yes|no` checks a proof of possession, with ciphers that
-//! accept or refuse each signature. The output is `ok` or the error. Then follow the algorithm, the
-//! number of calls of the ciphers, and each signature and structure.
-//!
 //! The answer to an empty line, and to a comment, which begins with `#`, is the line itself.
 //!
 //! A call is made between two marks (`test_lines::mark`). If an allocation between them is refused,
 //! it is one of the call's own.
 #![tactic(auto)]
 
-mod ciphers;
 mod tokens;
 mod told;
 
-use crate::ciphers::Faked;
 use crate::tokens::token;
 use coset::Result;
 use cwt_confirm::{confirmation, nonces};
-use example_tokens::possession::check_possession;
 use std::alloc::Global;
 use std::io;
 use test_lines::line::{Calls, answer_input, unknown};
@@ -44,7 +37,6 @@ impl Calls for ConfirmCalls {
         match name {
             "confirm" => confirmed(alloc, words),
             "nonces" => fresh(alloc, words),
-            "possess" => possessed(alloc, words),
             _ => Err(unknown()),
         }
     }
@@ -68,23 +60,6 @@ fn fresh(alloc: Global, words: &Words<'_>) -> Result<String> {
     let answer = nonces(alloc, &token);
     mark::end(alloc);
     told::nonces(alloc, answer)
-}
-
-/// Checks a proof of possession.
-fn possessed(alloc: Global, words: &Words<'_>) -> Result<String> {
-    let claims = words.bytes(alloc, 2)?;
-    let token = token(alloc, words.word(1), &claims)?;
-    let challenge = words.bytes(alloc, 3)?;
-    let proof = words.bytes(alloc, 4)?;
-    let ciphers = Faked::new(alloc, words.says_yes(5)?)?;
-    mark::begin(alloc);
-    let answer = check_possession(alloc, &token, &ciphers, &challenge, &proof);
-    mark::end(alloc);
-    let text = match answer {
-        Ok(()) => String::from_str(alloc, "ok")?,
-        Err(error) => format!(in alloc; "{error:?}")?,
-    };
-    ciphers.behind(alloc, text)
 }
 
 fn main(rt: HostRuntime) -> io::Result<()> {
