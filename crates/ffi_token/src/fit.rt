@@ -37,11 +37,12 @@ pub struct Parts<'a> {
 fn header_of(alloc: Global, parts: &Parts<'_>) -> std::result::Result<Header, AllocError>
     ensures { IfOk result (λ h. header_view h ≡ header_with (parts_view parts.now)) }
 {
+    let algorithm = parts.algorithm;
     let key_id = Vec::from_slice(alloc, parts.key_id)?;
     let iv = Vec::from_slice(alloc, parts.iv)?;
     let partial_iv = Vec::from_slice(alloc, parts.partial_iv)?;
     Ok(Header {
-        alg: Some(label(parts.algorithm)),
+        alg: Some(label(algorithm)),
         crit: Vec::new(alloc),
         content_type: None,
         key_id,

@@ -1,9 +1,11 @@
 //! A token, once the caller opened its layers.
 
 ghost use Rattle.std.specs.Option.{option_and_then};
+ghost use Rattle.coset_codec.specs.Results.{Writes};
 ghost use Rattle.cwt_verify.specs.Verify.{token_view};
 ghost use Rattle.ffi_token.specs.Rules.{policy_in, rules_view};
 ghost use Rattle.ffi_token.specs.Tokens.{ReturnsVerified, ReturnsToken, WritesLayer, WritesToken};
+ghost use Rattle.ffi_token.specs.Written.{token_image};
 
 use crate::layer::{Layer, Waiting};
 use crate::opened::OpenedLayers;
@@ -14,6 +16,17 @@ use coset_codec::write::encode_to_vec;
 use cwt_verify::{LayerError, TokenError, VerifiedToken};
 use ffi_query::write_found;
 use std::alloc::Global;
+
+/// Returns the shortest encoding of the token.
+///
+/// # Errors
+/// - `OutOfMemory` if an allocation fails.
+/// - `DuplicateMapKey` if the token has no encoding.
+fn encoded<'a>(alloc: Global, token: &'a VerifiedToken<'a>) -> coset::Result<Vec<u8>>
+    ensures { Writes (token_image (token_view token.now)) (λ b. b.items) result }
+{
+    encode_to_vec(alloc, &Written(token))
+}
 
 /// Writes the token to the front of `out` in its shortest encoding, and returns its length.
 ///
@@ -29,13 +42,12 @@ fn write_token<'a>(
 ) -> Result<usize, Refusal>
     ensures { WritesToken (token_view token.now) out.old out.new result }
 {
-    let written = match encode_to_vec(alloc, &Written(token)) {
-        Ok(bytes) => write_found(Ok(Some(bytes)), out),
-        Err(error) => Err(ffi_query::Refusal::Cose(error)),
-    };
-    match written {
-        Ok(len) => Ok(len),
-        Err(refusal) => Err(Refusal::Answer(refusal)),
+    match encoded(alloc, token) {
+        Ok(bytes) => match write_found(Ok(Some(bytes)), out) {
+            Ok(len) => Ok(len),
+            Err(refusal) => Err(Refusal::Answer(refusal)),
+        },
+        Err(error) => Err(Refusal::Answer(ffi_query::Refusal::Cose(error))),
     }
 }
 
