@@ -24,7 +24,8 @@ fn form(word: &str) -> Result<Form> {
 /// # Errors
 /// - A fault in the word.
 /// - `OutOfMemory` if an allocation fails.
-fn layer<'k>(alloc: Global, word: &str) -> Result<VerifiedLayer<'k>> {
+fn layer<'k>(alloc: Global, word: &'k str) -> Result<VerifiedLayer<'k>> {
+    let issuer: Option<&'k str> = None;
     let mut parts = word.split(':');
     let form = form(parts.next().unwrap_or(""))?;
     let mut protected = Header::new(alloc);
@@ -42,7 +43,7 @@ fn layer<'k>(alloc: Global, word: &str) -> Result<VerifiedLayer<'k>> {
             header: protected,
         },
         unprotected,
-        issuer: None,
+        issuer,
     })
 }
 
@@ -51,7 +52,8 @@ fn layer<'k>(alloc: Global, word: &str) -> Result<VerifiedLayer<'k>> {
 /// # Errors
 /// - A fault in the words.
 /// - `OutOfMemory` if an allocation fails.
-pub fn token<'k>(alloc: Global, layers: &str, claims: &[u8]) -> Result<VerifiedToken<'k>> {
+pub fn token<'k>(alloc: Global, layers: &'k str, claims: &[u8]) -> Result<VerifiedToken<'k>> {
+    let issuer: Option<&'k str> = None;
     let known = ClaimsSet::known_from_slice(alloc, claims)?;
     let mut verified = Vec::new(alloc);
     for word in layers.split(',') {
@@ -61,7 +63,7 @@ pub fn token<'k>(alloc: Global, layers: &str, claims: &[u8]) -> Result<VerifiedT
         claims: known.claims,
         audience: known.audience,
         others: known.others,
-        issuer: None,
+        issuer,
         layers: verified,
     })
 }
