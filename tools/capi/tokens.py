@@ -54,9 +54,11 @@ def item(value):
 def policy_of(word):
     """Returns the rules, the three lists of numbers and the two lists of texts of a policy, as words of `token`.
 
-    Returns None if C can't express it: a critical label that is a text, or a list of audiences without one."""
+    Returns None if C can't express it: a critical label that is a text, a list of audiences without one, or a greatest age of 0."""
     rules, lists = [0] * 7, {name: "-" for name in ("algs", "crit", "need", "aud", "types")}
     for name, _, value in (part.partition("=") for part in word.split(",")):
+        if (name, value) == ("age", "0"):
+            return None
         if name in ("leeway", "age"):
             rules[name == "age"] = int(value)
         elif name in ("plain", "by"):
