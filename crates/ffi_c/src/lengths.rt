@@ -5,7 +5,7 @@
 //! a greater length by mistake, such as -1 converted to a length. The functions then return `None`,
 //! and the call is refused. `tools/c` tests this.
 
-ghost use Rattle.std.specs.Prelude.{◌≡◌};
+ghost use Rattle.std.specs.Prelude.{◌≡◌, true};
 
 use crate::pairs::Pair;
 use ffi_token::{Opened, Text};

@@ -34,11 +34,11 @@ pub returns-in-None : goal.returns-in-None
 returns-in-None c =
     let old = c.args.out.now in
     let same = sym c.in-None.is ∙ (c.within_layers.ensures ∙ (c.within-2.ensures ∙ c.within.ensures)) in
-    let status : to_z w32 (of_z w32 c.reply_token.result) ≡ token_status (Err Misuse) = search rules in (
+    let status : to_z w32 (of_z w32 c.reply_token-in-None.result) ≡ token_status (Err Misuse) = search rules in (
       Err Misuse,
       subst (λ o. ReturnsToken c.args.bytes.now c.args.opened.now (option_and_then policy_in o) c.args.input.now c.args.now old old (Err Misuse))
           (ap (option_map rules_view) same ∙ c.rules_of-rules.ensures) (refl, refl),
       status,
-      c.reply_token.ensures.number,
-      c.reply_token.ensures.view,
+      c.reply_token-in-None.ensures.number,
+      c.reply_token-in-None.ensures.view,
     )
