@@ -201,10 +201,10 @@ impl Codec for CoseKdfContext {
         })
     }
 
+    /// Leaves out the algorithm, because the hints of the other elements have room for its number.
     fn size_hint(&self) -> usize {
-        self.algorithm_id
+        self.party_u_info
             .encoded_size_hint()
-            .saturating_add(self.party_u_info.encoded_size_hint())
             .saturating_add(self.party_v_info.encoded_size_hint())
             .saturating_add(self.supp_pub_info.encoded_size_hint())
             .saturating_add(Array(&self.supp_priv_info).encoded_size_hint())
@@ -256,10 +256,10 @@ fn encode_four_and_more<A: Encode, B: Encode, C: Encode, D: Encode>(
     ensures kept { Extends out.old.items out.new.items }
 {
     write_array_head(more.len() + 4, out)?;
-    a.encode(alloc, out)?;
-    b.encode(alloc, out)?;
-    c.encode(alloc, out)?;
-    d.encode(alloc, out)?;
+    a.append(alloc, out)?;
+    b.append(alloc, out)?;
+    c.append(alloc, out)?;
+    d.append(alloc, out)?;
     write_byte_strings(more, out)?;
     Ok(())
 }

@@ -124,6 +124,11 @@ impl<T: Codec> Encode for T {
         let written = self.write(alloc, out);
         rolled_back(written, before, out)
     }
+
+    #[inline(always)]
+    fn append(&self, alloc: Global, out: &mut Vec<u8>) -> Result<()> {
+        self.write(alloc, out)
+    }
 }
 
 impl<T: Codec> FromPull for T {

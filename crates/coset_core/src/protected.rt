@@ -233,7 +233,7 @@ impl Codec for ProtectedHeader {
 
     /// Writes the header's map, and ignores any kept bytes.
     fn write(&self, alloc: Global, out: &mut Vec<u8>) -> Result<()> {
-        self.header.encode(alloc, out)
+        self.header.append(alloc, out)
     }
 }
 
@@ -253,6 +253,11 @@ impl Encode for ProtectedRef<'_> {
 
     /// Appends the byte string of [`ProtectedHeader::protected_bytes`], with the same errors.
     fn encode(&self, alloc: Global, out: &mut Vec<u8>) -> Result<()> {
+        write_protected(alloc, self.0, out)
+    }
+
+    #[inline(always)]
+    fn append(&self, alloc: Global, out: &mut Vec<u8>) -> Result<()> {
         write_protected(alloc, self.0, out)
     }
 }

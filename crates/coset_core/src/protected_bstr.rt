@@ -44,6 +44,6 @@ impl Codec for ProtectedBstr {
     }
 
     fn write(&self, alloc: Global, out: &mut Vec<u8>) -> Result<()> {
-        ProtectedRef(&self.0).encode(alloc, out)
+        ProtectedRef(&self.0).append(alloc, out)
     }
 }

@@ -123,8 +123,12 @@ impl Encode for KeyOps<'_> {
 
     fn encode(&self, alloc: Global, out: &mut Vec<u8>) -> Result<()> {
         let before = out.len();
-        let written = write_operations(alloc, self.0, out);
+        let written = self.append(alloc, out);
         rolled_back(written, before, out)
+    }
+
+    fn append(&self, alloc: Global, out: &mut Vec<u8>) -> Result<()> {
+        write_operations(alloc, self.0, out)
     }
 }
 
@@ -140,7 +144,7 @@ fn write_operations(
 {
     write_array_head(operations.len(), out)?;
     for operation in operations {
-        operation.encode(alloc, out)?;
+        operation.append(alloc, out)?;
     }
     Ok(())
 }

@@ -91,6 +91,6 @@ impl Codec for CoseKeySet {
     }
 
     fn write(&self, alloc: Global, out: &mut Vec<u8>) -> Result<()> {
-        Array(&self.0).encode(alloc, out)
+        Array(&self.0).append(alloc, out)
     }
 }

@@ -310,9 +310,9 @@ fn write_first(alloc: Global, recipient: &CoseRecipient, out: &mut Vec<u8>) -> R
     ensures kept { Extends out.old.items out.new.items }
 {
     write_array_head(count_elements(recipient), out)?;
-    ProtectedRef(&recipient.protected).encode(alloc, out)?;
-    recipient.unprotected.encode(alloc, out)?;
-    recipient.ciphertext.encode(alloc, out)
+    ProtectedRef(&recipient.protected).append(alloc, out)?;
+    recipient.unprotected.append(alloc, out)?;
+    recipient.ciphertext.append(alloc, out)
 }
 
 /// Appends the recipient's array.

@@ -70,7 +70,7 @@ fn countersign_bytes(
 {
     let more = max_byte_strings_size(other_fields);
     let mut out = begin_countersign(alloc, body, signer, external_aad, payload, more)?;
-    Array(other_fields).encode(alloc, &mut out)?;
+    Array(other_fields).append(alloc, &mut out)?;
     least_encoding_is_shortest();
     Ok(out)
 }

@@ -44,6 +44,20 @@ pub trait Encode {
         ensures written { Encodes (image self.now) out.old.items out.new.items result }
         ensures kept { Extends out.old.items out.new.items }
         ensures refused { OnErr result (out.new.items ≡ out.old.items) };
+
+    /// Appends the same bytes as `encode`, but doesn't remove them after an error. Writers of
+    /// nested items call it, so that only the outermost `encode` truncates `out`.
+    ///
+    /// # Errors
+    /// The same as `encode`. The old content of `out` is then unchanged. Bytes appended before the
+    /// error may follow it.
+    #[inline(always)]
+    fn append(&self, alloc: Global, out: &mut Vec<u8>) -> Result<()>
+        ensures written { Encodes (image self.now) out.old.items out.new.items result }
+        ensures kept { Extends out.old.items out.new.items }
+    {
+        self.encode(alloc, out)
+    }
 }
 
 /// Returns the result of a write. After an error, truncates `out` to its first `before` bytes.
@@ -71,6 +85,13 @@ impl Encode for Value {
         laws::least_heads_are_shortest();
         Ok(write_value(self, out)?)
     }
+
+    #[inline(always)]
+    fn append(&self, _alloc: Global, out: &mut Vec<u8>) -> Result<()> {
+        laws::shortest_is_in_range();
+        laws::least_heads_are_shortest();
+        Ok(write_value(self, out)?)
+    }
 }
 
 /// An `i64` is an integer.
@@ -85,6 +106,11 @@ impl Encode for i64 {
 
     #[inline(always)]
     fn encode(&self, _alloc: Global, out: &mut Vec<u8>) -> Result<()> {
+        Ok(write_integer(Integer::from(*self), out)?)
+    }
+
+    #[inline(always)]
+    fn append(&self, _alloc: Global, out: &mut Vec<u8>) -> Result<()> {
         Ok(write_integer(Integer::from(*self), out)?)
     }
 }
@@ -104,6 +130,11 @@ impl Encode for u64 {
     fn encode(&self, _alloc: Global, out: &mut Vec<u8>) -> Result<()> {
         Ok(write_integer(Integer::from(*self), out)?)
     }
+
+    #[inline(always)]
+    fn append(&self, _alloc: Global, out: &mut Vec<u8>) -> Result<()> {
+        Ok(write_integer(Integer::from(*self), out)?)
+    }
 }
 
 /// A `String` is a text string.
@@ -121,6 +152,11 @@ impl Encode for String {
     fn encode(&self, _alloc: Global, out: &mut Vec<u8>) -> Result<()> {
         Ok(write_text(self, out)?)
     }
+
+    #[inline(always)]
+    fn append(&self, _alloc: Global, out: &mut Vec<u8>) -> Result<()> {
+        Ok(write_text(self, out)?)
+    }
 }
 
 /// A `Vec<u8>` is a byte string.
@@ -133,6 +169,11 @@ impl Encode for Vec<u8> {
 
     #[inline(always)]
     fn encode(&self, _alloc: Global, out: &mut Vec<u8>) -> Result<()> {
+        Ok(write_bytes(self, out)?)
+    }
+
+    #[inline(always)]
+    fn append(&self, _alloc: Global, out: &mut Vec<u8>) -> Result<()> {
         Ok(write_bytes(self, out)?)
     }
 }
@@ -157,6 +198,14 @@ impl Encode for Option<Vec<u8>> {
             None => Value::Null.encode(alloc, out),
         }
     }
+
+    #[inline(always)]
+    fn append(&self, alloc: Global, out: &mut Vec<u8>) -> Result<()> {
+        match self {
+            Some(content) => content.append(alloc, out),
+            None => Value::Null.append(alloc, out),
+        }
+    }
 }
 
 /// A slice that is written as an array of its elements, in order.
@@ -176,8 +225,13 @@ impl<T: Encode> Encode for Array<'_, T> {
 
     fn encode(&self, alloc: Global, out: &mut Vec<u8>) -> Result<()> {
         let before = out.len();
-        let written = encode_array(alloc, self.0, out);
+        let written = self.append(alloc, out);
         rolled_back(written, before, out)
+    }
+
+    #[inline(always)]
+    fn append(&self, alloc: Global, out: &mut Vec<u8>) -> Result<()> {
+        encode_array(alloc, self.0, out)
     }
 }
 
@@ -199,7 +253,7 @@ fn encode_elements<T: Encode>(alloc: Global, elements: &[T], out: &mut Vec<u8>) 
     ensures kept { Extends out.old.items out.new.items }
 {
     for element in elements {
-        element.encode(alloc, out)?;
+        element.append(alloc, out)?;
     }
     Ok(())
 }
@@ -222,8 +276,8 @@ pub fn encode_two<A: Encode, B: Encode>(
     ensures kept { Extends out.old.items out.new.items }
 {
     write_array_head(2, out)?;
-    a.encode(alloc, out)?;
-    b.encode(alloc, out)?;
+    a.append(alloc, out)?;
+    b.append(alloc, out)?;
     Ok(())
 }
 
@@ -246,9 +300,9 @@ pub fn encode_three<A: Encode, B: Encode, C: Encode>(
     ensures kept { Extends out.old.items out.new.items }
 {
     write_array_head(3, out)?;
-    a.encode(alloc, out)?;
-    b.encode(alloc, out)?;
-    c.encode(alloc, out)?;
+    a.append(alloc, out)?;
+    b.append(alloc, out)?;
+    c.append(alloc, out)?;
     Ok(())
 }
 
@@ -273,10 +327,10 @@ pub fn encode_four<A: Encode, B: Encode, C: Encode, D: Encode>(
     ensures kept { Extends out.old.items out.new.items }
 {
     write_array_head(4, out)?;
-    a.encode(alloc, out)?;
-    b.encode(alloc, out)?;
-    c.encode(alloc, out)?;
-    d.encode(alloc, out)?;
+    a.append(alloc, out)?;
+    b.append(alloc, out)?;
+    c.append(alloc, out)?;
+    d.append(alloc, out)?;
     Ok(())
 }
 
@@ -303,11 +357,11 @@ pub fn encode_five<A: Encode, B: Encode, C: Encode, D: Encode, E: Encode>(
     ensures kept { Extends out.old.items out.new.items }
 {
     write_array_head(5, out)?;
-    a.encode(alloc, out)?;
-    b.encode(alloc, out)?;
-    c.encode(alloc, out)?;
-    d.encode(alloc, out)?;
-    e.encode(alloc, out)?;
+    a.append(alloc, out)?;
+    b.append(alloc, out)?;
+    c.append(alloc, out)?;
+    d.append(alloc, out)?;
+    e.append(alloc, out)?;
     Ok(())
 }
 
@@ -334,7 +388,7 @@ pub fn encode_to_vec<T: Encode>(alloc: Global, value: &T) -> Result<Vec<u8>>
 {
     laws::least_encoding_is_shortest();
     let mut out = with_room(alloc, value.encoded_size_hint());
-    value.encode(alloc, &mut out)?;
+    value.append(alloc, &mut out)?;
     Ok(out)
 }
 
@@ -352,7 +406,7 @@ pub fn encode_to_tagged_vec<T: Encode>(alloc: Global, number: u64, value: &T) ->
         value.encoded_size_hint().saturating_add(LONGEST_HEAD),
     );
     write_tag_head(number, &mut out)?;
-    value.encode(alloc, &mut out)?;
+    value.append(alloc, &mut out)?;
     Ok(out)
 }
 

@@ -66,7 +66,7 @@ pub fn write_field<T: Encode>(alloc: Global, label: i64, value: &T, out: &mut Ve
     ensures kept { Extends out.old.items out.new.items }
 {
     label.encode(alloc, out)?;
-    value.encode(alloc, out)
+    value.append(alloc, out)
 }
 
 /// Appends a pair of this label and the value, if there is a value.
@@ -127,8 +127,8 @@ pub fn write_rest<L: Encode>(alloc: Global, rest: &[(L, Value)], out: &mut Vec<u
     ensures kept { Extends out.old.items out.new.items }
 {
     for (label, value) in rest {
-        label.encode(alloc, out)?;
-        value.encode(alloc, out)?;
+        label.append(alloc, out)?;
+        value.append(alloc, out)?;
     }
     Ok(())
 }

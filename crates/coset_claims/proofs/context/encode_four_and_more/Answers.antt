@@ -10,12 +10,12 @@ returns-clause-written g c =
     let more = rw c.deref.ensures.value at c.in_ok-write_byte_strings.ensures.ok in
     let count : suc (suc (suc (suc (length all)))) ≡ c.len.result + 4 = omega (arith, c.len.ensures) in
     array-put (c.len.result + 4) (omega arith) c.in_ok-write_array_head.ensures.ok
-    (as_many count (place-put c.in_ok-encode.ensures.written (place-put c.in_ok-encode-2.ensures.written
-    (place-put c.in_ok-encode-3.ensures.written (place-put c.in_ok-encode-4.ensures.written more)))))
+    (as_many count (place-put c.in_ok-append.ensures.written (place-put c.in_ok-append-2.ensures.written
+    (place-put c.in_ok-append-3.ensures.written (place-put c.in_ok-append-4.ensures.written more)))))
 
-pub returns-in_err-encode-4-clause-kept : goal.returns-in_err-encode-4-clause-kept
-returns-in_err-encode-4-clause-kept g c =
+pub returns-in_err-append-4-clause-kept : goal.returns-in_err-append-4-clause-kept
+returns-in_err-append-4-clause-kept g c =
     extends-on c.args.out.now.items c.write_array_head.new.out.items _ (least_head 4 (c.len.result + 4), c.in_ok-write_array_head.ensures.ok)
-    (extends-on _ c.encode.new.out.items _ c.in_ok-encode.ensures.kept
-    (extends-on _ c.encode-2.new.out.items _ c.in_ok-encode-2.ensures.kept
-    (extends-on _ c.encode-3.new.out.items _ c.in_ok-encode-3.ensures.kept c.in_err-encode-4.ensures.kept)))
+    (extends-on _ c.append.new.out.items _ c.in_ok-append.ensures.kept
+    (extends-on _ c.append-2.new.out.items _ c.in_ok-append-2.ensures.kept
+    (extends-on _ c.append-3.new.out.items _ c.in_ok-append-3.ensures.kept c.in_err-append-4.ensures.kept)))

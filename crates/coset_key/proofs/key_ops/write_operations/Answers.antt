@@ -20,10 +20,10 @@ loop-operation-preserved c =
     let pushed : map operation_view (map (λ b. b.now) (ys ++ x ∷ [])) ≡ map operation_view (map (λ b. b.now) ys) ++ operation_view x.now ∷ [] =
     ap (map operation_view) next ∙ map_push operation_view (map (λ b. b.now) ys) x.now in (
       subst (λ n. AppendsElements (images operation.image
-          (map operation_view (map (λ b. b.now) (ys ++ x ∷ [])))) n c.write_array_head.new.out.items c.encode.new.out.items) (sym (length_push ys x))
-          (subst (λ ns. AppendsElements (images operation.image ns) (length ys + 1) c.write_array_head.new.out.items c.encode.new.out.items) (sym pushed)
+          (map operation_view (map (λ b. b.now) (ys ++ x ∷ [])))) n c.write_array_head.new.out.items c.append.new.out.items) (sym (length_push ys x))
+          (subst (λ ns. AppendsElements (images operation.image ns) (length ys + 1) c.write_array_head.new.out.items c.append.new.out.items) (sym pushed)
           (element-put operation.image (map operation_view (map (λ b. b.now) ys)) (operation_view x.now) c.loop-operation.invariant.0
-          c.in_ok-encode.ensures.written)),
+          c.in_ok-append.ensures.written)),
       ap (λ zs. zs ++ c.next.new.self) next ∙ moved (map
           (λ b. b.now) ys) x.now c.loop-operation.operation-iterator c.next.new.self c.args.operations.now.keys c.loop-operation.invariant.1
           c.in-Some.ensures.steps,

@@ -9,8 +9,8 @@ pub returns-clause-written : goal.returns-clause-written
 returns-clause-written c =
     let is = recipient-unrolled c.args.recipient.now in
     let r = opened (out-CoseRecipient c.args.recipient.now) in
-    subst (λ r. Begins r c.args.out.now.items c.encode-3.new.out.items c.encode-3.result) (sym is)
-    (first_written r c.count_elements.result c.args.out.now.items c.write_array_head.new.out.items c.encode.new.out.items c.encode-2.new.out.items
-    c.encode-3.new.out.items c.encode-3.result
+    subst (λ r. Begins r c.args.out.now.items c.append-3.new.out.items c.append-3.result) (sym is)
+    (first_written r c.count_elements.result c.args.out.now.items c.write_array_head.new.out.items c.append.new.out.items c.append-2.new.out.items
+    c.append-3.new.out.items c.append-3.result
     (c.count_elements.ensures ∙ ap (λ r. 3 + last_elements r.recipients) is)
-    (omega arith) c.in_ok-write_array_head.ensures.ok c.in_ok-encode.ensures.written c.in_ok-encode-2.ensures.written c.encode-3.ensures.written)
+    (omega arith) c.in_ok-write_array_head.ensures.ok c.in_ok-append.ensures.written c.in_ok-append-2.ensures.written c.append-3.ensures.written)

@@ -27,13 +27,13 @@ passed : {T : Type 0} (r : Result T CoseError) (e : CoseError) → IsErrAnd r (�
 passed (Ok x) e is memory = absurd is
 passed (Err i) e is memory = is ∙ memory
 
-pub returns-in_err-encode-clause-memory : goal.returns-in_err-encode-clause-memory
-returns-in_err-encode-clause-memory c =
+pub returns-in_err-append-clause-memory : goal.returns-in_err-append-clause-memory
+returns-in_err-append-clause-memory c =
     let others = c.args.other_fields.now in
-    let e : CoseError = c.in_err-encode.field-0.0 in
+    let e : CoseError = c.in_err-append.field-0.0 in
     let r : Result (Unit {0}) CoseError = Err e in
-    passed c.from_residual-in_err-encode.result e c.from_residual-in_err-encode.ensures.1
-    (refused_memory r (list_of others) (array (byte_strings (fields_of others))) (has_list others) c.in_err-encode.ensures.written)
+    passed c.from_residual-in_err-append.result e c.from_residual-in_err-append.ensures.1
+    (refused_memory r (list_of others) (array (byte_strings (fields_of others))) (has_list others) c.in_err-append.ensures.written)
 
 pub returns-clause-encoding : goal.returns-clause-encoding
 returns-clause-encoding c =
@@ -41,4 +41,4 @@ returns-clause-encoding c =
     let signer = option_copied c.args.signer in
     list_written c.least_encoding_is_shortest.ensures (countersign_text (is_some signer))
     (signed_parts c.args.body.now signer c.args.external_aad.now c.args.payload.now) (fields_of others) (list_of others)
-    c.in_ok-out.out.items c.encode.new.out.items c.in_ok-out.ensures.begins (has_list others) c.in_ok-encode.ensures.written
+    c.in_ok-out.out.items c.append.new.out.items c.in_ok-out.ensures.begins (has_list others) c.in_ok-append.ensures.written

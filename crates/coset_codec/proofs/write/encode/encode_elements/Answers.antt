@@ -13,18 +13,18 @@ pub loop-element-preserved : goal.loop-element-preserved
 loop-element-preserved g c =
     let all = c.args.elements.now in
     let i = c.loop-element.element-index in
-    subst (λ xs. AppendsElements (images g.T.Encode.image xs) (i + 1) c.args.out.now.items c.encode.new.out.items)
+    subst (λ xs. AppendsElements (images g.T.Encode.image xs) (i + 1) c.args.out.now.items c.append.new.out.items)
     (sym (one_taken all i c.element-item.result (omega arith) c.element-item.is))
-    (element-put g.T.Encode.image (take i all) c.element-item.result c.loop-element.invariant c.in_ok-encode.ensures.written)
+    (element-put g.T.Encode.image (take i all) c.element-item.result c.loop-element.invariant c.in_ok-append.ensures.written)
 
-pub returns-in_err-encode-clause-refused : goal.returns-in_err-encode-clause-refused
-returns-in_err-encode-clause-refused g c =
+pub returns-in_err-append-clause-refused : goal.returns-in_err-append-clause-refused
+returns-in_err-append-clause-refused g c =
     let all = c.args.elements.now in
     let i = c.loop-element.element-index in
     let x = c.element-item.result in
-    on_err c.from_residual.result c.in_err-encode.field-0.0 (HasNoImage (images g.T.Encode.image all)) c.from_residual.ensures.1
+    on_err c.from_residual.result c.in_err-append.field-0.0 (HasNoImage (images g.T.Encode.image all)) c.from_residual.ensures.1
     (λ m.
-    let none = c.in_err-encode.ensures.written m in (
+    let none = c.in_err-append.ensures.written m in (
       none.0,
       ap (images g.T.Encode.image) (one_between all i x (omega arith) c.element-item.is)
           ∙ images-missing g.T.Encode.image (take i all) (drop (i + 1) all) x none.1,

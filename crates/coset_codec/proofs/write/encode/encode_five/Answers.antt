@@ -6,20 +6,20 @@ use Rattle.coset_codec.proofs.write.encode.encode_five.Goals as goal
 pub returns-clause-written : goal.returns-clause-written
 returns-clause-written g c =
     array-put 5 (omega arith) c.in_ok-write_array_head.ensures.ok
-    (place-put c.in_ok-encode.ensures.written (place-put c.in_ok-encode-2.ensures.written
-    (place-put c.in_ok-encode-3.ensures.written (place-put c.in_ok-encode-4.ensures.written (place-put c.in_ok-encode-5.ensures.written (nothing-put _))))))
+    (place-put c.in_ok-append.ensures.written (place-put c.in_ok-append-2.ensures.written
+    (place-put c.in_ok-append-3.ensures.written (place-put c.in_ok-append-4.ensures.written (place-put c.in_ok-append-5.ensures.written (nothing-put _))))))
 
-pub returns-in_err-encode-4-clause-kept : goal.returns-in_err-encode-4-clause-kept
-returns-in_err-encode-4-clause-kept g c =
+pub returns-in_err-append-4-clause-kept : goal.returns-in_err-append-4-clause-kept
+returns-in_err-append-4-clause-kept g c =
     extends-on c.args.out.now.items c.write_array_head.new.out.items _ (least_head 4 5, c.in_ok-write_array_head.ensures.ok)
-    (extends-on _ c.encode.new.out.items _ c.in_ok-encode.ensures.kept
-    (extends-on _ c.encode-2.new.out.items _ c.in_ok-encode-2.ensures.kept
-    (extends-on _ c.encode-3.new.out.items _ c.in_ok-encode-3.ensures.kept c.in_err-encode-4.ensures.kept)))
+    (extends-on _ c.append.new.out.items _ c.in_ok-append.ensures.kept
+    (extends-on _ c.append-2.new.out.items _ c.in_ok-append-2.ensures.kept
+    (extends-on _ c.append-3.new.out.items _ c.in_ok-append-3.ensures.kept c.in_err-append-4.ensures.kept)))
 
-pub returns-in_err-encode-5-clause-kept : goal.returns-in_err-encode-5-clause-kept
-returns-in_err-encode-5-clause-kept g c =
+pub returns-in_err-append-5-clause-kept : goal.returns-in_err-append-5-clause-kept
+returns-in_err-append-5-clause-kept g c =
     extends-on c.args.out.now.items c.write_array_head.new.out.items _ (least_head 4 5, c.in_ok-write_array_head.ensures.ok)
-    (extends-on _ c.encode.new.out.items _ c.in_ok-encode.ensures.kept
-    (extends-on _ c.encode-2.new.out.items _ c.in_ok-encode-2.ensures.kept
-    (extends-on _ c.encode-3.new.out.items _ c.in_ok-encode-3.ensures.kept
-    (extends-on _ c.encode-4.new.out.items _ c.in_ok-encode-4.ensures.kept c.in_err-encode-5.ensures.kept))))
+    (extends-on _ c.append.new.out.items _ c.in_ok-append.ensures.kept
+    (extends-on _ c.append-2.new.out.items _ c.in_ok-append-2.ensures.kept
+    (extends-on _ c.append-3.new.out.items _ c.in_ok-append-3.ensures.kept
+    (extends-on _ c.append-4.new.out.items _ c.in_ok-append-4.ensures.kept c.in_err-append-5.ensures.kept))))

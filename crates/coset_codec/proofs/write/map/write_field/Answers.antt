@@ -8,4 +8,4 @@ pub returns-clause-ok : goal.returns-clause-ok
 returns-clause-ok g c =
     let same : to_z w64 (of_z w64 c.args.label) ≡ c.args.label = search rules in
     let key = subst (λ (n : ℤ). AppendsImage (Some (integer n)) c.args.out.now.items c.encode.new.out.items) same c.in_ok-encode.ensures.written in
-    field-written c.encode-2.result c.args.label _ _ (item-is key) c.encode-2.ensures.written
+    field-written c.append.result c.args.label _ _ (item-is key) c.append.ensures.written
