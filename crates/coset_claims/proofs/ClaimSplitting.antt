@@ -122,13 +122,17 @@ only_if : (b : Bool) (o : Option Items) (vs : Items) → cond b o None ≡ Some 
 only_if true o vs e = refl
 only_if false o vs e = absurd (none-some vs e)
 
+-- The number of the audience is the name of a claim.
+pub is_aud_name : (k : Item) → is_aud k ≡ true → claim_name.describes k aud
+unfolding claim_name
+is_aud_name k e =
+    let h = tested (λ i. int_eq i (pos 3)) (as_integer k) e in
+    let three : as_integer k ≡ Some (pos 3) = h.1 ∙ ap Some ((signed_Decides h.0 (pos 3)).0 h.2) in
+    (ap is_some three, (ap (is_some_known (λ i. is_some (first_numbered claim_names.number CWT_CLAIM_NAMES i))) three, (three, search rules)))
+
 -- The key of an audience in an array is the name of a claim.
 aud_is_name : (k v : Item) (vs : Items) → aud_array k v ≡ Some vs → IsName k
-unfolding claim_name
-aud_is_name k v vs e =
-    let h = tested (λ i. int_eq i (pos 3)) (as_integer k) (only_if (is_aud k) (as_array v) vs e) in
-    let three : as_integer k ≡ Some (pos 3) = h.1 ∙ ap Some ((signed_Decides h.0 (pos 3)).0 h.2) in
-    (aud, (ap is_some three, (ap (is_some_known (λ i. is_some (first_numbered claim_names.number CWT_CLAIM_NAMES i))) three, (three, search rules))))
+aud_is_name k v vs e = (aud, is_aud_name k (only_if (is_aud k) (as_array v) vs e))
 
 splits_unique : (ps ns ms : Pairs) (auds bs : List Items) (us ws : Others) → Splits ps ns auds us → Splits ps ms bs ws
     → (ns ≡ ms) × (auds ≡ bs) × (us ≡ ws)

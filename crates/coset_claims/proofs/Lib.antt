@@ -4,6 +4,7 @@ pub mod ClaimCopies
 pub mod Elements
 pub mod ByteStrings
 pub mod ClaimSplitting
+pub mod OnlyClaims
 mod Comparing
 mod Months
 mod Years

@@ -41,6 +41,10 @@ known_view c = record {
   others = map entry_view c.others.items;
 }
 
+-- The claims without others. The audience is a text, if there is one.
+abbrev pub only_claims : ClaimsView → KnownView
+only_claims c = record { claims = c; audience = option_to_list c.audience; others = [] }
+
 -- ---- the pairs
 
 -- The key is the name of a claim that a claims set can contain.

@@ -219,7 +219,8 @@ impl Codec for ClaimsSet {
         (λ x y. timestamp_eq-decides (timestamp_view x) (timestamp_view y)) in
         claims_decides (text a.issuer b.issuer) (text a.subject b.subject)
         (text a.audience b.audience) (time a.expiration_time b.expiration_time)
-        (time a.not_before b.not_before) (time a.issued_at b.issued_at) (bstr_decides a.cwt_id b.cwt_id)
+        (time a.not_before b.not_before) (time a.issued_at b.issued_at)
+        (bstr_decides a.cwt_id b.cwt_id)
         (lists_decides entry_view _ (λ x y. claim_eq-decides (entry_view x) (entry_view y))
         a.rest.items b.rest.items) };
 

@@ -12,7 +12,8 @@ ghost use Rattle.coset_codec.specs.Lists.{ReadsEach};
 ghost use Rattle.coset_codec.specs.Results.{AllocatesForItems, Describes, IsRefused, Reads};
 ghost use Rattle.coset_codec.specs.Shape.{tstr};
 ghost use Rattle.coset_codec.specs.declared.error.CoseError.TheVariants.{OutOfMemory};
-ghost use Rattle.coset_claims.specs.Known.{IsNamed, ReadsAudience, SplitsOff, aud_array, is_aud, known, known_view, parts_view};
+ghost use Rattle.coset_claims.specs.Claims.{claims_view};
+ghost use Rattle.coset_claims.specs.Known.{IsNamed, ReadsAudience, SplitsOff, aud_array, is_aud, known, known_view, only_claims, parts_view};
 
 use crate::claims_set::ClaimsSet;
 use coset_cbor::de::{Items, Pairs, Pull};
@@ -71,7 +72,8 @@ fn is_aud(key: Pull<'_>) -> bool
 
 /// Returns the elements of the array, if the pair is an audience in an array.
 fn aud_array<'a>(key: Pull<'_>, value: Pull<'a>) -> Option<Items<'a>>
-    ensures { option_map items_left result ≡ aud_array (pull_item key.entry) (pull_item value.entry) }
+    ensures { option_map items_left result
+        ≡ aud_array (pull_item key.entry) (pull_item value.entry) }
 {
     if is_aud(key) { value.items() } else { None }
 }
@@ -160,6 +162,22 @@ fn audience(alloc: Global, arrays: &[Items<'_>], text: &Option<String>) -> Resul
     Ok(names)
 }
 
+/// Returns these claims without others, and the audience as a list.
+///
+/// # Errors
+/// `OutOfMemory` if an allocation fails.
+fn only_claims(alloc: Global, claims: ClaimsSet) -> Result<KnownClaims>
+    ensures known { IfOk result (λ k. known_view k ≡ only_claims (claims_view claims)) }
+    ensures memory { IfErr result (λ e. e ≡ OutOfMemory) }
+{
+    let audience = as_list(alloc, &claims.audience)?;
+    Ok(KnownClaims {
+        claims,
+        audience,
+        others: Vec::new(alloc),
+    })
+}
+
 impl ClaimsSet {
     /// Decodes a claims set, and separates the claims that aren't understood.
     ///
@@ -179,6 +197,9 @@ impl ClaimsSet {
         ensures memory { AllocatesForItems bytes.now result }
     {
         let set = whole_item(bytes)?;
+        if let Ok(all) = ClaimsSet::from_pull(alloc, set) {
+            return only_claims(alloc, all);
+        }
         let Some(pairs) = set.pairs() else {
             return Err(pull_type_error(set, "map"));
         };

@@ -258,7 +258,7 @@ impl Encode for ProtectedRef<'_> {
 
     #[inline(always)]
     fn append(&self, alloc: Global, out: &mut Vec<u8>) -> Result<()> {
-        write_protected(alloc, self.0, out)
+        self.encode(alloc, out)
     }
 }
 

@@ -1,4 +1,4 @@
-use Rattle.std.proofs.Common.{inl, inr, map, refl, subst, sym}
+use Rattle.std.proofs.Common.{◌≡◌, inl, inr, map, refl, subst, sym}
 use Rattle.std.specs.Prelude.{string_bytes}
 use Rattle.coset_value.specs.View.{value_pairs, value_item}
 use Rattle.coset_cbor.specs.Elements.{items_left, pairs_left}
@@ -7,12 +7,22 @@ use Rattle.coset_codec.specs.RestLaws.{repeats-view}
 use Rattle.coset_label.specs.Views.{label_view, entry_view}
 use Rattle.coset_label.specs.LabelData.{same_label}
 use Rattle.coset_claims.specs.Claims.{claims, claims_view}
-use Rattle.coset_codec.specs.Results.{IsRefused}
+use Rattle.coset_codec.specs.Results.{Describes, IsRefused}
 use Rattle.coset_codec.specs.declared.error.CoseError.TheVariants.{DuplicateMapKey}
-use Rattle.coset_claims.specs.Known.{AudienceFaults, IsAudience, known}
+use Rattle.coset_claims.specs.Known.{AudienceFaults, IsAudience, known, known_view, only_claims}
+use Rattle.coset_claims.proofs.OnlyClaims.{only_claims_described}
 use Rattle.coset_claims.proofs.ClaimSplitting.{all_known, no_labels, split_fault, told, told_not, value_item-Map}
 use Rattle.coset_codec.proofs.Lists.{on_err}
+use Rattle.std.proofs.lemmas.Result.{IfOk-weaker}
 use Rattle.coset_claims.proofs.claims_set.ClaimsSet.known_from_slice.Goals as goal
+
+pub returns-in-Ok-clause-read : goal.returns-in-Ok-clause-read
+returns-in-Ok-clause-read c =
+    let s = c.args.bytes.now in
+    let x = claims_view c.in-Ok.all in
+    IfOk-weaker c.only_claims.result (λ k. known_view k ≡ only_claims x) (λ k. Describes known s (known_view k))
+    (λ k e. subst (Describes known s) (sym e) (only_claims_described s (pull_item c.in_ok-set.set) x c.in_ok-set.ensures.whole c.in-Ok.ensures))
+    c.only_claims.ensures.known
 
 pub returns-in_err-parts-clause-refused : goal.returns-in_err-parts-clause-refused
 returns-in_err-parts-clause-refused c =
