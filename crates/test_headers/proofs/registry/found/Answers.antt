@@ -1,6 +1,6 @@
 use Rattle.std.proofs.Common.{◌≡◌, ◌∙◌, of_z, sym, to_z, w64}
 use Rattle.std.proofs.lemmas.Int.{to_z-of_z}
-use Rattle.test_labels.proofs.registry.found.Goals as goal
+use Rattle.test_headers.proofs.registry.found.Goals as goal
 
 -- The value of a number has that number.
 pub returns : goal.returns

@@ -16,7 +16,7 @@ pub enum Own {
 
 impl EnumI64 for Own {
     ghost use Rattle.coset.specs.Registry.{first_numbered, number-first_numbered};
-    ghost use Rattle.test_labels.specs.declared.own.Own.TheVariants.{Reserved, Something, Other};
+    ghost use Rattle.test_headers.specs.declared.own.Own.TheVariants.{Reserved, Something, Other};
 
     ghost number = { elim [ Reserved ↦ pos 0 | Something ↦ pos 1 | Other ↦ minus 1 ] };
 
@@ -49,7 +49,7 @@ impl EnumI64 for Own {
 }
 
 impl Named for Own {
-    ghost use Rattle.test_labels.specs.declared.own.Own.TheVariants.{Reserved, Something, Other};
+    ghost use Rattle.test_headers.specs.declared.own.Own.TheVariants.{Reserved, Something, Other};
 
     ghost name = { elim [
       | Reserved ↦ codes "reserved"

@@ -9,7 +9,7 @@ use std::alloc::Global;
 use std::cmp::Ordering;
 use std::fmt::{Debug, Display};
 use test_lines::words::{self, Words};
-use test_lines::{mark, spelled, tell};
+use test_lines::{mark, tell};
 
 /// A question about a registry.
 #[derive(Clone, Copy)]
