@@ -1,5 +1,7 @@
 //! Calls of `ClaimsSet`.
 
+pub mod builder;
+
 use coset::cbor::value::Value;
 use coset::cwt::{ClaimName, ClaimsSet, KnownClaims};
 use coset::{CborSerializable, Result};

@@ -1,5 +1,8 @@
 //! Calls of `CoseKey` and `MlDsaVariant`.
 
+pub mod builder;
+pub mod set;
+
 use cose_thumbprint::thumbprint_input;
 use coset::iana::{Algorithm, EnumI64};
 use coset::{CborSerializable, CoseError, CoseKey, Label, MlDsaVariant, Result};
