@@ -1,6 +1,6 @@
 //! Ciphers whose answers a line gives, by the identifier of the key or by the number of the call.
 
-use crate::refused::Refused;
+use crate::verify::refused::Refused;
 use coset::iana::{Algorithm, EnumI64};
 use coset::{CoseKey, Result};
 use cwt_ring::Ciphers;

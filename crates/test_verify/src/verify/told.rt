@@ -1,8 +1,9 @@
 //! The results of the calls as text.
 
+use crate::forms;
 use coset::cbor::value::Value;
 use coset::{AsCborValue, CborSerializable, Label, Result};
-use cwt_verify::{Form, TokenError, VerifiedLayer, VerifiedToken};
+use cwt_verify::{TokenError, VerifiedLayer, VerifiedToken};
 use std::alloc::Global;
 use std::fmt::{Debug, Display};
 use test_lines::tell::{self, hexadecimal};
@@ -52,15 +53,6 @@ fn spelled_others(alloc: Global, others: Vec<(Label, Value)>) -> Result<String> 
     hexadecimal(alloc, &Value::Array(elements).to_vec(alloc)?)
 }
 
-/// Returns the name of the form, as a line spells it.
-fn spelled_form(form: Form) -> &'static str {
-    match form {
-        Form::Sign1 => "sign",
-        Form::Mac0 => "mac",
-        Form::Encrypt0 => "enc",
-    }
-}
-
 /// Returns the layer's form, its protected bytes, its unprotected header and its issuer.
 ///
 /// # Errors
@@ -78,7 +70,7 @@ fn spelled_layer(alloc: Global, layer: VerifiedLayer<'_>) -> Result<String> {
         None => String::from_str(alloc, "none")?,
     };
     let unprotected = hexadecimal(alloc, &unprotected.to_vec(alloc)?)?;
-    let form = spelled_form(form);
+    let form = forms::spelled(form);
     Ok(format!(in alloc; " {form}/{protected}/{unprotected}/{issuer}")?)
 }
 

@@ -1,5 +1,6 @@
 //! The changes of the strict policy in a line.
 
+use crate::forms;
 use coset::iana::{Algorithm, CwtClaimName, EnumI64, HeaderParameter};
 use coset::{CoseError, RegisteredLabelWithPrivate, Result};
 use cwt_verify::{Audience, Authentication, Form, Policy};
@@ -29,19 +30,6 @@ pub struct Changes<'a> {
     refuse_future_iat: bool,
     max_age: Option<u64>,
     leeway: u64,
-}
-
-/// Returns the form that the word names.
-///
-/// # Errors
-/// `UnexpectedItem` if it names none.
-pub fn form(word: &str) -> Result<Form> {
-    match word {
-        "sign" => Ok(Form::Sign1),
-        "mac" => Ok(Form::Mac0),
-        "enc" => Ok(Form::Encrypt0),
-        _ => Err(CoseError::UnexpectedItem("word", "form")),
-    }
 }
 
 /// Returns what authenticates, by the word that names it.
@@ -123,7 +111,7 @@ impl<'a> Changes<'a> {
     /// - `OutOfMemory` if an allocation fails.
     fn make(&mut self, alloc: Global, word: &'a str) -> Result<()> {
         match word.split_once('=') {
-            Some(("plain", name)) => self.untagged_form = form(name)?,
+            Some(("plain", name)) => self.untagged_form = forms::read(name)?,
             Some(("by", name)) => self.authenticated_by = authentication(name)?,
             Some(("age", age)) => self.max_age = Some(unsigned(age)?),
             Some(("leeway", leeway)) => self.leeway = unsigned(leeway)?,

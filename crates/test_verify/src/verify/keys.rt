@@ -1,6 +1,6 @@
 //! Keys whose answers a line gives.
 
-use crate::refused::Refused;
+use crate::verify::refused::Refused;
 use coset::Result;
 use cwt_keys::{Keys, Sealed};
 use std::alloc::Global;

@@ -1,23 +1,11 @@
 //! Verified tokens that a line describes.
 
+use crate::forms;
 use coset::cwt::ClaimsSet;
-use coset::{CoseError, Header, ProtectedHeader, Result};
-use cwt_verify::{Form, VerifiedLayer, VerifiedToken};
+use coset::{Header, ProtectedHeader, Result};
+use cwt_verify::{VerifiedLayer, VerifiedToken};
 use std::alloc::Global;
 use test_lines::spelled::read;
-
-/// Returns the form that the word names.
-///
-/// # Errors
-/// `UnexpectedItem` if it names none.
-fn form(word: &str) -> Result<Form> {
-    match word {
-        "sign" => Ok(Form::Sign1),
-        "mac" => Ok(Form::Mac0),
-        "enc" => Ok(Form::Encrypt0),
-        _ => Err(CoseError::UnexpectedItem("word", "form")),
-    }
-}
 
 /// Returns the layer that a word describes: its form, and its headers if it has some.
 ///
@@ -27,7 +15,7 @@ fn form(word: &str) -> Result<Form> {
 fn layer<'k>(alloc: Global, word: &'k str) -> Result<VerifiedLayer<'k>> {
     let issuer: Option<&'k str> = None;
     let mut parts = word.split(':');
-    let form = form(parts.next().unwrap_or(""))?;
+    let form = forms::read(parts.next().unwrap_or(""))?;
     let mut protected = Header::new(alloc);
     let mut unprotected = Header::new(alloc);
     if let Some(map) = parts.next() {
