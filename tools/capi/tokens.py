@@ -1,6 +1,6 @@
 """The calls for the rows of test_verify: web tokens with the policies of their rows, and keys that fit layers.
 
-crates/test_verify/src/main.rt says what the words of a row mean. `asked` is what the caller's function was asked: the number of
+crates/test_verify/src/verify.rt says what the words of a row mean. `asked` is what the caller's function was asked: the number of
 layers, their proofs and structures, and the rest of each question."""
 import re
 

@@ -1,4 +1,4 @@
-"""The rows of coset_vectors and of test_gate with their results, and the rows of the RFCs' examples that `tools/c` needs."""
+"""The rows of programs with their results, and the rows of the RFCs' examples that `tools/c` needs."""
 from cbor import decode
 from sources import read
 

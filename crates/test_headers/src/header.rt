@@ -1,5 +1,7 @@
 //! Calls of `Header`.
 
+pub mod builder;
+
 use coset::{Header, Label, Result};
 use std::alloc::Global;
 use test_lines::rest::{and_pairs, told};

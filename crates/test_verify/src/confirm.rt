@@ -1,0 +1,50 @@
+//! Calls that read the confirmation claim and the nonces of verified tokens.
+//!
+//! `confirm LAYERS CLAIMS` prints the confirmation of a token.
+//!
+//! - LAYERS are the forms of the layers, from the outermost in, separated by commas: `sign`, `mac`
+//!   or `enc`. After a form may follow `:`, the protected header, `:` and the unprotected header.
+//! - CLAIMS are the claims in hexadecimal.
+//!
+//! The output is `none`, or the kind of the confirmation (`key`, `encrypt`, `encrypt0` or `kid`)
+//! and its bytes. For a claim that is refused, the output has both texts of the error.
+//!
+//! `nonces CLAIMS` prints `ok` and each nonce, or both texts of the error.
+
+mod tokens;
+mod told;
+
+use crate::confirm::tokens::token;
+use coset::Result;
+use cwt_confirm::{confirmation, nonces};
+use std::alloc::Global;
+use test_lines::mark;
+use test_lines::words::Words;
+
+/// Reads the confirmation of a token.
+///
+/// # Errors
+/// - A fault in the arguments.
+/// - `OutOfMemory` if an allocation fails.
+pub fn confirmed(alloc: Global, words: &Words<'_>) -> Result<String> {
+    let claims = words.bytes(alloc, 2)?;
+    let token = token(alloc, words.word(1), &claims)?;
+    mark::begin(alloc);
+    let answer = confirmation(alloc, &token);
+    mark::end(alloc);
+    told::confirmation(alloc, answer)
+}
+
+/// Reads the nonces of a token.
+///
+/// # Errors
+/// - A fault in the arguments.
+/// - `OutOfMemory` if an allocation fails.
+pub fn fresh(alloc: Global, words: &Words<'_>) -> Result<String> {
+    let claims = words.bytes(alloc, 1)?;
+    let token = token(alloc, "sign", &claims)?;
+    mark::begin(alloc);
+    let answer = nonces(alloc, &token);
+    mark::end(alloc);
+    told::nonces(alloc, answer)
+}
