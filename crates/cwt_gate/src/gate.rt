@@ -25,8 +25,8 @@ use std::alloc::Global;
 /// This function doesn't check any of the following. The caller must check them before it relies on
 /// the claims:
 ///
-/// - the algorithm (`alg`), and that the key is for this algorithm (RFC 8725, section 3.1). `verify`
-///   doesn't receive the headers.
+/// - the algorithm (`alg`), and that the key is for this algorithm (RFC 8725, section 3.1).
+///   `verify` doesn't receive the headers.
 /// - that each critical label (`crit`) is understood, and that no label is in both headers (RFC
 ///   9052, sections 3 and 3.1).
 /// - that the key belongs to the issuer (`iss`; RFC 8725, section 3.8).

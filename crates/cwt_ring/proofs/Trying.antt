@@ -1,5 +1,6 @@
 -- Keys that are tried in order.
-use Rattle.std.proofs.Common.{◌≡◌, ◌∙◌, ◌++◌, ◌+◌, ◌<◌, ℕ, List, [], ◌∷◌, get_or, length, take, drop, map, option_map, Option, Some, None, sym, ap, subst, append_assoc}
+use Rattle.std.proofs.Common.{◌≡◌, ◌∙◌, ◌++◌, ◌+◌, ◌<◌, ℕ, List, [], ◌∷◌}
+use Rattle.std.proofs.Common.{get_or, length, take, drop, map, option_map, Option, Some, None, sym, ap, subst, append_assoc}
 use Rattle.std.specs.List.{cons_option}
 use Rattle.std.proofs.lemmas.List.{append-nil, map-append}
 use Rattle.std.proofs.lemmas.List.Elements.{All-nil, All-push, filter_map-append}
@@ -36,7 +37,8 @@ issuer_more l is n i lt at =
 
 -- One more key, which fits or doesn't.
 step :
-    (l : SealView) (name : Name) (before : List (Name × Fitted)) (ks : List CoseKey) (n : ℕ) (k : CoseKey) (o : Option (List ℕ)) → n < length ks → k ≡ get_or ks n k
+    (l : SealView) (name : Name) (before : List (Name × Fitted)) (ks : List CoseKey) (n : ℕ) (k : CoseKey) (o : Option (List ℕ))
+    → n < length ks → k ≡ get_or ks n k
     → o ≡ fits (key_view k) l
     → before ++ fitting_of l name (map key_view (take (n + 1) ks))
     ≡ (before ++ fitting_of l name (map key_view (take n ks))) ++ cons_option (option_map (by_nonce name (key_view k)) o) []
@@ -50,7 +52,8 @@ step l name before ks n k o lt at is =
 
 -- All keys of an issuer that fit: those before one of them, that key, and those after it.
 around_key :
-    (l : SealView) (name : Name) (ks : List CoseKey) (n : ℕ) (k : CoseKey) (nonce : List ℕ) → n < length ks → k ≡ get_or ks n k → Some nonce ≡ fits (key_view k) l
+    (l : SealView) (name : Name) (ks : List CoseKey) (n : ℕ) (k : CoseKey) (nonce : List ℕ)
+    → n < length ks → k ≡ get_or ks n k → Some nonce ≡ fits (key_view k) l
     → fitting_of l name (map key_view ks)
     ≡ fitting_of l name (map key_view (take n ks)) ++ by_nonce name (key_view k) nonce ∷ fitting_of l name (map key_view (drop (n + 1) ks))
 around_key l name ks n k nonce lt at is =

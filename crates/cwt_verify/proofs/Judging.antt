@@ -130,7 +130,8 @@ module _ {E : Type 0} (k : KeysView E) (p : PolicyView) (now : ℤ) (b : List �
           → Agrees (verified_views o.layers) o.content.items true → first_true (reasons {E = E} p now (name_view issuer) x) ≡ None
           → token_view t ≡ record { known = x; issuer = name_view issuer; layers = verified_views o.layers } → VerifiesToken k p now b (Ok t)
       accepted t x named d agrees none same =
-          with_claims true x (λ vs y name. (first_true (reasons {E = E} p now name y) ≡ None) × (token_view t ≡ record { known = y; issuer = name; layers = vs }))
+          with_claims true x (λ vs y name. (first_true (reasons {E = E} p now name y) ≡ None)
+          × (token_view t ≡ record { known = y; issuer = name; layers = vs }))
           named d agrees (none, same)
 
       pub refused : (e : TokenError E) (x : KnownView) → is_typed p.types (verified_views o.layers) ≡ true → Describes known o.content.items x

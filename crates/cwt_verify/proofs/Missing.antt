@@ -1,5 +1,6 @@
 -- Required claims, one after another.
-use Rattle.std.proofs.Common.{◌≡◌, ◌<◌, ◌≤◌, ℕ, zero, suc, List, [], ◌∷◌, length, drop, slice_index_or, Bool, true, false, Option, Some, None, not, option_map, refl, ap, arith, if◌then◌else◌}
+use Rattle.std.proofs.Common.{◌≡◌, ◌<◌, ◌≤◌, ℕ, zero, suc, List, [], ◌∷◌, length, drop, slice_index_or}
+use Rattle.std.proofs.Common.{Bool, true, false, Option, Some, None, not, option_map, refl, ap, arith, if◌then◌else◌}
 use Rattle.coset.specs.Known.{KnownView}
 use Rattle.coset_iana.specs.declared.claims.CwtClaimName.{CwtClaimName}
 use Rattle.cwt_verify.specs.Claims.{first_true, has_claim, required_reasons}

@@ -1,7 +1,7 @@
 //! Verifies web tokens (RFC 8392): signed, with a MAC, or encrypted, and nested in any order.
 //!
-//! [`verify_token`] returns the claims of a token if the caller's [`Keys`] accept each of its layers
-//! and the token meets a [`Policy`]. The result also says whose key authenticated the token.
+//! [`verify_token`] returns the claims of a token if the caller's [`Keys`] accept each of its
+//! layers and the token meets a [`Policy`]. The result also says whose key authenticated the token.
 #![tactic(auto)]
 
 mod claims;

@@ -45,17 +45,17 @@ pub struct Policy<'a> {
     pub algorithms: &'a [Algorithm],
     /// The audiences that are accepted.
     pub audience: Audience<'a>,
-    /// The types that are accepted, such as `application/cwt`. If there is one, the protected header
-    /// of the innermost layer must name one of them (`typ`), as a media type or by its number (RFC
-    /// 9596). Upper and lower case are the same.
+    /// The types that are accepted, such as `application/cwt`. If there is one, the protected
+    /// header of the innermost layer must name one of them (`typ`), as a media type or by its
+    /// number (RFC 9596). Upper and lower case are the same.
     pub types: &'a [&'a str],
     /// The claims that a token must have.
     pub required: &'a [CwtClaimName],
     /// The labels that the caller understands, out of those that a header may list as critical (RFC
     /// 9052, section 3.1). The labels 1 to 6, 15 and 16 are always understood.
     pub critical: &'a [RegisteredLabelWithPrivate<HeaderParameter>],
-    /// The form of an outermost layer without a tag. Sender and verifier must agree on it (RFC 8392,
-    /// section 7.2, step 3).
+    /// The form of an outermost layer without a tag. Sender and verifier must agree on it (RFC
+    /// 8392, section 7.2, step 3).
     pub untagged_form: Form,
     /// The layers that authenticate the sender. A token must have at least one of them.
     pub authenticated_by: Authentication,

@@ -1,5 +1,5 @@
-//! `example_files FROM TO` reads the item of CBOR in the file FROM, and writes its shortest encoding
-//! to the file TO. If it can't, standard error says why, and the status is 1.
+//! `example_files FROM TO` reads the item of CBOR in the file FROM, and writes its shortest
+//! encoding to the file TO. If it can't, standard error says why, and the status is 1.
 #![tactic(auto)]
 
 use anyhow::{Context, Result, bail};

@@ -1,5 +1,5 @@
-//! Attestation tokens (EAT, RFC 9711), including those of PSA (RFC 9783). They are verified like web
-//! tokens.
+//! Attestation tokens (EAT, RFC 9711), including those of PSA (RFC 9783). They are verified like
+//! web tokens.
 
 ghost use Rattle.std.specs.Prelude.{◌≡◌, ◌↔◌, IsTrue, option_map};
 ghost use Rattle.coset_value.specs.View.{value_item, value_pairs};

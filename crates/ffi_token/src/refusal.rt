@@ -14,8 +14,8 @@ pub enum Refusal {
     Misuse,
     /// The token is refused, or a layer waits to be opened.
     ///
-    /// The error of the keys is the view of the layer that waits. Its texts are then in the caller's
-    /// memory.
+    /// The error of the keys is the view of the layer that waits. Its texts are then in the
+    /// caller's memory.
     Token(TokenError<LayerView>),
     /// The result doesn't fit, an allocation failed, or the token has no encoding.
     Answer(ffi_query::Refusal),

@@ -82,7 +82,8 @@ fn write_layer(alloc: Global, layer: &VerifiedLayer<'_>, out: &mut Vec<u8>) -> R
 
 /// Appends the arrays of the layers, one after the other.
 fn write_each(alloc: Global, layers: &[VerifiedLayer<'_>], out: &mut Vec<u8>) -> Result<()>
-    ensures ok { OnOk result (AppendsElements (images (λ l. layer_image (verified_view l)) layers.now)
+    ensures ok { OnOk result (AppendsElements
+        (images (λ l. layer_image (verified_view l)) layers.now)
         (length layers.now) out.old.items out.new.items) }
     ensures refused { IfErr result (HasNoImage
         (images (λ l. layer_image (verified_view l)) layers.now)) }

@@ -32,5 +32,6 @@ returns-else-len-lt2 c =
     let is : as_array v ≡ Some (value_items vs) =
     sym c.as_array.ensures ∙ ap (option_map (λ (items : Bor (Vec Value Global)). value_items items.now.items)) c.in-Some.is in
     let all : nonces_in v ≡ each_nonce (value_items c.deref.result.now) =
-    ap (by_array v) is ∙ (many vs (omega (arith, c.len.ensures, c.if-len-lt2.false, c.in-Some.values.now.ok.0)) ∙ ap (λ ws. each_nonce (value_items ws)) (sym c.deref.ensures.value)) in
+    ap (by_array v) is ∙ (many vs (omega (arith, c.len.ensures, c.if-len-lt2.false, c.in-Some.values.now.ok.0))
+    ∙ ap (λ ws. each_nonce (value_items ws)) (sym c.deref.ensures.value)) in
     subst (λ o. ReadsNonces o c.each_nonce.result) (sym all) c.each_nonce.ensures

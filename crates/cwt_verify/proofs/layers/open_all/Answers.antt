@@ -22,7 +22,8 @@ loop-alloc-init g c =
 pub returns-then-len-eq-MAX_LAYERS : goal.returns-then-len-eq-MAX_LAYERS
 returns-then-len-eq-MAX_LAYERS g c =
     too_deep (g.K.Keys.view c.args.keys.now) (policy_view c.args.policy.now) c.args.token.now c.loop-alloc.opened c.deref.result.now c.loop-alloc.invariant
-    c.deref.ensures.value (sym c.begins_with_tag.ensures ∙ c.loop-alloc-test.true) (omega (arith, c.len.ensures, c.if-len-eq-MAX_LAYERS.true, c.loop-alloc.opened.layers.ok.0))
+    c.deref.ensures.value (sym c.begins_with_tag.ensures ∙ c.loop-alloc-test.true)
+    (omega (arith, c.len.ensures, c.if-len-eq-MAX_LAYERS.true, c.loop-alloc.opened.layers.ok.0))
 
 pub returns-in_err-opened-2 : goal.returns-in_err-opened-2
 returns-in_err-opened-2 g c =
@@ -30,11 +31,13 @@ returns-in_err-opened-2 g c =
     let p = policy_view c.args.policy.now in
     let o = c.loop-alloc.opened in
     let e = c.in_err-opened-2.field-0.0 in
-    let more = ap begins_with_tag (c.deref-in-loop-alloc.ensures.value ∙ sym c.deref.ensures.value) ∙ (sym c.begins_with_tag.ensures ∙ c.loop-alloc-test.true) in
+    let more = ap begins_with_tag (c.deref-in-loop-alloc.ensures.value ∙ sym c.deref.ensures.value)
+    ∙ (sym c.begins_with_tag.ensures ∙ c.loop-alloc-test.true) in
     passed_on (OpensAll k p c.args.token.now) c.from_residual-in_err-opened-2.result e c.from_residual-in_err-opened-2.ensures.1
     (inner_refused k p c.args.token.now o (verified_views o.layers) (voucher_view o.voucher) c.deref-in-loop-alloc.result.now e c.loop-alloc.invariant
     c.deref-in-loop-alloc.ensures.value refl more
-    (below k p c.args.token.now o c.loop-alloc.invariant c.len.result (omega (arith, c.len.ensures, c.loop-alloc.opened.layers.ok.0)) c.if-len-eq-MAX_LAYERS.false) c.in_err-opened-2.ensures)
+    (below k p c.args.token.now o c.loop-alloc.invariant c.len.result
+    (omega (arith, c.len.ensures, c.loop-alloc.opened.layers.ok.0)) c.if-len-eq-MAX_LAYERS.false) c.in_err-opened-2.ensures)
 
 pub loop-alloc-smaller : goal.loop-alloc-smaller
 loop-alloc-smaller g c =
@@ -49,7 +52,9 @@ loop-alloc-preserved g c =
     let k = g.K.Keys.view c.args.keys.now in
     let p = policy_view c.args.policy.now in
     let o = c.loop-alloc.opened in
-    let more = ap begins_with_tag (c.deref-in-loop-alloc.ensures.value ∙ sym c.deref.ensures.value) ∙ (sym c.begins_with_tag.ensures ∙ c.loop-alloc-test.true) in
+    let more = ap begins_with_tag (c.deref-in-loop-alloc.ensures.value ∙ sym c.deref.ensures.value)
+    ∙ (sym c.begins_with_tag.ensures ∙ c.loop-alloc-test.true) in
     one_more k p c.args.token.now o c.in_ok-opened-2.opened (verified_views o.layers) (voucher_view o.voucher) c.deref-in-loop-alloc.result.now
     c.loop-alloc.invariant c.deref-in-loop-alloc.ensures.value refl refl more
-    (below k p c.args.token.now o c.loop-alloc.invariant c.len.result (omega (arith, c.len.ensures, c.loop-alloc.opened.layers.ok.0)) c.if-len-eq-MAX_LAYERS.false) c.in_ok-opened-2.ensures
+    (below k p c.args.token.now o c.loop-alloc.invariant c.len.result
+    (omega (arith, c.len.ensures, c.loop-alloc.opened.layers.ok.0)) c.if-len-eq-MAX_LAYERS.false) c.in_ok-opened-2.ensures

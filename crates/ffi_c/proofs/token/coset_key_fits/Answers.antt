@@ -18,9 +18,11 @@ returns-in-Some c =
     let new = c.key_fits.new.out in
     let r = c.key_fits.result in
     let answers : ReturnsFit c.args.key.now (parts_of f c.args.algorithm id iv partial proof) old new r =
-    subst (λ (n : ℤ). ReturnsFit c.args.key.now (parts_of f n id iv partial proof) old new r) (to_z-of_z w64 c.args.algorithm c.ranges.algorithm) c.key_fits.ensures in
+    subst (λ (n : ℤ). ReturnsFit c.args.key.now (parts_of f n id iv partial proof) old new r)
+    (to_z-of_z w64 c.args.algorithm c.ranges.algorithm) c.key_fits.ensures in
     let status : to_z w32 (of_z w32 c.reply_fit.result) ≡ fit_status r = search rules in
     let same = sym c.in-Some.is ∙ (c.within-2.ensures ∙ (c.within-query.ensures ∙ (c.within.ensures ∙ c.form_of.ensures))) in
     replied
-    (λ g. RepliesFit (ReturnsFit c.args.key.now (parts_of g c.args.algorithm id iv partial proof) old new) (to_z w32 (of_z w32 c.reply_fit.result)) c.reply_fit.new.len)
+    (λ g. RepliesFit (ReturnsFit c.args.key.now (parts_of g c.args.algorithm id iv partial proof) old new)
+    (to_z w32 (of_z w32 c.reply_fit.result)) c.reply_fit.new.len)
     _ _ f same (r, answers, status, c.reply_fit.ensures.number)

@@ -11,7 +11,8 @@ loop-text-preserved c =
     elim c.match-text_in.branch [
       | in-Some+in_ok-push w ↦
           ap (map (λ s. s.now)) (ap (λ v. v.items) w.names-is ∙ w.in_ok-push.ensures.items)
-          ∙ one_more ts i _ c.loop-text.names.items w.in-Some.name c.loop-text-test.true (ap option_copied (sym w.in-Some.is) ∙ c.text_in.ensures) c.loop-text.invariant
+          ∙ one_more ts i _ c.loop-text.names.items w.in-Some.name c.loop-text-test.true
+          (ap option_copied (sym w.in-Some.is) ∙ c.text_in.ensures) c.loop-text.invariant
       | in_default w ↦
           ap (λ v. map (λ s. s.now) v.items) w.names-is
           ∙ none_more ts i _ c.loop-text.names.items c.loop-text-test.true (ap option_copied (sym w.in_default.is) ∙ c.text_in.ensures) c.loop-text.invariant

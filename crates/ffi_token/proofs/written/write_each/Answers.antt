@@ -18,7 +18,8 @@ loop-layer-preserved c =
     let i = c.loop-layer.layer-index in
     subst (λ xs. AppendsElements (images (λ (x : VerifiedLayer). layer_image (verified_view x)) xs) (i + 1) c.args.out.now.items c.write_layer.new.out.items)
     (sym (one_taken all i c.layer-item.result (omega arith) c.layer-item.is))
-    (element-put (λ (x : VerifiedLayer). layer_image (verified_view x)) (take i all) c.layer-item.result c.loop-layer.invariant c.in_ok-write_layer.ensures.written)
+    (element-put (λ (x : VerifiedLayer). layer_image (verified_view x)) (take i all) c.layer-item.result
+    c.loop-layer.invariant c.in_ok-write_layer.ensures.written)
 
 pub returns-in_err-write_layer-clause-refused : goal.returns-in_err-write_layer-clause-refused
 returns-in_err-write_layer-clause-refused c =
