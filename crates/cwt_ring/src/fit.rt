@@ -94,7 +94,12 @@ fn nonce_by(row: Row, key: &CoseKey, sealed: &Sealed<'_>) -> Option<Nonce>
         ≡ nonce_by row.form row.nonce (key_view key.now) (seal_view sealed.now) }
 {
     match row.form {
-        Form::Encrypt0 | Form::Encrypt => nonce_for(sealed.iv(), sealed.partial_iv(), &key.base_iv, row.nonce),
+        Form::Encrypt0 | Form::Encrypt => nonce_for(
+            sealed.iv(),
+            sealed.partial_iv(),
+            &key.base_iv,
+            row.nonce,
+        ),
         _ => Some(Nonce::empty()),
     }
 }

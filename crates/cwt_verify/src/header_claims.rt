@@ -6,7 +6,8 @@ ghost use Rattle.coset.specs.Shape.{any};
 ghost use Rattle.coset.specs.View.{value_item, value_pairs};
 ghost use Rattle.coset.specs.Views.{header_view};
 ghost use Rattle.cwt_verify.specs.HeaderClaims.{Agrees, agrees, has_claims, has_pair, layer_agrees, layer_has_claims, pairs_in, part_agrees, part_has_claims};
-ghost use Rattle.cwt_verify.specs.Opening.{part_view, verified_view};
+ghost use Rattle.cwt_verify.specs.Layers.{part_view};
+ghost use Rattle.cwt_verify.specs.Opening.{verified_view};
 
 use crate::layer::{Part, VerifiedLayer};
 use coset::cbor::value::Value;

@@ -23,8 +23,8 @@ use crate::recipients::{open_encrypted_for, open_macced_for};
 use crate::signatures::open_signed_by;
 use coset::cbor::de::Pull;
 use coset::{
-    CoseEncrypt, CoseEncrypt0, CoseMac, CoseMac0, CoseRecipient, CoseSign, CoseSign1, CoseSignature,
-    FromPull, Header, ProtectedHeader, Result,
+    CoseEncrypt, CoseEncrypt0, CoseMac, CoseMac0, CoseRecipient, CoseSign, CoseSign1,
+    CoseSignature, FromPull, Header, ProtectedHeader, Result,
 };
 use coset_codec::traits::whole_item;
 use cwt_keys::{Form, Keys, Sealed};

@@ -127,8 +127,7 @@ pub(crate) fn open_signed_by<'k, K: Keys>(
         return Err(LayerError::NoPayload);
     };
     let signatures = mem::replace(&mut message.signatures, Vec::new(alloc));
-    let (signature, issuer) =
-        find_signature(alloc, policy, keys, &message, &content, signatures)?;
+    let (signature, issuer) = find_signature(alloc, policy, keys, &message, &content, signatures)?;
     Ok(OpenedLayer {
         content,
         verified: VerifiedLayer {
