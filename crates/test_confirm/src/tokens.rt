@@ -1,8 +1,8 @@
 //! Verified tokens that a line describes.
 
 use coset::cwt::ClaimsSet;
-use coset::{CoseError, Header, ProtectedHeader, Result};
-use cwt_verify::{Form, VerifiedLayer, VerifiedToken};
+use coset::{CoseError, CoseRecipient, CoseSignature, Header, ProtectedHeader, Result};
+use cwt_verify::{Form, Part, VerifiedLayer, VerifiedToken};
 use std::alloc::Global;
 use test_lines::spelled::read;
 
@@ -15,11 +15,33 @@ fn form(word: &str) -> Result<Form> {
         "sign" => Ok(Form::Sign1),
         "mac" => Ok(Form::Mac0),
         "enc" => Ok(Form::Encrypt0),
+        "signs" => Ok(Form::Sign),
+        "macs" => Ok(Form::Mac),
+        "encs" => Ok(Form::Encrypt),
         _ => Err(CoseError::UnexpectedItem("word", "form")),
     }
 }
 
-/// Returns the layer that a word describes: its form, and its headers if it has some.
+/// Returns the accepted part of a layer of this form, with this unprotected header.
+fn part(alloc: Global, form: Form, unprotected: Header) -> Part {
+    match form {
+        Form::Sign1 | Form::Mac0 | Form::Encrypt0 => Part::Whole,
+        Form::Sign => Part::Signature(CoseSignature {
+            protected: ProtectedHeader::new(alloc),
+            unprotected,
+            signature: Vec::new(alloc),
+        }),
+        Form::Mac | Form::Encrypt => Part::Recipient(CoseRecipient {
+            protected: ProtectedHeader::new(alloc),
+            unprotected,
+            ciphertext: None,
+            recipients: Vec::new(alloc),
+        }),
+    }
+}
+
+/// Returns the layer that a word describes: its form, its headers if it has some, and the
+/// unprotected header of its accepted part.
 ///
 /// # Errors
 /// - A fault in the word.
@@ -30,11 +52,15 @@ fn layer<'k>(alloc: Global, word: &'k str) -> Result<VerifiedLayer<'k>> {
     let form = form(parts.next().unwrap_or(""))?;
     let mut protected = Header::new(alloc);
     let mut unprotected = Header::new(alloc);
+    let mut inner = Header::new(alloc);
     if let Some(map) = parts.next() {
         protected = read(alloc, map)?;
     }
     if let Some(map) = parts.next() {
         unprotected = read(alloc, map)?;
+    }
+    if let Some(map) = parts.next() {
+        inner = read(alloc, map)?;
     }
     Ok(VerifiedLayer {
         form,
@@ -43,6 +69,7 @@ fn layer<'k>(alloc: Global, word: &'k str) -> Result<VerifiedLayer<'k>> {
             header: protected,
         },
         unprotected,
+        part: part(alloc, form, inner),
         issuer,
     })
 }
