@@ -11,7 +11,9 @@ use crate::error::{LayerError, TokenError};
 use crate::layer::{Layer, OpenedLayer, VerifiedLayer};
 use crate::policy::Policy;
 use coset::CoseError;
-use coset::laws::{each_signed_when_read, signed_when_read, structure_when_read};
+use coset::laws::{
+    each_signed_when_read, signed_when_read, structure_when_read, structures_when_read,
+};
 use cwt_keys::Keys;
 use std::alloc::Global;
 
@@ -56,6 +58,7 @@ fn open_one<'k, K: Keys>(
     signed_when_read();
     each_signed_when_read();
     structure_when_read();
+    structures_when_read();
     let lists = policy.accept_lists;
     let layer = match Layer::read(alloc, lists, policy.untagged_form, outermost, bytes) {
         Ok(layer) => layer,
