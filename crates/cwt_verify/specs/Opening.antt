@@ -92,7 +92,9 @@ RefusesLast k p l e = ⊥
 -- Asked about exactly this layer, or about its last signature, the keys may return the error `e`.
 abbrev pub Refuses : {E : Type 0} → KeysView E → PolicyView → LayerView → E → Type 0
 Refuses k p (signed_by m) e = RefusesLast k p (signed_by m) (Keys e)
-Refuses k p l e = (x : PartView) × Receives l x (λ c s. k.refuses s e)
+Refuses k p (macced_for m) e = (r : RecipientView) × Receives (macced_for m) (for_recipient r) (λ c s. k.refuses s e)
+Refuses k p (encrypted_for m) e = (r : RecipientView) × Receives (encrypted_for m) (for_recipient r) (λ c s. k.refuses s e)
+Refuses k p l e = Receives l whole (λ c s. k.refuses s e)
 
 -- The reason why a layer isn't opened whose headers the policy admits.
 abbrev pub RefusesContent : {E : Type 0} → KeysView E → PolicyView → LayerView → LayerError E → Type 0
@@ -103,14 +105,18 @@ RefusesContent k p l (Keys e) = Refuses k p l e
 RefusesContent k p l (Message e) = ⊥
 RefusesContent k p l e = RefusesLast k p l e
 
+-- There is no structure for the content `c`, or an allocation failed.
+abbrev pub LacksImage : LayerView → List ℕ → CoseError → Type 0
+LacksImage (signed m) c e = HasNoImage (sign1_structure m [] c) e
+LacksImage (macced m) c e = HasNoImage (mac0_structure m [] c) e
+LacksImage (encrypted m) c e = HasNoImage (encrypt0_structure m []) e
+LacksImage (signed_by m) c e = LacksStructure m.protected c m.signatures e
+LacksImage (macced_for m) c e = HasNoImage (mac_structure_of m [] c) e
+LacksImage (encrypted_for m) c e = HasNoImage (encrypt_structure_of m []) e
+
 -- There is no structure for what the layer carries, or an allocation failed.
 abbrev pub HasNoStructure : LayerView → CoseError → Type 0
-HasNoStructure (signed m) e = (c : List ℕ) × HasNoImage (sign1_structure m [] c) e
-HasNoStructure (macced m) e = (c : List ℕ) × HasNoImage (mac0_structure m [] c) e
-HasNoStructure (encrypted m) e = HasNoImage (encrypt0_structure m []) e
-HasNoStructure (signed_by m) e = (c : List ℕ) × LacksStructure m.protected c m.signatures e
-HasNoStructure (macced_for m) e = (c : List ℕ) × HasNoImage (mac_structure_of m [] c) e
-HasNoStructure (encrypted_for m) e = HasNoImage (encrypt_structure_of m []) e
+HasNoStructure l e = (c : List ℕ) × (attached l ≡ Some c) × LacksImage l c e
 
 -- ---- results
 
