@@ -10,9 +10,9 @@ use std::fmt;
 /// The reason why a layer of a token is refused. If several reasons apply, it is the first in this
 /// order.
 ///
-/// In a `COSE_Sign`, the headers of the message come first, and need no algorithm. If each signature
-/// is refused, the reason is the one against the last signature: the first in this order for its own
-/// headers.
+/// In a `COSE_Sign`, the headers of the message come first, and need no algorithm. If each
+/// signature is refused, the reason is the one against the last signature: the first in this order
+/// for its own headers.
 #[derive(Debug, Drop)]
 pub enum LayerError<E> {
     /// The bytes aren't a message of the layer's form, or an allocation failed.

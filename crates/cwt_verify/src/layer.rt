@@ -386,7 +386,8 @@ fn open_encrypted<'k, K: Keys>(
     keys: &'k K,
     mut message: CoseEncrypt0,
 ) -> std::result::Result<OpenedLayer<'k>, LayerError<K::Error>>
-    ensures { (p : PolicyView) → Opens (K.view keys.now) p (encrypted (encrypt0_view message)) result }
+    ensures { (p : PolicyView) → Opens (K.view keys.now) p (encrypted (encrypt0_view message))
+        result }
 {
     let Some(ciphertext) = message.ciphertext.take() else {
         return Err(LayerError::NoPayload);
