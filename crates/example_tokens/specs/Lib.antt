@@ -1,1 +1,2 @@
 pub mod VerifyFor
+pub mod Possession

@@ -1,5 +1,7 @@
-//! Verifies web tokens of several issuers, as docs/CALLING.md shows it.
+//! Verifies web tokens of several issuers, and that their senders possess a key, as docs/CALLING.md
+//! shows it.
 #![tactic(auto)]
 
 pub mod issuers;
+pub mod possession;
 pub mod verify_for;

@@ -3,7 +3,8 @@
 //!
 //! - `verify`: `verify` and `ring` verify a token. `fits` says whether a key fits a layer, and
 //!   `keys` reads a set of keys.
-//! - `confirm`: `confirm` and `nonces` read claims of a verified token.
+//! - `confirm`: `confirm` and `nonces` read claims of a verified token. `possess` checks a proof of
+//!   possession.
 //! - `gate`: `judge` judges a token by one signature.
 //!
 //! The answer to an empty line, and to a comment, which begins with `#`, is the line itself.
@@ -35,6 +36,7 @@ impl Calls for TokenCalls {
             "keys" => verify::readable_keys(alloc, words),
             "confirm" => confirm::confirmed(alloc, words),
             "nonces" => confirm::fresh(alloc, words),
+            "possess" => confirm::possessed(alloc, words),
             "judge" => gate::at_a_moment(alloc, words),
             _ => Err(unknown()),
         }

@@ -37,7 +37,7 @@
 //! `keys KEYSET` prints the keys of a set that can be read.
 
 mod changes;
-mod ciphers;
+pub mod ciphers;
 mod keys;
 mod refused;
 mod told;
