@@ -5,5 +5,6 @@ mod Missing
 mod Opened
 mod PairTests
 mod Reading
+mod Trying
 mod TypeNames
 mod Walking

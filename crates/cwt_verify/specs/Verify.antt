@@ -13,7 +13,7 @@ use Rattle.cwt_verify.specs.HeaderClaims.{agree}
 use Rattle.cwt_verify.specs.Opening.{VerifiedView, seen}
 use Rattle.cwt_verify.specs.Policy.{PolicyView}
 use Rattle.cwt_verify.specs.Types.{has_type}
-use Rattle.cwt_verify.specs.Walk.{Accepted, Arrives, IsTooDeep, RefusesAt, verified_views, voucher}
+use Rattle.cwt_verify.specs.Walk.{Arrives, IsTooDeep, RefusesAt, verified_views, voucher}
 use Rattle.cwt_verify.specs.declared.error.TokenError.{TokenError}
 use Rattle.cwt_verify.specs.declared.error.TokenError.TheVariants.{Layer, TooDeep, Unauthenticated, «Type», Claims, HeaderClaims}
 use Rattle.cwt_verify.specs.declared.token.VerifiedToken.{VerifiedToken}

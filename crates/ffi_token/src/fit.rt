@@ -75,6 +75,7 @@ fn nonce_for(alloc: Global, key: &CoseKey, parts: &Parts<'_>) -> Result<Option<V
         unprotected: &unprotected,
         proof: parts.proof,
         structure: &[],
+        recipient: None,
     };
     match fits(key, &sealed) {
         Some(nonce) => Ok(Some(Vec::from_slice(alloc, nonce.as_slice())?)),
