@@ -7,6 +7,7 @@ pub mod Moment
 pub mod Opening
 pub mod Policy
 pub mod Recipients
+pub mod Sealing
 pub mod Signatures
 pub mod Texts
 pub mod Types

@@ -20,6 +20,7 @@ use crate::admission::Headers;
 use crate::error::LayerError;
 use crate::policy::Policy;
 use crate::recipients::{open_encrypted_for, open_macced_for};
+use crate::sealing::parts;
 use crate::signatures::open_signed_by;
 use coset::cbor::de::Pull;
 use coset::{
@@ -27,7 +28,7 @@ use coset::{
     CoseSignature, FromPull, Header, ProtectedHeader, Result,
 };
 use coset_codec::traits::whole_item;
-use cwt_keys::{Form, Keys, Sealed};
+use cwt_keys::{Form, Keys};
 use std::alloc::Global;
 
 /// The tag of messages with one signature (RFC 8152, section 2).
@@ -319,14 +320,13 @@ fn open_signed<'k, K: Keys>(
         Ok(structure) => structure,
         Err(error) => return Err(LayerError::Message(error)),
     };
-    let sealed = Sealed {
-        form: Form::Sign1,
-        protected: &message.protected,
-        unprotected: &message.unprotected,
-        proof: &message.signature,
-        structure: &structure,
-        recipient: None,
-    };
+    let sealed = parts(
+        Form::Sign1,
+        &message.protected,
+        &message.unprotected,
+        &message.signature,
+        &structure,
+    );
     match keys.verify(&sealed) {
         Ok(issuer) => Ok(OpenedLayer {
             content,
@@ -357,14 +357,13 @@ fn open_macced<'k, K: Keys>(
         Ok(structure) => structure,
         Err(error) => return Err(LayerError::Message(error)),
     };
-    let sealed = Sealed {
-        form: Form::Mac0,
-        protected: &message.protected,
-        unprotected: &message.unprotected,
-        proof: &message.tag,
-        structure: &structure,
-        recipient: None,
-    };
+    let sealed = parts(
+        Form::Mac0,
+        &message.protected,
+        &message.unprotected,
+        &message.tag,
+        &structure,
+    );
     match keys.verify(&sealed) {
         Ok(issuer) => Ok(OpenedLayer {
             content,
@@ -396,14 +395,13 @@ fn open_encrypted<'k, K: Keys>(
         Ok(structure) => structure,
         Err(error) => return Err(LayerError::Message(error)),
     };
-    let sealed = Sealed {
-        form: Form::Encrypt0,
-        protected: &message.protected,
-        unprotected: &message.unprotected,
-        proof: &ciphertext,
-        structure: &structure,
-        recipient: None,
-    };
+    let sealed = parts(
+        Form::Encrypt0,
+        &message.protected,
+        &message.unprotected,
+        &ciphertext,
+        &structure,
+    );
     match keys.decrypt(alloc, &sealed) {
         Ok((content, issuer)) => Ok(OpenedLayer {
             content,

@@ -14,6 +14,7 @@ mod layers;
 mod moment;
 mod policy;
 mod recipients;
+mod sealing;
 mod signatures;
 mod token;
 mod types;

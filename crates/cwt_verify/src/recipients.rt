@@ -14,11 +14,12 @@ ghost use Rattle.cwt_verify.specs.Recipients.{has_zero_length, holds_key, is_dir
 
 use crate::error::LayerError;
 use crate::layer::{OpenedLayer, Part, VerifiedLayer};
+use crate::sealing::parts_for;
 use coset::iana::{Algorithm, EnumI64};
 use coset::{
     CoseEncrypt, CoseMac, CoseRecipient, Header, ProtectedHeader, RegisteredLabelWithPrivate,
 };
-use cwt_keys::{Form, Keys, Sealed};
+use cwt_keys::{Form, Keys};
 use std::alloc::Global;
 use std::mem;
 
@@ -116,14 +117,14 @@ pub(crate) fn open_macced_for<'k, K: Keys>(
         Ok(structure) => structure,
         Err(error) => return Err(LayerError::Message(error)),
     };
-    let sealed = Sealed {
-        form: Form::Mac,
-        protected: &message.protected,
-        unprotected: &message.unprotected,
-        proof: &message.tag,
-        structure: &structure,
-        recipient: Some(&recipient.unprotected),
-    };
+    let sealed = parts_for(
+        Form::Mac,
+        &message.protected,
+        &message.unprotected,
+        &message.tag,
+        &structure,
+        &recipient.unprotected,
+    );
     match keys.verify(&sealed) {
         Ok(issuer) => Ok(OpenedLayer {
             content,
@@ -160,14 +161,14 @@ pub(crate) fn open_encrypted_for<'k, K: Keys>(
         Ok(structure) => structure,
         Err(error) => return Err(LayerError::Message(error)),
     };
-    let sealed = Sealed {
-        form: Form::Encrypt,
-        protected: &message.protected,
-        unprotected: &message.unprotected,
-        proof: &ciphertext,
-        structure: &structure,
-        recipient: Some(&recipient.unprotected),
-    };
+    let sealed = parts_for(
+        Form::Encrypt,
+        &message.protected,
+        &message.unprotected,
+        &ciphertext,
+        &structure,
+        &recipient.unprotected,
+    );
     match keys.decrypt(alloc, &sealed) {
         Ok((content, issuer)) => Ok(OpenedLayer {
             content,

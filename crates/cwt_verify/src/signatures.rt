@@ -13,8 +13,9 @@ use crate::admission::{Headers, check_headers};
 use crate::error::LayerError;
 use crate::layer::{OpenedLayer, Part, VerifiedLayer};
 use crate::policy::Policy;
+use crate::sealing::parts;
 use coset::{CoseSign, CoseSignature};
-use cwt_keys::{Form, Keys, Sealed};
+use cwt_keys::{Form, Keys};
 use std::alloc::Global;
 use std::mem;
 
@@ -53,14 +54,13 @@ fn try_signature<'k, K: Keys>(
         Ok(structure) => structure,
         Err(error) => return Err(LayerError::Message(error)),
     };
-    let sealed = Sealed {
-        form: Form::Sign,
-        protected: &signature.protected,
-        unprotected: &signature.unprotected,
-        proof: &signature.signature,
-        structure: &structure,
-        recipient: None,
-    };
+    let sealed = parts(
+        Form::Sign,
+        &signature.protected,
+        &signature.unprotected,
+        &signature.signature,
+        &structure,
+    );
     match keys.verify(&sealed) {
         Ok(issuer) => Ok(issuer),
         Err(error) => Err(LayerError::Keys(error)),
