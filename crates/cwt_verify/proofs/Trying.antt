@@ -1,24 +1,60 @@
 -- The signatures of a list, tried in order.
-use Rattle.std.proofs.Common.{◌≡◌, ◌∙◌, ◌++◌, ℕ, List, [], ◌∷◌, true, false, true≢false, Err, ap, map, subst, sym}
+use Rattle.std.proofs.Common.{◌≡◌, ◌∙◌, ◌++◌, ℕ, List, [], ◌∷◌, true, false, true≢false, Some, Err, ap, append_assoc, map, subst, sym}
 use Rattle.std.proofs.lemmas.List.{map-append}
 use Rattle.std.proofs.lemmas.List.Elements.{All-nil, All-push}
+use Rattle.coset.specs.Calls.{IsStructure}
 use Rattle.coset.specs.CoseSignature.{CoseSignature}
 use Rattle.coset.specs.Headers.{ProtectedView, SignatureView}
+use Rattle.coset.specs.Sign.{SignView}
 use Rattle.coset.specs.Views.{signature_view}
 use Rattle.cwt_keys.specs.Keys.{KeysView, Name}
-use Rattle.cwt_verify.specs.Admission.{ChecksHeaders, signature_headers}
+use Rattle.cwt_keys.specs.Sealed.{SealView}
+use Rattle.cwt_verify.specs.Admission.{ChecksHeaders, HeadersView, IsAdmitted, signature_headers}
+use Rattle.cwt_verify.specs.Layers.{by_signature, signed_by}
+use Rattle.cwt_verify.specs.Opening.{HasContent, Opens}
 use Rattle.cwt_verify.specs.Policy.{PolicyView}
 use Rattle.cwt_verify.specs.Signatures.{AcceptsSignature, AreAllRefused, FindsSignature, IsFirst, IsLast, RefusesSignature, RefusesSignatures, TriesSignature}
-use Rattle.cwt_verify.specs.Signatures.{is_message}
+use Rattle.cwt_verify.specs.Signatures.{is_message, signature_item, signature_seal}
 use Rattle.cwt_verify.specs.declared.error.LayerError.{LayerError}
 use Rattle.cwt_verify.specs.declared.error.LayerError.TheVariants as reason
+
+-- Moves the first element of the rest to the end of the elements before it.
+pub moved : {A : Type 0} (ys : List A) (x : A) (old new all : List A) → ys ++ old ≡ all → old ≡ x ∷ new → (ys ++ x ∷ []) ++ new ≡ all
+moved ys x old new all e q = append_assoc ys (x ∷ []) new ∙ (ap (λ zs. ys ++ zs) (sym q) ∙ e)
 
 -- One of the elements of a list that were moved out, those before it and those after it.
 around : (ss : List SignatureView) (all before left : List CoseSignature) (s : CoseSignature) → all ≡ before ++ s ∷ left → ss ≡ map signature_view all
     → ss ≡ map signature_view before ++ signature_view s ∷ map signature_view left
 around ss all before left s are same = same ∙ (ap (map signature_view) are ∙ map-append signature_view before (s ∷ left))
 
+-- Each of the signatures of a message is refused, or one has no structure, or there are none.
+pub none_opened : {E : Type 0} (k : KeysView E) (p : PolicyView) (m : SignView) (c : List ℕ) (e : LayerError E) → m.payload ≡ Some c
+    → FindsSignature k p m.protected c m.signatures (Err e) → Opens k p (signed_by m) (Err e)
+none_opened k p m c (reason.Message e) is h = (c, is, h)
+none_opened k p m c reason.Headers is h = (c, is, h)
+none_opened k p m c (reason.Algorithm a) is h = (c, is, h)
+none_opened k p m c reason.Critical is h = (c, is, h)
+none_opened k p m c reason.Recipients is h = absurd h.last_refused
+none_opened k p m c reason.NoPayload is h = absurd h.last_refused
+none_opened k p m c reason.NoSignature is h = (c, is, h)
+none_opened k p m c (reason.Keys e) is h = (c, is, h)
+
+-- One of the signatures of a message is accepted.
+pub one_opened : {E : Type 0} (k : KeysView E) (p : PolicyView) (m : SignView) (c d : List ℕ) (s : SignatureView) (n : Name) → m.payload ≡ Some c → d ≡ c
+    → IsFirst k p m.protected d m.signatures s n → HasContent k p (signed_by m) c (by_signature s) n
+one_opened k p m c d s n is same h = (is, subst (λ q. IsFirst k p m.protected q m.signatures s n) same h)
+
 module _ {E : Type 0} (k : KeysView E) (p : PolicyView) (body : ProtectedView) (c : List ℕ) where
+  -- The keys accept the signature.
+  pub is_accepted : (s : SignatureView) (t : List ℕ) (n : Name) (h : HeadersView) (x : SealView) → h ≡ signature_headers s → IsAdmitted p h
+      → IsStructure (signature_item body c s) t → x ≡ signature_seal s t → k.accepts x n → AcceptsSignature k p body c n s
+  is_accepted s t n h x same admitted made is ok = (subst (IsAdmitted p) same admitted, t, made, subst (λ y. k.accepts y n) is ok)
+
+  -- The keys refuse the signature.
+  pub refused_by_keys : (s : SignatureView) (t : List ℕ) (e : E) (h : HeadersView) (x : SealView) → h ≡ signature_headers s → IsAdmitted p h
+      → IsStructure (signature_item body c s) t → x ≡ signature_seal s t → k.refuses x e → RefusesSignature k p body c s (reason.Keys e)
+  refused_by_keys s t e h x same admitted made is no_more = (subst (IsAdmitted p) same admitted, t, made, subst (λ y. k.refuses y e) is no_more)
+
   -- The policy doesn't admit the headers of the signature, or an allocation failed.
   pub turned_away : (s : SignatureView) (e : LayerError E) → ChecksHeaders p (signature_headers s) (Err e) → TriesSignature k p body c s (Err e)
   turned_away s (reason.Message e) h = λ n. absurd (n h)
