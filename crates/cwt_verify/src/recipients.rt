@@ -71,16 +71,22 @@ fn names_key(header: &Header) -> bool
 fn is_direct(recipient: &CoseRecipient) -> bool
     ensures { result ≡ is_direct (recipient_view recipient.now) }
 {
-    has_zero_length(&recipient.protected)
-        && names_key(&recipient.unprotected)
-        && !holds_key(&recipient.ciphertext)
-        && recipient.recipients.is_empty()
+    if !has_zero_length(&recipient.protected) {
+        return false;
+    }
+    if !names_key(&recipient.unprotected) {
+        return false;
+    }
+    if holds_key(&recipient.ciphertext) {
+        return false;
+    }
+    recipient.recipients.is_empty()
 }
 
 /// Returns the recipient, if there is exactly one, and if it is `direct` and names its key.
 fn only_direct(mut recipients: Vec<CoseRecipient>) -> Option<CoseRecipient>
     ensures { option_map recipient_view result
-        ≡ only_direct (map recipient_view recipients.entry.items) }
+        ≡ only_direct (map recipient_view recipients.items) }
 {
     if recipients.len() != 1 {
         return None;
