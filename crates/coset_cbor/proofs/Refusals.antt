@@ -22,7 +22,8 @@ use Rattle.coset_cbor.specs.ReadHeads.{EndsInHead}
 use Rattle.coset_cbor.specs.Reading.{item_from, item_at}
 use Rattle.std.proofs.lemmas.Bool.{ltb-true, false≢true}
 use Rattle.coset_cbor.specs.Faults.{is_even, Opens, in_array, in_map, in_tag, in_open_array, in_open_map, Due, at_start, innermost, outer, DueChunk, IsDue}
-use Rattle.coset_cbor.specs.Faults.{LacksContent, Ends, HasReservedInfo, HasNoLength, IsLowSimple, BeginsBreak, NoItem, NoChunk, IsBadTextString, IsNotSupported}
+use Rattle.coset_cbor.specs.Faults.{LacksContent, Ends, HasReservedInfo, HasNoLength, IsLowSimple, BeginsBreak, NoItem, NoChunk}
+use Rattle.coset_cbor.specs.Faults.{IsBadTextString, IsNotSupported}
 use Rattle.coset_cbor.specs.Faults.{Nests, FaultAt}
 use Rattle.coset_cbor.proofs.Again.{IsEncodingBelow, IsPairEncodingBelow, Begins, IsEncoding-begins, begins_append, IsHeaded-begins, type_low}
 use Rattle.coset_cbor.proofs.Takes.{IsBytes, bind_ok, chosen, ok_is, chunk_type, option_cases, number_head, none_head, head_takes}

@@ -56,7 +56,8 @@ one_more e es o true t d h others = (
 )
 one_more e es o false f d h others = (λ t. absurd (true≢false (sym t ∙ f)), others h)
 
-no_arrays : (es : List Named) (o : Option (List ℕ)) → IsDistinct same_label (keys_of es) → (optional tstr).describes (lookup (same_label aud) es) o → NoArrays es
+no_arrays : (es : List Named) (o : Option (List ℕ)) → IsDistinct same_label (keys_of es) → (optional tstr).describes (lookup (same_label aud) es) o
+    → NoArrays es
 unfolding IsDistinct
 no_arrays [] o d h = tt
 no_arrays (e ∷ es) o d h = one_more e es o (same_label aud e.0) refl d.0 h (no_arrays es o d.1)
