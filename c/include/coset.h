@@ -28,8 +28,10 @@
 extern "C" {
 #endif
 
-/* The version of this header. coset_version returns the version that is linked. */
+/* The version of this header, as a text and as a number for #if. The number has a byte for each number of the version.
+ * coset_version and coset_version_number return the version that is linked. */
 #define COSET_VERSION "0.4.2-rattle.7"
+#define COSET_VERSION_NUMBER 0x00040207
 
 /* Marks a call whose status must not be ignored, and whose arguments at these positions, counted from 1, must not be
  * NULL. */
@@ -583,6 +585,9 @@ coset_status coset_canonical_key(uint32_t order, const uint8_t *in, size_t in_le
 /* Returns the version that is linked: COSET_VERSION, followed by ` (unproved)` if the library was built without a
  * proof. */
 const char *coset_version(void);
+
+/* Returns the version that is linked as COSET_VERSION_NUMBER. A later version has a greater number. */
+uint32_t coset_version_number(void);
 
 /* Returns a few words for the status. Never NULL. */
 const char *coset_status_text(coset_status status);

@@ -7,8 +7,7 @@ import sys
 import tempfile
 
 import common
-from capi import names
-from capi.install import soname
+from capi import interface, names
 
 HERE = common.HERE
 WRAPPERS = f"{HERE}/c/wrappers"
@@ -135,7 +134,10 @@ def build(folder, library, is_quick, check):
         file.write("\n".join(declared) + "\n")
     text = compiled(folder, "text", "text.o", *(["-DCOSET_UNPROVED"] if is_quick else []))
     one = joined(folder, ".", *objects, compiled(folder, "heap", "heap.o"), text)
-    run(["cc", "-shared", "-o", "libcoset.so", one, f"-Wl,-z,relro,-z,now,-soname,{soname()}"], cwd=folder)
+    with open(os.path.join(folder, "symbols"), "w", encoding="utf-8") as file:
+        file.write(interface.script())
+    how = f"-Wl,-z,relro,-z,now,-soname,{interface.soname()},--version-script=symbols"
+    run(["cc", "-shared", "-o", "libcoset.so", one, how], cwd=folder)
     symbols = map(str.split, run(["nm", "-g", "--defined-only", "libcoset.a"], cwd=folder).splitlines())
     given = {words[2] for words in symbols if len(words) == 3}
     check(given == set(declared), f"libcoset.a gives {given}")

@@ -1,11 +1,11 @@
 """Makes calls through the programs of c/wrappers, and compares their output with the right results."""
 import subprocess
 
+from capi import interface
 from capi.kinds import CRITICAL, HEADERS, LAYER, MISSING, MISUSE, NAMES, NOT_ALLOWED, OK, REFUSED, SHORT
 from capi.messages import Told
 from capi.tokens import Refused, Verified
 from capi.vectors import token
-from sources import read
 
 # Calls that return places.
 SPANS = ("member_span", "pair_spans", "label_span", "item_span", "string_span")
@@ -182,7 +182,7 @@ def texts(is_quick, callers, check):
     `callers` are the programs' commands, each with the arguments of its run."""
     lines = [f"text {status}" for status in range(-1, len(NAMES) + 1)]
     told = [[text.partition("ok ")[2] or text for text in answers(command, lines, check, **more)] for command, more in callers]
-    version = read("VERSION").strip() + (" (unproved)" if is_quick else "")
+    version = interface.version() + (" (unproved)" if is_quick else "") + f" {interface.number():08x}"
     check(all(text.startswith(f"{version}: ") for text in told[0]), f"the library's version isn't {version}: {told[0][0]}")
     check(len(set(told[0])) == len(NAMES) + 1 and told[0][0] == told[0][-1], "two statuses have one text")
     check(all(it == told[0] for it in told), "the languages tell other texts")

@@ -78,7 +78,6 @@ def fields_in(pattern, before, text):
 def compare_constants(sources, check):
     declared, there = (dict(re.findall(CONSTANT, text)) for text in (header(), sources))
     check(declared == there, "the header's constants aren't those of the source")
-    check(f'#define COSET_VERSION "{read("VERSION").strip()}"' in header(), "the header's version isn't that of VERSION")
 
 
 def is_never_null(argument):

@@ -9,8 +9,8 @@ import subprocess
 import sys
 import tempfile
 
-from capi import (accepting, attack, calling, depths, examples, install, limits, memory, misuses, openers, openssl, rows,
-                  shapes, tokens)
+from capi import (accepting, attack, calling, depths, examples, install, interface, limits, memory, misuses, openers, openssl,
+                  rows, shapes, tokens, trying)
 from capi.building import HERE, WRAPPERS, build_callers, own_heap, run
 from capi.vectors import token
 from cbor import decode
@@ -30,7 +30,7 @@ def kept(given, folder, objects, wrong):
         return [shutil.copy(f"{folder}/own/libcoset.a", os.path.join(given.keep, f"lib{name}.a")), *wrong]
     paths = [shutil.copy(f"{folder}/libcoset.{it}", os.path.join(given.keep, f"lib{name}.{it}")) for it in ("a", "so")]
     # The name by which a program finds the shared library when it starts.
-    shared = os.path.join(given.keep, install.soname())
+    shared = os.path.join(given.keep, interface.soname())
     if os.path.lexists(shared):
         os.remove(shared)
     os.symlink(f"lib{name}.so", shared)
@@ -39,7 +39,8 @@ def kept(given, folder, objects, wrong):
 
 def installed(given, folder, _, wrong):
     """Installs the library below the folder of --install."""
-    return [*install.install(folder, given.install, given.quick, os.environ.get("DESTDIR", "")), *wrong]
+    below = os.environ.get("DESTDIR", "")
+    return [*install.install(folder, given.install, given.quick, below, given.libdir or "lib"), *wrong]
 
 
 def attacked(given, folder, objects, wrong):
@@ -73,7 +74,7 @@ def of_library(given, folder, objects, wrong):
     wrong.check(is_right, report)
     data, check = token()[0], wrong.check
     payload = decode(data)[0][2][1][2][1]
-    return [report, *install.tried(folder, given.quick, data, payload, check),
+    return [report, *trying.tried(folder, given.quick, data, payload, check),
             f"over a heap of the program's own {limits.refusals(own_heap(folder, objects, check), data, check)}"]
 
 

@@ -1,12 +1,24 @@
-# A version satisfies a request for an older version with the same first two numbers.
+# Says which requests this version meets (docs/C.md, 'Versions'). A request with four numbers: if it is a version with the
+# same interface, and no later one. A shorter request: if this version begins with it. A range: if this version is in it.
 set(PACKAGE_VERSION "@NUMBERS@")
-string(REGEX MATCH "^[0-9]+\\.[0-9]+" _coset_asked "${PACKAGE_FIND_VERSION}.0")
-if(PACKAGE_FIND_VERSION VERSION_GREATER PACKAGE_VERSION OR NOT _coset_asked STREQUAL "@SERIES@")
-  set(PACKAGE_VERSION_COMPATIBLE FALSE)
+set(PACKAGE_VERSION_COMPATIBLE FALSE)
+if(PACKAGE_FIND_VERSION_RANGE)
+  if(NOT PACKAGE_VERSION VERSION_LESS PACKAGE_FIND_VERSION_MIN AND
+     (PACKAGE_VERSION VERSION_LESS PACKAGE_FIND_VERSION_MAX OR
+      (PACKAGE_VERSION VERSION_EQUAL PACKAGE_FIND_VERSION_MAX AND PACKAGE_FIND_VERSION_RANGE_MAX STREQUAL "INCLUDE")))
+    set(PACKAGE_VERSION_COMPATIBLE TRUE)
+  endif()
+elseif(PACKAGE_FIND_VERSION_COUNT EQUAL 4)
+  if(NOT PACKAGE_FIND_VERSION VERSION_LESS "@OLDEST@" AND NOT PACKAGE_FIND_VERSION VERSION_GREATER PACKAGE_VERSION)
+    set(PACKAGE_VERSION_COMPATIBLE TRUE)
+  endif()
 else()
-  set(PACKAGE_VERSION_COMPATIBLE TRUE)
+  string(FIND "${PACKAGE_VERSION}." "${PACKAGE_FIND_VERSION}." _coset_place)
+  if(_coset_place EQUAL 0)
+    set(PACKAGE_VERSION_COMPATIBLE TRUE)
+  endif()
+  unset(_coset_place)
 endif()
 if(PACKAGE_FIND_VERSION VERSION_EQUAL PACKAGE_VERSION)
   set(PACKAGE_VERSION_EXACT TRUE)
 endif()
-unset(_coset_asked)

@@ -1,14 +1,14 @@
 # Defines the targets coset::coset, the shared library, and coset::static.
-get_filename_component(_coset_prefix "${CMAKE_CURRENT_LIST_DIR}/../../.." ABSOLUTE)
+get_filename_component(_coset_prefix "${CMAKE_CURRENT_LIST_DIR}/@UP@" ABSOLUTE)
 if(NOT TARGET coset::coset)
   add_library(coset::coset SHARED IMPORTED)
   set_target_properties(coset::coset PROPERTIES
-    IMPORTED_LOCATION "${_coset_prefix}/lib/libcoset.so.@NUMBERS@"
+    IMPORTED_LOCATION "${_coset_prefix}/@LIBDIR@/@FILE@"
     IMPORTED_SONAME "@SONAME@"
     INTERFACE_INCLUDE_DIRECTORIES "${_coset_prefix}/include")
   add_library(coset::static STATIC IMPORTED)
   set_target_properties(coset::static PROPERTIES
-    IMPORTED_LOCATION "${_coset_prefix}/lib/libcoset.a"
+    IMPORTED_LOCATION "${_coset_prefix}/@LIBDIR@/libcoset.a"
     INTERFACE_INCLUDE_DIRECTORIES "${_coset_prefix}/include")
 endif()
 set(coset_PROVED @PROVED@)

@@ -1,45 +1,86 @@
-"""Builds the wheel of the folder `coset` next to this file (PEP 517), with nothing but Python itself."""
+"""Builds the wheel and the source distribution of the folder `coset` next to this file (PEP 517), with Python alone.
+
+The wheel has a copy of the shared library. It is the one in the folder that the environment's COSET_LIB_DIR names, else the
+one that was installed with this file, else the one that pkg-config finds. With the setting `library=system` the wheel has no
+copy, and the package loads the system's @SONAME@.
+"""
 import base64
 import hashlib
+import io
 import os
+import subprocess
+import tarfile
 import zipfile
 
 HERE = os.path.dirname(os.path.abspath(__file__))
 NAME = "coset_rattle-@PYTHON_VERSION@"
-TAG = "py3-none-linux_x86_64"
-METADATA = """Metadata-Version: 2.1
-Name: coset-rattle
-Version: @PYTHON_VERSION@
-Summary: COSE and CBOR web tokens, read and made (RFC 8152, RFC 8392)@UNPROVED@
-Requires-Python: >=3.9
-License: Apache-2.0
-Provides-Extra: crypto
-Requires-Dist: cryptography; extra == "crypto"
-"""
-WHEEL = f"Wheel-Version: 1.0\nGenerator: coset\nRoot-Is-Purelib: false\nTag: {TAG}\n"
+INFO = f"{NAME}.dist-info"
+
+
+def _read(path):
+    with open(os.path.join(HERE, path), "rb") as file:
+        return file.read()
+
+
+def _package():
+    """Returns the paths of the package's files."""
+    names = sorted(os.listdir(os.path.join(HERE, "coset")))
+    return [f"coset/{name}" for name in names if name.endswith((".py", ".pyi", ".typed"))]
+
+
+def _folders():
+    """Yields the folders in which the shared library may be."""
+    if "COSET_LIB_DIR" in os.environ:
+        yield os.environ["COSET_LIB_DIR"]
+    yield os.path.join(HERE, "../../..", "@LIBDIR@")
+    try:
+        asked = subprocess.run(["pkg-config", "--variable=libdir", "coset"], capture_output=True, text=True, check=False)
+        yield asked.stdout.strip()
+    except OSError:
+        pass
+
+
+def _library():
+    """Returns the shared library's contents."""
+    for folder in _folders():
+        path = os.path.join(folder, "libcoset.so")
+        if os.path.exists(path):
+            return _read(os.path.abspath(path))
+    raise RuntimeError("there is no libcoset.so: name its folder in COSET_LIB_DIR, or give the setting library=system")
 
 
 def _digest(data):
     return base64.urlsafe_b64encode(hashlib.sha256(data).digest()).rstrip(b"=").decode()
 
 
-def _files():
-    """Yields each file of the wheel: its path there and its content."""
-    for name in sorted(os.listdir(os.path.join(HERE, "coset"))):
-        path = os.path.join(HERE, "coset", name)
-        if os.path.isfile(path):
-            with open(path, "rb") as file:
-                yield f"coset/{name}", file.read()
-    yield f"{NAME}.dist-info/METADATA", METADATA.encode()
-    yield f"{NAME}.dist-info/WHEEL", WHEEL.encode()
+def _about(tag):
+    """Returns the wheel's files with metadata."""
+    is_pure = str(tag.endswith("any")).lower()
+    wheel = f"Wheel-Version: 1.0\nGenerator: coset\nRoot-Is-Purelib: {is_pure}\nTag: {tag}\n"
+    return {f"{INFO}/METADATA": _read("PKG-INFO"), f"{INFO}/WHEEL": wheel.encode(), f"{INFO}/licenses/LICENSE": _read("LICENSE")}
 
 
 def build_wheel(wheel_directory, config_settings=None, metadata_directory=None):
-    name, record = f"{NAME}-{TAG}.whl", f"{NAME}.dist-info/RECORD"
-    with zipfile.ZipFile(os.path.join(wheel_directory, name), "w", zipfile.ZIP_DEFLATED) as wheel:
-        lines = []
-        for path, data in _files():
-            wheel.writestr(path, data)
-            lines.append(f"{path},sha256={_digest(data)},{len(data)}\n")
-        wheel.writestr(record, "".join(lines) + f"{record},,\n")
-    return name
+    is_bare = (config_settings or {}).get("library") == "system"
+    tag = "py3-none-any" if is_bare else "py3-none-linux_x86_64"
+    files = {path: _read(path) for path in _package()}
+    if not is_bare:
+        files["coset/libcoset.so"] = _library()
+    files |= _about(tag)
+    lines = [f"{path},sha256={_digest(data)},{len(data)}\n" for path, data in files.items()]
+    files[f"{INFO}/RECORD"] = "".join([*lines, f"{INFO}/RECORD,,\n"]).encode()
+    with zipfile.ZipFile(os.path.join(wheel_directory, f"{NAME}-{tag}.whl"), "w") as wheel:
+        for path, data in files.items():
+            info = zipfile.ZipInfo(path)
+            info.external_attr = 0o644 << 16
+            wheel.writestr(info, data, zipfile.ZIP_DEFLATED)
+    return f"{NAME}-{tag}.whl"
+
+
+def build_sdist(sdist_directory, config_settings=None):
+    with tarfile.open(os.path.join(sdist_directory, f"{NAME}.tar.gz"), "w:gz") as sdist:
+        for path in ["PKG-INFO", "LICENSE", "pyproject.toml", "backend.py", *_package()]:
+            data, info = _read(path), tarfile.TarInfo(f"{NAME}/{path}")
+            info.size = len(data)
+            sdist.addfile(info, io.BytesIO(data))
+    return f"{NAME}.tar.gz"

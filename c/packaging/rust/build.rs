@@ -7,7 +7,7 @@ use std::process::Command;
 
 fn folders() -> impl Iterator<Item = PathBuf> {
     let named = env::var_os("COSET_LIB_DIR").map(PathBuf::from);
-    let beside = PathBuf::from(env::var_os("CARGO_MANIFEST_DIR").unwrap_or_default()).join("../../../lib");
+    let beside = PathBuf::from(env::var_os("CARGO_MANIFEST_DIR").unwrap_or_default()).join("../../../@LIBDIR@");
     let asked = Command::new("pkg-config").args(["--variable=libdir", "coset"]).output().ok();
     let known = asked.filter(|it| it.status.success()).map(|it| PathBuf::from(String::from_utf8_lossy(&it.stdout).trim()));
     named.into_iter().chain([beside]).chain(known)

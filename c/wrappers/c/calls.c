@@ -382,7 +382,7 @@ int main(void) {
     }
     const char *call = word[0];
     if (!strcmp(call, "text")) {
-      printf("%s: %s\n", coset_version(), coset_status_text((coset_status)strtol(word[1], NULL, 0)));
+      printf("%s %08x: %s\n", coset_version(), coset_version_number(), coset_status_text((coset_status)strtol(word[1], NULL, 0)));
       continue;
     }
     uint32_t kind = (uint32_t)strtoul(word[1], NULL, 0), w4 = (uint32_t)strtoul(word[4], NULL, 0);

@@ -9,6 +9,8 @@ const char *coset_version(void) {
 #endif
 }
 
+uint32_t coset_version_number(void) { return COSET_VERSION_NUMBER; }
+
 const char *coset_status_text(coset_status status) {
   switch (status) {
   case COSET_OK: return "all is well";

@@ -231,7 +231,7 @@ def verification(given, *words):
 
 # Calls without a buffer for their result, and their results as texts.
 _WITHOUT_ROOM = {
-    "text": lambda status, _: f"{coset.version()}: {coset.status_text(status)}",
+    "text": lambda status, _: f"{coset.version()} {coset.version_number():08x}: {coset.status_text(status)}",
     "check": lambda kind, given: coset.check(kind, given) or "",
     "count": lambda kind, given: str(coset.count(kind, given)),
     "integer": lambda _, given: str(coset.integer(given)),

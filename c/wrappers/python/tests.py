@@ -31,7 +31,11 @@ assert (str(coset.InvalidToken(24)), f"{coset.Status.EXPIRED}", str(coset.Status
 
 for value in (True, False):
     assert type(raised(coset.put, coset.CLAIMS, b"", 1, value)) is TypeError
+    assert type(raised(coset.put, coset.CLAIMS, b"", "a", value)) is TypeError
 assert coset.put_encoded(coset.HEADER, b"", 99, b"\xf5") == b"\xa1\x18\x63\xf5"
+for value, item in ((7, b"\x07"), ("read", b"\x64read"), (b"\x01", b"\x41\x01")):
+    assert coset.put(coset.CLAIMS, b"", "scope", value) == b"\xa1\x65scope" + item
+    assert type(raised(coset.put, coset.CLAIMS, b"\xa1\x65scope\x07", "scope", value)) is coset.Fault
 
 for number in (0, 15, -1, (1 << 32) + 1, (1 << 64) + 1, 1.5, None):
     assert type(raised(coset.check, number, b"\x84")) is coset.Misuse, number

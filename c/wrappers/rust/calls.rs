@@ -423,7 +423,7 @@ fn answer(w: &[&str]) -> Result<String, Error> {
         "message" => return message(w),
         "spans" => return spans(w),
         "safe" => return safe(w),
-        "text" => return Ok(format!("{}: {}", coset::version(), coset::status_text(w[1].parse().unwrap()))),
+        "text" => return Ok(format!("{} {:08x}: {}", coset::version(), coset::version_number(), coset::status_text(w[1].parse().unwrap()))),
         _ => {}
     }
     if w[0] == "issued" {

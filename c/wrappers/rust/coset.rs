@@ -622,6 +622,7 @@ mod c {
         pub fn coset_token_open(rules: *const Rules, algorithms: *const i64, algorithms_len: usize, critical: *const i64, critical_len: usize, required: *const i64, required_len: usize, audiences: *const Text, audiences_len: usize, types: *const Text, types_len: usize, input: *const u8, input_len: usize, now: i64, opened: *const Opened, opened_len: usize, bytes: *const u8, bytes_len: usize, out: *mut u8, cap: usize, len: *mut usize, layer: *mut Layer) -> i32;
         pub fn coset_key_fits(key: *const u8, key_len: usize, form: u32, algorithm: i64, key_id: *const u8, key_id_len: usize, iv: *const u8, iv_len: usize, partial_iv: *const u8, partial_iv_len: usize, proof: *const u8, proof_len: usize, out: *mut u8, cap: usize, len: *mut usize) -> i32;
         pub fn coset_version() -> *const std::ffi::c_char;
+        pub fn coset_version_number() -> u32;
         pub fn coset_status_text(status: i32) -> *const std::ffi::c_char;
         pub fn coset_message(kind: u32, input: *const u8, input_len: usize, index: usize, external_aad: *const u8, external_aad_len: usize, has_detached: u32, detached: *const u8, detached_len: usize, known: *const i64, known_len: usize, out: *mut u8, cap: usize, len: *mut usize, view: *mut Message) -> i32;
         pub fn coset_check(kind: u32, input: *const u8, input_len: usize, offset: *mut usize) -> i32;
@@ -1339,6 +1340,11 @@ pub fn readable_keys(set: &[u8]) -> Result<Vec<&[u8]>, Error> {
 /// without a proof.
 pub fn version() -> &'static str {
     text(unsafe { c::coset_version() })
+}
+
+/// Returns that version with a byte for each of its four numbers, such as 0x00040207.
+pub fn version_number() -> u32 {
+    unsafe { c::coset_version_number() }
 }
 
 /// Returns a few words for a status of the header.

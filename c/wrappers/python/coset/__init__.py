@@ -1,5 +1,5 @@
-"""coset from Python: the calls of coset.h. The library is libcoset.so next to this file, or the file that the
-environment's COSET_LIBRARY names.
+"""coset from Python: the calls of coset.h. The library is the file that the environment's COSET_LIBRARY names, else
+libcoset.so next to this file, else the system's.
 
 A call takes bytes and returns bytes, a number or None. It raises one of these errors:
 - Fault if the bytes aren't an item of the kind, or the new item wouldn't be.
@@ -86,7 +86,7 @@ _FAULTS = {
 _NO_OFFSET = ctypes.c_size_t(-1).value
 
 _beside = os.path.join(os.path.dirname(os.path.abspath(__file__)), "libcoset.so")
-_library = ctypes.CDLL(os.environ.get("COSET_LIBRARY", _beside))
+_library = ctypes.CDLL(os.environ.get("COSET_LIBRARY") or (_beside if os.path.exists(_beside) else "libcoset.so.1"))
 
 
 class Fault(ValueError):
@@ -393,6 +393,7 @@ def _declare():
         call = getattr(_library, "coset_" + name)
         call.argtypes, call.restype = arguments, ctypes.c_int32
     _library.coset_version.argtypes, _library.coset_version.restype = [], at
+    _library.coset_version_number.argtypes, _library.coset_version_number.restype = [], ctypes.c_uint32
     _library.coset_status_text.argtypes, _library.coset_status_text.restype = [ctypes.c_int32], at
 
 
@@ -1017,17 +1018,24 @@ def version():
     return _library.coset_version().decode()
 
 
+def version_number():
+    """Returns the version of the library with a byte for each of its four numbers, such as 0x00040207."""
+    return _library.coset_version_number()
+
+
 def status_text(status):
     """Returns a few words for a status of the header."""
     return _library.coset_status_text(status).decode()
 
 
 def put(kind, data, name, value):
-    """Returns the header, key or claims set, which may be empty, with one more pair at its end. The pair is an integer
-    label, and an int, a str, or bytes. True and False are no integers of CBOR: `put_encoded` takes them, as b"\xf5"
-    and b"\xf4"."""
+    """Returns the header, key or claims set, which may be empty, with one more pair at its end. The pair is a label, an
+    int or a str, and an int, a str, or bytes. True and False are no integers of CBOR: `put_encoded` takes them, as
+    b"\xf5" and b"\xf4"."""
     if isinstance(value, bool):
         raise TypeError("True and False are no integers of CBOR: put_encoded takes their encodings")
+    if isinstance(name, str):
+        return put_all(kind, data, [(name, value)])
     given = _kind(kind), *_bytes(data), _int64(name)
     if isinstance(value, int):
         return _written(_library.coset_put_int, *given, _int64(value))
@@ -1123,3 +1131,10 @@ def write(kind, data):
 def canonical_key(order, data):
     """Returns the key in its shortest encoding, with its labels in this order: LEXICOGRAPHIC or LENGTH_FIRST."""
     return _written(_library.coset_canonical_key, _number(order), *_bytes(data))
+
+
+# The public names: those of this module, without the modules that it imports.
+__all__ = [
+    name for name, it in globals().items()
+    if name[0] != "_" and not isinstance(it, type(os)) and getattr(it, "__module__", __name__) == __name__
+]

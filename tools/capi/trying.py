@@ -1,0 +1,165 @@
+"""Tries the installation: builds a program in each way, and compares its output for a token."""
+import glob
+import os
+import re
+import shlex
+import shutil
+import subprocess
+import sys
+import tempfile
+
+from capi import hints, install, interface
+from sources import read
+
+# The folder of the libraries, as Debian names it.
+LIBDIR = "lib/x86_64-linux-gnu"
+# For version 0.4.2.9, if its interface began with 0.4.2.7: whether it meets a request to CMake, by the rule of docs/C.md.
+REQUESTS = {"0": True, "0.4": True, "0.4.2": True, "0.4.2.7": True, "0.4.2.8": True, "0.4.2.9": True, "0.4.2.6": False,
+            "0.4.2.10": False, "0.4.1": False, "0.4.3": False, "0.5": False, "1": False, "0.4.20": False,
+            "0.4...<0.5": True, "0.4.2.6...0.4.2.9": True, "0.4.2.7...0.4.2.8": False, "0.4.2.7...<0.4.2.9": False}
+
+
+def run(*command, **more):
+    """Returns the command's output, or a message if it fails."""
+    ran = subprocess.run(command, capture_output=True, text=True, errors="replace", check=False, **more)
+    return ran.stdout.strip() if ran.returncode == 0 else f"{' '.join(command)}: {ran.stdout[-1000:]}{ran.stderr[-1000:]}"
+
+
+def has(tool):
+    return shutil.which(tool) if tool != "pip" else not run(sys.executable, "-c", "import pip")
+
+
+def write_try(prefix, folder, path):
+    """Writes a file of c/packaging/try into the folder."""
+    found = install.words(prefix, LIBDIR, True)
+    install.place(folder, path, install.write(install.filled(read(f"c/packaging/try/{path}"), found)))
+
+
+# ---- a program in each way. Each function returns the outputs of its programs
+
+
+def by_pkg_config(prefix, folder, token):
+    where = {**os.environ, "PKG_CONFIG_PATH": f"{prefix}/{LIBDIR}/pkgconfig"}
+    told = run("pkg-config", f"--exact-version={interface.numbers()}", "coset", env=where)
+    flags = shlex.split(run("pkg-config", "--cflags", "--libs", "coset", env=where))
+    told += run("cc", "-Wall", "-Wextra", "-Werror", "try.c", *flags, f"-Wl,-rpath,{prefix}/{LIBDIR}", "-o", "try_pc", cwd=folder)
+    return [told or run(f"{folder}/try_pc", token)]
+
+
+def by_cmake(prefix, folder, token):
+    told = run("cmake", "-S", folder, "-B", f"{folder}/built", f"-DCMAKE_PREFIX_PATH={prefix}",
+               "-DCMAKE_LIBRARY_ARCHITECTURE=x86_64-linux-gnu")
+    told += run("cmake", "--build", f"{folder}/built")
+    found = [f"{folder}/built/{name}" for name in ("try_shared", "try_static")]
+    return [run(it, token) if os.path.exists(it) else told for it in found]
+
+
+def packed(prefix, folder, library):
+    """Returns what pip installs: the package's source, a source distribution, a wheel, and a wheel without the library."""
+    source, pip = f"{prefix}/share/coset/python", [sys.executable, "-m", "pip", "wheel", "--quiet", "--no-index"]
+    made = run(sys.executable, "-c", "import backend, sys; print(backend.build_sdist(sys.argv[1]))", folder, cwd=source)
+    told = run(*pip, "--wheel-dir", f"{folder}/wheel", f"{folder}/{made}", env={**os.environ, "COSET_LIB_DIR": library})
+    told += run(*pip, "--wheel-dir", f"{folder}/bare", "--config-settings", "library=system", source)
+    wheels = glob.glob(f"{folder}/wheel/*-linux_x86_64.whl") + glob.glob(f"{folder}/bare/*-none-any.whl")
+    return [source, f"{folder}/{made}", *(wheels if len(wheels) == 2 else [told])]
+
+
+def by_pip(prefix, folder, token):
+    library, told = f"{prefix}/{LIBDIR}", []
+    where = {name: value for name, value in os.environ.items() if name != "COSET_LIBRARY"}
+    for place, given in enumerate(packed(prefix, folder, library)):
+        site = f"{folder}/site{place}"
+        pip = [sys.executable, "-m", "pip", "install", "--quiet", "--disable-pip-version-check", "--no-index", "--target", site]
+        # From the last one the package loads the library that the system finds.
+        has_none = {"LD_LIBRARY_PATH": library} if place == 3 else {}
+        failed = run(*pip, given, env={**where, "COSET_LIB_DIR": library})
+        told.append(failed or run(sys.executable, f"{folder}/try.py", token, env={**where, "PYTHONPATH": site, **has_none}))
+        about = run(sys.executable, f"{folder}/about.py", env={**where, "PYTHONPATH": site, **has_none})
+        told += [] if about == wanted_about() else [about]
+    return told
+
+
+def wanted_about():
+    """Returns the lines of about.py: the package's metadata, and its public names."""
+    names = sorted(name for name in hints.public(read("c/packaging/python/coset/__init__.pyi")) if "." not in name)
+    version = f"{interface.version().replace('-', '+', 1)} 0x{interface.number():08x}"
+    return "\n".join([version, "COSE and CBOR web tokens, read and made (RFC 8152, RFC 8392)", "Apache-2.0 >=3.9", " ".join(names)])
+
+
+def by_cargo(_, folder, token):
+    where = {**os.environ, "RUSTFLAGS": "-D warnings", "CARGO_TARGET_DIR": f"{folder}/target"}
+    told = run("cargo", "build", "--offline", "--quiet", cwd=folder, env=where)
+    return [told or run(f"{folder}/target/debug/try", token)]
+
+
+WAYS = {"pkg-config": by_pkg_config, "cmake": by_cmake, "pip": by_pip, "cargo": by_cargo}
+
+
+# ---- the installation itself
+
+
+def try_symbols(prefix, check):
+    """Checks that the shared library has its name, and gives the functions alone, each with its version."""
+    shared = f"{prefix}/{LIBDIR}/libcoset.so"
+    given = run("nm", "-D", "--defined-only", "--format=just-symbols", shared).split()
+    wanted = [f"{name}@@COSET_{since}" for since, functions in interface.symbols().items() for name in functions]
+    check(sorted(given) == sorted([*wanted, *(f"COSET_{since}" for since in interface.symbols())]), f"libcoset.so gives {given}")
+    told = run("objdump", "-p", shared)
+    check(re.findall(r"SONAME +(\S+)", told) == [interface.soname()], f"libcoset.so isn't {interface.soname()}: {told}")
+
+
+def try_requests(folder, check):
+    """Checks which versions meet a request to CMake."""
+    if not shutil.which("cmake"):
+        return
+    with open(f"{folder}/requested.cmake", "w", encoding="utf-8") as file:
+        file.write(install.filled(read("c/packaging/cmake/coset-config-version.cmake"), {"NUMBERS": "0.4.2.9", "OLDEST": "0.4.2.7"}))
+        file.write('message(STATUS "${PACKAGE_VERSION_COMPATIBLE}")\n')
+    for request, is_met in REQUESTS.items():
+        least, _, most = request.partition("...")
+        asked = {"": least, "_COUNT": least.count(".") + 1, "_MIN": least, "_RANGE": request if most else "",
+                 "_MAX": most.strip("<"), "_RANGE_MAX": "EXCLUDE" if "<" in most else "INCLUDE"}
+        told = run("cmake", *(f"-DPACKAGE_FIND_VERSION{name}={value}" for name, value in asked.items()), "-P", f"{folder}/requested.cmake")
+        check(told == f"-- {str(is_met).upper()}", f"0.4.2.9 for the request {request}: {told}")
+
+
+def found_below(folder, without=""):
+    """Returns the paths of all files below a folder, from there. Files in folders named `without` are left out."""
+    return {os.path.relpath(f"{place}/{name}", folder) for place, _, names in os.walk(folder) for name in names
+            if os.path.basename(place) != without}
+
+
+def try_list(library, prefix, quick, check):
+    """Checks the list of installed files, that a new installation removes old files, and that nothing remains at the end."""
+    stale = "share/coset/old/stale"
+    compiled = "__pycache__"
+    check(set(install.listed(prefix)) == found_below(prefix, compiled), "the list of installed files isn't what there is")
+    install.place(prefix, stale, install.write(""))
+    with open(f"{prefix}/{install.LIST}", "a", encoding="utf-8") as file:
+        file.write(f"{stale}\n../outside\n")
+    install.install(library, prefix, quick, libdir=LIBDIR)
+    check(set(install.listed(prefix)) == found_below(prefix, compiled), "a file of an earlier installation remains")
+    install.uninstall(prefix)
+    check(not found_below(prefix), f"after --uninstall there remain {found_below(prefix)}")
+    check(not glob.glob(f"{prefix}/share/coset*"), "after --uninstall a folder of coset remains")
+
+
+def tried(library, quick, token, payload, check):
+    """Installs the library in a temporary folder with a space in its name, and builds a program in each way for which the tool is
+    installed.
+
+    Checks that each program prints the payload of the token. Returns which ways were tried."""
+    with tempfile.TemporaryDirectory() as above, tempfile.TemporaryDirectory() as folder:
+        prefix = f"{above}/pre fix"
+        install.install(library, prefix, quick, libdir=LIBDIR)
+        check(not hints.unlike(), f"the type hints of {', '.join(hints.unlike())} aren't those of the wrapper")
+        try_symbols(prefix, check)
+        try_requests(folder, check)
+        for path in ("try.c", "try.py", "about.py", "CMakeLists.txt", "Cargo.toml", "src/main.rs"):
+            write_try(prefix, folder, path)
+        there = [tool for tool in WAYS if has(tool)]
+        for tool in there:
+            told = WAYS[tool](prefix, folder, token.hex())
+            check(set(told) == {payload.hex()}, f"installed for {tool}: {told}")
+        try_list(library, prefix, quick, check)
+    return [f"installed for {', '.join(there)}", *(f"there is no {tool}" for tool in WAYS if tool not in there)]
