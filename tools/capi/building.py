@@ -172,10 +172,7 @@ def compile_headers():
 
 
 def build_callers(folder, objects):
-    """Builds the programs that make calls."""
+    """Builds the program in C that makes calls."""
     sources = [f"{WRAPPERS}/c/{name}.c" for name in ("calls", "token", "verify", "issue")]
     run(["cc", *FLAGS, "-o", "calls_c", *sources, "text.o", *objects], cwd=folder)
     compile_headers()
-    if shutil.which("rustc"):
-        words = ["--edition", "2024", "-O", "-D", "warnings", "-L", folder, "-l", "static=coset"]
-        run(["rustc", *words, "-o", "calls_rust", f"{WRAPPERS}/rust/calls.rs"], cwd=folder)

@@ -10,7 +10,7 @@ import sys
 import tempfile
 
 from capi import (accepting, attack, calling, depths, examples, install, interface, limits, memory, misuses, openers, openssl,
-                  rows, shapes, tokens, trying)
+                  rows, rust, shapes, tokens, trying)
 from capi.building import HERE, WRAPPERS, build_callers, own_heap, run
 from capi.vectors import token
 from cbor import decode
@@ -74,8 +74,10 @@ def of_library(given, folder, objects, wrong):
     wrong.check(is_right, report)
     data, check = token()[0], wrong.check
     payload = decode(data)[0][2][1][2][1]
-    return [report, *trying.tried(folder, given.quick, data, payload, check),
-            f"over a heap of the program's own {limits.refusals(own_heap(folder, objects, check), data, check)}"]
+    told = [report, *trying.tried(folder, given.quick, data, payload, check)]
+    refused = limits.refusals(own_heap(folder, objects, check), data, check)
+    versions = rust.without_std(folder, data, payload, check)
+    return [*told, f"over a heap of the program's own {refused}", *(f"also by Rust {it}" for it in versions)]
 
 
 def with_memory(given, folder, lines, wanted, wrong):
@@ -128,6 +130,7 @@ def by_wrappers(given, folder, calls, wrong):
 def called(given, folder, objects, wrong):
     """Makes all calls. Returns the first faults, and a line with the numbers of calls."""
     build_callers(folder, objects)
+    rust.build_calls(folder)
     calls = [*rows.calls(wrong.check), *examples.calls(wrong.check), *tokens.calls()]
     of_tokens = [*tokens.calls_from_c(wrong.check), *openers.calls(), *shapes.calls()]
     every = [*calls, *of_tokens, *misuses.calls(), *depths.calls(calls)]

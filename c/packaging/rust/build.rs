@@ -3,7 +3,7 @@
 
 use std::env;
 use std::path::PathBuf;
-use std::process::Command;
+use std::process::{exit, Command};
 
 fn folders() -> impl Iterator<Item = PathBuf> {
     let named = env::var_os("COSET_LIB_DIR").map(PathBuf::from);
@@ -14,13 +14,20 @@ fn folders() -> impl Iterator<Item = PathBuf> {
 }
 
 fn main() {
-    println!("cargo::rerun-if-env-changed=COSET_LIB_DIR");
+    println!("cargo:rerun-if-env-changed=COSET_LIB_DIR");
+    println!("cargo:rustc-check-cfg=cfg(coset_no_std)");
+    if env::var_os("CARGO_FEATURE_STD").is_none() {
+        println!("cargo:rustc-cfg=coset_no_std");
+    }
     match folders().find(|it| it.join("libcoset.a").exists()) {
         Some(folder) => {
-            println!("cargo::rerun-if-changed={}", folder.join("libcoset.a").display());
-            println!("cargo::rustc-link-search=native={}", folder.display());
-            println!("cargo::rustc-link-lib=static=coset");
+            println!("cargo:rerun-if-changed={}", folder.join("libcoset.a").display());
+            println!("cargo:rustc-link-search=native={}", folder.display());
+            println!("cargo:rustc-link-lib=static=coset");
         }
-        None => println!("cargo::error=there is no libcoset.a: name its folder in COSET_LIB_DIR"),
+        None => {
+            eprintln!("there is no libcoset.a: name its folder in COSET_LIB_DIR");
+            exit(1);
+        }
     }
 }

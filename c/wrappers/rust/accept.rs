@@ -16,7 +16,7 @@ pub fn accepted(
     }
     let policy = TokenPolicy { algorithms: &[-7], audience: &["coap://light.example.com"], leeway: 60, ..TokenPolicy::default() };
     coset::verify_token(token, now, &policy, |layer| {
-        let is_of = |key| coset::key_fits(key, layer).is_ok_and(|nonce| nonce.is_some()) && verify(key, layer);
+        let is_of = |key| matches!(coset::key_fits(key, layer), Ok(Some(_))) && verify(key, layer);
         let (name, _) = keys.iter().find(|(_, key)| is_of(key))?;
         Some(Opened { plaintext: None, issuer: Some(name) })
     })

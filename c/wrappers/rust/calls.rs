@@ -303,8 +303,8 @@ impl Ring {
     fn answer(&mut self, layer: &Layer<'_>) -> Option<(Vec<u8>, Option<String>)> {
         for (name, keys) in self.sets.clone() {
             for key in coset::readable_keys(&keys).unwrap() {
-                let Some(nonce) = coset::key_fits(key, layer).unwrap() else { continue };
-                if let Some(plaintext) = self.accepted(key, &nonce, layer) {
+                let nonce = coset::key_fits(key, layer).unwrap();
+                if let Some(plaintext) = nonce.and_then(|nonce| self.accepted(key, &nonce, layer)) {
                     return Some((plaintext, name));
                 }
             }

@@ -1,10 +1,20 @@
-//! Safe Rust over `coset.h`: a file to copy into a program that links `libcoset.a`.
+//! Safe Rust over `coset.h`, for programs that link `libcoset.a`: a crate, or a module of a program
+//! of edition 2021. If `cfg(coset_no_std)` is set, the crate needs only `core` and `alloc`.
 //!
 //! The header and docs/C.md say what each call promises. The calls find out the lengths of their
 //! results.
+#![cfg_attr(coset_no_std, no_std)]
+#![allow(unexpected_cfgs)]
 
-use std::borrow::Cow;
-use std::fmt;
+extern crate alloc;
+
+use alloc::borrow::Cow;
+use alloc::string::String;
+use alloc::vec;
+use alloc::vec::Vec;
+use core::fmt;
+use core::mem::size_of;
+use core::ops::Range;
 
 /// Whether a message is under its tag (RFC 8152, section 2).
 #[derive(Clone, Copy, Debug, PartialEq, Eq)]
@@ -375,6 +385,7 @@ impl fmt::Display for InvalidToken {
     }
 }
 
+#[cfg(not(coset_no_std))]
 impl std::error::Error for InvalidToken {}
 
 /// The reason why a call failed.
@@ -485,6 +496,7 @@ impl fmt::Display for Error {
     }
 }
 
+#[cfg(not(coset_no_std))]
 impl std::error::Error for Error {}
 
 /// The reason why bytes aren't an item of a kind. `offset` is where they stop being one item of
@@ -618,12 +630,12 @@ mod c {
         pub partial_iv_len: usize,
     }
 
-    unsafe extern "C" {
+    extern "C" {
         pub fn coset_token_open(rules: *const Rules, algorithms: *const i64, algorithms_len: usize, critical: *const i64, critical_len: usize, required: *const i64, required_len: usize, audiences: *const Text, audiences_len: usize, types: *const Text, types_len: usize, input: *const u8, input_len: usize, now: i64, opened: *const Opened, opened_len: usize, bytes: *const u8, bytes_len: usize, out: *mut u8, cap: usize, len: *mut usize, layer: *mut Layer) -> i32;
         pub fn coset_key_fits(key: *const u8, key_len: usize, form: u32, algorithm: i64, key_id: *const u8, key_id_len: usize, iv: *const u8, iv_len: usize, partial_iv: *const u8, partial_iv_len: usize, proof: *const u8, proof_len: usize, out: *mut u8, cap: usize, len: *mut usize) -> i32;
-        pub fn coset_version() -> *const std::ffi::c_char;
+        pub fn coset_version() -> *const u8;
         pub fn coset_version_number() -> u32;
-        pub fn coset_status_text(status: i32) -> *const std::ffi::c_char;
+        pub fn coset_status_text(status: i32) -> *const u8;
         pub fn coset_message(kind: u32, input: *const u8, input_len: usize, index: usize, external_aad: *const u8, external_aad_len: usize, has_detached: u32, detached: *const u8, detached_len: usize, known: *const i64, known_len: usize, out: *mut u8, cap: usize, len: *mut usize, view: *mut Message) -> i32;
         pub fn coset_check(kind: u32, input: *const u8, input_len: usize, offset: *mut usize) -> i32;
         pub fn coset_count(kind: u32, input: *const u8, input_len: usize, count: *mut usize) -> i32;
@@ -728,16 +740,27 @@ fn answer<T>(status: i32, value: T) -> Result<T, Error> {
     })
 }
 
-/// Returns the bytes that a call writes. The call receives a buffer, the buffer's size, and a place
-/// for the length. If the buffer is too small, the call is made again.
-fn written(call: impl Fn(*mut u8, usize, *mut usize) -> i32) -> Result<Vec<u8>, Error> {
-    let mut out = vec![0; 256];
+/// Returns the room that is enough for these parts and a result's own heads and texts. An array or
+/// a map of more than 255 elements may have a longer head than before, by at most a byte in 128.
+fn room(parts: &[&[u8]]) -> usize {
+    let sum: usize = parts.iter().map(|part| part.len()).sum();
+    sum + sum / 128 + 128
+}
+
+/// Returns the bytes that a call writes. The call receives a buffer of this size, the size, and a
+/// place for the length. If the buffer is too small all the same, the call is made again.
+fn written(room: usize, call: impl Fn(*mut u8, usize, *mut usize) -> i32) -> Result<Vec<u8>, Error> {
+    const UNUSED: usize = 4096;
+    let mut out = vec![0; room];
     loop {
         let mut len = 0;
         match call(out.as_mut_ptr(), out.len(), &mut len) {
             SHORT => out.resize(len, 0),
             status => {
                 out.truncate(len);
+                if out.capacity() - len > UNUSED {
+                    out.shrink_to_fit();
+                }
                 return answer(status, out);
             }
         }
@@ -763,21 +786,21 @@ pub fn count(kind: Kind, bytes: &[u8]) -> Result<usize, Error> {
 
 /// Returns a part of an item.
 pub fn part(kind: Kind, bytes: &[u8], part: Part) -> Result<Vec<u8>, Error> {
-    written(|out, cap, len| unsafe { c::coset_part(kind.number(), bytes.as_ptr(), bytes.len(), part as u32, out, cap, len) })
+    written(room(&[bytes]), |out, cap, len| unsafe { c::coset_part(kind.number(), bytes.as_ptr(), bytes.len(), part as u32, out, cap, len) })
 }
 
 /// Returns the signature, recipient, key or element at `index`, in its shortest encoding.
 pub fn member(kind: Kind, bytes: &[u8], index: usize) -> Result<Vec<u8>, Error> {
-    written(|out, cap, len| unsafe { c::coset_member(kind.number(), bytes.as_ptr(), bytes.len(), index, out, cap, len) })
+    written(room(&[bytes]), |out, cap, len| unsafe { c::coset_member(kind.number(), bytes.as_ptr(), bytes.len(), index, out, cap, len) })
 }
 
 /// Returns the range that a span names.
-fn range(span: &c::Span) -> std::ops::Range<usize> {
+fn range(span: &c::Span) -> Range<usize> {
     span.at..span.at + span.len
 }
 
 /// Returns the place of the signature, recipient, key or array element at `index`, as received.
-pub fn member_span(kind: Kind, bytes: &[u8], index: usize) -> Result<std::ops::Range<usize>, Error> {
+pub fn member_span(kind: Kind, bytes: &[u8], index: usize) -> Result<Range<usize>, Error> {
     let mut span = c::Span::default();
     let status = unsafe { c::coset_member_span(kind.number(), bytes.as_ptr(), bytes.len(), index, &mut span) };
     answer(status, range(&span))
@@ -785,14 +808,14 @@ pub fn member_span(kind: Kind, bytes: &[u8], index: usize) -> Result<std::ops::R
 
 /// Returns the places of the label and value of a map's pair, as received. `index` counts the pairs
 /// from 0.
-pub fn pair_spans(kind: Kind, bytes: &[u8], index: usize) -> Result<(std::ops::Range<usize>, std::ops::Range<usize>), Error> {
+pub fn pair_spans(kind: Kind, bytes: &[u8], index: usize) -> Result<(Range<usize>, Range<usize>), Error> {
     let (mut label, mut value) = (c::Span::default(), c::Span::default());
     let status = unsafe { c::coset_pair_spans(kind.number(), bytes.as_ptr(), bytes.len(), index, &mut label, &mut value) };
     answer(status, (range(&label), range(&value)))
 }
 
 /// Returns the place of an integer label's value, as received.
-pub fn label_span(kind: Kind, bytes: &[u8], map: Map, label: i64) -> Result<std::ops::Range<usize>, Error> {
+pub fn label_span(kind: Kind, bytes: &[u8], map: Map, label: i64) -> Result<Range<usize>, Error> {
     let mut span = c::Span::default();
     let status = unsafe { c::coset_label_span(kind.number(), bytes.as_ptr(), bytes.len(), map as u32, label, &mut span) };
     answer(status, range(&span))
@@ -801,14 +824,14 @@ pub fn label_span(kind: Kind, bytes: &[u8], map: Map, label: i64) -> Result<std:
 /// Returns the place of the item that begins at the offset `at`, as received.
 ///
 /// The next element of an array, or the next label or value of a map, begins where the item ends.
-pub fn item_span(bytes: &[u8], at: usize) -> Result<std::ops::Range<usize>, Error> {
+pub fn item_span(bytes: &[u8], at: usize) -> Result<Range<usize>, Error> {
     let mut span = c::Span::default();
     let status = unsafe { c::coset_item_span(bytes.as_ptr(), bytes.len(), at, &mut span) };
     answer(status, range(&span))
 }
 
 /// Returns the place of a string's content. The string has definite length.
-pub fn string_span(bytes: &[u8]) -> Result<std::ops::Range<usize>, Error> {
+pub fn string_span(bytes: &[u8]) -> Result<Range<usize>, Error> {
     let mut span = c::Span::default();
     let status = unsafe { c::coset_string_span(bytes.as_ptr(), bytes.len(), &mut span) };
     answer(status, range(&span))
@@ -823,12 +846,12 @@ pub fn integer(bytes: &[u8]) -> Result<i64, Error> {
 
 /// Returns the value of an integer label, in its shortest encoding.
 pub fn label(kind: Kind, bytes: &[u8], map: Map, label: i64) -> Result<Vec<u8>, Error> {
-    written(|out, cap, len| unsafe { c::coset_label(kind.number(), bytes.as_ptr(), bytes.len(), map as u32, label, out, cap, len) })
+    written(room(&[bytes]), |out, cap, len| unsafe { c::coset_label(kind.number(), bytes.as_ptr(), bytes.len(), map as u32, label, out, cap, len) })
 }
 
 /// Returns the content of the byte string or text string that is the value of an integer label.
 pub fn label_bytes(kind: Kind, bytes: &[u8], map: Map, label: i64) -> Result<Vec<u8>, Error> {
-    written(|out, cap, len| unsafe { c::coset_label_bytes(kind.number(), bytes.as_ptr(), bytes.len(), map as u32, label, out, cap, len) })
+    written(room(&[bytes]), |out, cap, len| unsafe { c::coset_label_bytes(kind.number(), bytes.as_ptr(), bytes.len(), map as u32, label, out, cap, len) })
 }
 
 /// Returns the integer that is the value of an integer label.
@@ -840,24 +863,24 @@ pub fn label_int(kind: Kind, bytes: &[u8], map: Map, label: i64) -> Result<i64, 
 
 /// Returns the value of a text label, in its shortest encoding.
 pub fn text_label(kind: Kind, bytes: &[u8], map: Map, label: &str) -> Result<Vec<u8>, Error> {
-    written(|out, cap, len| unsafe {
+    written(room(&[bytes]), |out, cap, len| unsafe {
         c::coset_text_label(kind.number(), bytes.as_ptr(), bytes.len(), map as u32, label.as_ptr(), label.len(), out, cap, len)
     })
 }
 
 /// Returns the label of a map's pair, in its shortest encoding. `index` counts the pairs from 0.
 pub fn label_at(kind: Kind, bytes: &[u8], index: usize) -> Result<Vec<u8>, Error> {
-    written(|out, cap, len| unsafe { c::coset_label_at(kind.number(), bytes.as_ptr(), bytes.len(), index, out, cap, len) })
+    written(room(&[bytes]), |out, cap, len| unsafe { c::coset_label_at(kind.number(), bytes.as_ptr(), bytes.len(), index, out, cap, len) })
 }
 
 /// Returns the value of a map's pair, in its shortest encoding. `index` counts the pairs from 0.
 pub fn value_at(kind: Kind, bytes: &[u8], index: usize) -> Result<Vec<u8>, Error> {
-    written(|out, cap, len| unsafe { c::coset_value_at(kind.number(), bytes.as_ptr(), bytes.len(), index, out, cap, len) })
+    written(room(&[bytes]), |out, cap, len| unsafe { c::coset_value_at(kind.number(), bytes.as_ptr(), bytes.len(), index, out, cap, len) })
 }
 
 /// Returns the first key of a set with this identifier, in its shortest encoding.
 pub fn key_of(set: &[u8], key_id: &[u8]) -> Result<Vec<u8>, Error> {
-    written(|out, cap, len| unsafe { c::coset_key_of(set.as_ptr(), set.len(), key_id.as_ptr(), key_id.len(), out, cap, len) })
+    written(room(&[set]), |out, cap, len| unsafe { c::coset_key_of(set.as_ptr(), set.len(), key_id.as_ptr(), key_id.len(), out, cap, len) })
 }
 
 /// Returns the structure that is signed (by the signer at `index`), authenticated, or goes with the
@@ -866,7 +889,7 @@ pub fn key_of(set: &[u8], key_id: &[u8]) -> Result<Vec<u8>, Error> {
 /// Its payload is the one that the message carries. If the message carries none, it is `detached`.
 pub fn structure(kind: Kind, bytes: &[u8], index: usize, external_aad: &[u8], detached: Option<&[u8]>) -> Result<Vec<u8>, Error> {
     let content = detached.unwrap_or_default();
-    written(|out, cap, len| unsafe {
+    written(room(&[bytes, external_aad, content]), |out, cap, len| unsafe {
         c::coset_structure(
             kind.number(), bytes.as_ptr(), bytes.len(), index, external_aad.as_ptr(), external_aad.len(),
             detached.is_some().into(), content.as_ptr(), content.len(), out, cap, len,
@@ -879,7 +902,7 @@ pub fn structure(kind: Kind, bytes: &[u8], index: usize, external_aad: &[u8], de
 /// `holder` is the kind that contains the recipient: an encrypted message with recipients, a
 /// message with a MAC and recipients, or a recipient.
 pub fn recipient_structure(holder: Kind, bytes: &[u8], external_aad: &[u8]) -> Result<Vec<u8>, Error> {
-    written(|out, cap, len| unsafe {
+    written(room(&[bytes, external_aad]), |out, cap, len| unsafe {
         c::coset_recipient_structure(
             holder.number(), bytes.as_ptr(), bytes.len(), external_aad.as_ptr(), external_aad.len(), out, cap, len,
         )
@@ -900,7 +923,7 @@ pub fn countersign_structure(
     detached: Option<&[u8]>,
 ) -> Result<Vec<u8>, Error> {
     let content = detached.unwrap_or_default();
-    written(|out, cap, len| unsafe {
+    written(room(&[bytes, signer, external_aad, content]), |out, cap, len| unsafe {
         c::coset_countersign_structure(
             kind.number(), bytes.as_ptr(), bytes.len(), countersignature as i64, signer.as_ptr(), signer.len(),
             external_aad.as_ptr(), external_aad.len(), detached.is_some().into(), content.as_ptr(), content.len(), out, cap, len,
@@ -927,7 +950,7 @@ pub fn sign1(form: Form, bytes: &[u8], external_aad: &[u8], detached: Option<&[u
     let (kind, content) = (Kind::Sign1(form).number(), detached.unwrap_or_default());
     let mut view = c::View::default();
     let told: *mut c::View = &mut view;
-    let mut signed = written(|out, cap, len| unsafe {
+    let mut signed = written(room(&[bytes, bytes, external_aad, content]), |out, cap, len| unsafe {
         c::coset_sign1(
             kind, bytes.as_ptr(), bytes.len(), external_aad.as_ptr(), external_aad.len(), detached.is_some().into(),
             content.as_ptr(), content.len(), out, cap, len, told,
@@ -957,7 +980,7 @@ pub fn message(kind: Kind, bytes: &[u8], index: usize, policy: &Policy<'_>) -> R
     let (aad, known) = (policy.external_aad, policy.critical);
     let mut view = c::Message::default();
     let told: *mut c::Message = &mut view;
-    let mut input = written(|out, cap, len| unsafe {
+    let mut input = written(room(&[bytes, bytes, aad, content]), |out, cap, len| unsafe {
         c::coset_message(
             kind, bytes.as_ptr(), bytes.len(), index, aad.as_ptr(), aad.len(), policy.detached.is_some().into(),
             content.as_ptr(), content.len(), known.as_ptr(), known.len(), out, cap, len, told,
@@ -985,7 +1008,7 @@ pub fn message_lent<'a>(kind: Kind, bytes: &'a [u8], index: usize, policy: &Poli
     let (aad, known) = (policy.external_aad, policy.critical);
     let mut view = c::Spans::default();
     let told: *mut c::Spans = &mut view;
-    let mut input = written(|out, cap, len| unsafe {
+    let mut input = written(room(&[bytes, bytes, aad, content]), |out, cap, len| unsafe {
         c::coset_message_spans(
             kind, bytes.as_ptr(), bytes.len(), index, aad.as_ptr(), aad.len(), policy.detached.is_some().into(),
             content.as_ptr(), content.len(), known.as_ptr(), known.len(), out, cap, len, told,
@@ -1016,12 +1039,10 @@ impl LentMessage<'_> {
         if self.critical == Critical::NotUnderstood {
             return Err(Error::Critical);
         }
-        let Algorithm::Int(algorithm) = self.algorithm else {
-            return Err(Error::NotAllowed);
+        let algorithm = match self.algorithm {
+            Algorithm::Int(algorithm) if policy.algorithms.contains(&algorithm) => algorithm,
+            _ => return Err(Error::NotAllowed),
         };
-        if !policy.algorithms.contains(&algorithm) {
-            return Err(Error::NotAllowed);
-        }
         let key_id = self.key_id_map.map(|_| self.key_id.as_ref());
         Ok(Question { algorithm, key_id, key_id_map: self.key_id_map, input: &self.input, proof })
     }
@@ -1160,31 +1181,31 @@ fn name_of(item: &[u8]) -> Result<Option<String>, Error> {
 impl VerifiedToken {
     /// Reads the array that the library wrote.
     fn of(bytes: &[u8]) -> Result<VerifiedToken, Error> {
-        let [claims, audience, others, issuer, layers] = elements(bytes)?[..] else {
-            return Err(Error::Unexpected);
-        };
-        Ok(VerifiedToken {
-            claims: claims.to_vec(),
-            audience: elements(audience)?.into_iter().map(text_of).collect::<Result<_, _>>()?,
-            others: others.to_vec(),
-            issuer: name_of(issuer)?,
-            layers: elements(layers)?.into_iter().map(VerifiedLayer::of).collect::<Result<_, _>>()?,
-        })
+        match elements(bytes)?[..] {
+            [claims, audience, others, issuer, layers] => Ok(VerifiedToken {
+                claims: claims.to_vec(),
+                audience: elements(audience)?.into_iter().map(text_of).collect::<Result<_, _>>()?,
+                others: others.to_vec(),
+                issuer: name_of(issuer)?,
+                layers: elements(layers)?.into_iter().map(VerifiedLayer::of).collect::<Result<_, _>>()?,
+            }),
+            _ => Err(Error::Unexpected),
+        }
     }
 }
 
 impl VerifiedLayer {
     /// Reads the array of a layer that the library wrote.
     fn of(bytes: &[u8]) -> Result<VerifiedLayer, Error> {
-        let [form, protected, unprotected, issuer] = elements(bytes)?[..] else {
-            return Err(Error::Unexpected);
-        };
-        Ok(VerifiedLayer {
-            form: token_form(integer(form)?),
-            protected: protected[string_span(protected)?].to_vec(),
-            unprotected: unprotected.to_vec(),
-            issuer: name_of(issuer)?,
-        })
+        match elements(bytes)?[..] {
+            [form, protected, unprotected, issuer] => Ok(VerifiedLayer {
+                form: token_form(integer(form)?),
+                protected: protected[string_span(protected)?].to_vec(),
+                unprotected: unprotected.to_vec(),
+                issuer: name_of(issuer)?,
+            }),
+            _ => Err(Error::Unexpected),
+        }
     }
 }
 
@@ -1262,6 +1283,7 @@ pub fn verify_token<'a>(
     let rules = policy.rules()?;
     let texts = |names: &[&str]| names.iter().map(|name| c::Text { chars: name.as_ptr(), len: name.len() }).collect::<Vec<_>>();
     let (audiences, types, numbers) = (texts(policy.audience), texts(policy.types), [policy.algorithms, policy.critical, policy.required]);
+    // The token has its headers, its claims and `aud` once more; the issuers' names follow below.
     let (mut handed, mut out) = (Handed::default(), vec![0; 2 * token.len() + 512]);
     loop {
         let (mut len, mut view) = (0, c::Layer::default());
@@ -1281,6 +1303,8 @@ pub fn verify_token<'a>(
                 let refused = |reason| InvalidToken { reason, layer: Some(layer.index), number: None };
                 let accepted = opener(&layer).ok_or(refused(Error::Refused))?;
                 handed.push(&layer, &accepted).map_err(refused)?;
+                let inner = accepted.plaintext.map_or(0, |bytes| bytes.len().saturating_sub(layer.proof.len()));
+                out.resize(out.len() + 2 * (inner + accepted.issuer.map_or(0, str::len)), 0);
             }
             status => return Err(InvalidToken::of(status, &view)),
         }
@@ -1353,14 +1377,27 @@ pub fn status_text(status: i32) -> &'static str {
 }
 
 /// Returns the text that the library points to. It lives as long as the program.
-fn text(at: *const std::ffi::c_char) -> &'static str {
-    unsafe { std::ffi::CStr::from_ptr(at) }.to_str().unwrap_or_default()
+fn text(at: *const u8) -> &'static str {
+    let mut len = 0;
+    // SAFETY: a byte of zero ends the text, and it never changes.
+    let bytes = unsafe {
+        while *at.add(len) != 0 {
+            len += 1;
+        }
+        core::slice::from_raw_parts(at, len)
+    };
+    core::str::from_utf8(bytes).unwrap_or_default()
 }
 
 /// Returns the header, key or claims set, which may be empty, with one more pair at its end.
 pub fn put(kind: Kind, map: &[u8], label: i64, value: Entry<'_>) -> Result<Vec<u8>, Error> {
     let (kind, at, n) = (kind.number(), map.as_ptr(), map.len());
-    written(|out, cap, len| unsafe {
+    let bytes = match value {
+        Entry::Int(_) => b"",
+        Entry::Bytes(value) | Entry::Encoded(value) => value,
+        Entry::Text(value) => value.as_bytes(),
+    };
+    written(room(&[map, bytes]), |out, cap, len| unsafe {
         match value {
             Entry::Int(value) => c::coset_put_int(kind, at, n, label, value, out, cap, len),
             Entry::Bytes(value) => c::coset_put_bytes(kind, at, n, label, value.as_ptr(), value.len(), out, cap, len),
@@ -1394,7 +1431,8 @@ pub fn put_all<'a, L: Copy + Into<Label<'a>>>(kind: Kind, map: &[u8], pairs: &[(
             c::Pair { label_form, value_form, label, label_at, label_len, value, value_at, value_len }
         })
         .collect();
-    written(|out, cap, len| unsafe {
+    // A label and a value have a head each.
+    written(room(&[map, &bytes]) + 18 * told.len(), |out, cap, len| unsafe {
         c::coset_put_all(
             kind.number(), map.as_ptr(), map.len(), told.as_ptr(), told.len(), bytes.as_ptr(), bytes.len(), out, cap, len,
         )
@@ -1403,7 +1441,7 @@ pub fn put_all<'a, L: Copy + Into<Label<'a>>>(kind: Kind, map: &[u8], pairs: &[(
 
 /// Does the same as `put` with a text label, and a value as its encoding.
 pub fn put_text_label(kind: Kind, map: &[u8], label: &str, value: &[u8]) -> Result<Vec<u8>, Error> {
-    written(|out, cap, len| unsafe {
+    written(room(&[map, label.as_bytes(), value]), |out, cap, len| unsafe {
         c::coset_put_text_label(
             kind.number(), map.as_ptr(), map.len(), label.as_ptr(), label.len(), value.as_ptr(), value.len(), out, cap, len,
         )
@@ -1415,7 +1453,7 @@ pub fn put_text_label(kind: Kind, map: &[u8], label: &str, value: &[u8]) -> Resu
 /// `protected` is the message's protected header. `signer` is the signer's, for `Kind::Sign` alone.
 /// `content` is the payload. A structure that goes with a ciphertext has none.
 pub fn structure_of(kind: Kind, protected: &[u8], signer: &[u8], external_aad: &[u8], content: &[u8]) -> Result<Vec<u8>, Error> {
-    written(|out, cap, len| unsafe {
+    written(room(&[protected, signer, external_aad, content]), |out, cap, len| unsafe {
         c::coset_structure_of(
             kind.number(), protected.as_ptr(), protected.len(), signer.as_ptr(), signer.len(), external_aad.as_ptr(),
             external_aad.len(), content.as_ptr(), content.len(), out, cap, len,
@@ -1426,7 +1464,7 @@ pub fn structure_of(kind: Kind, protected: &[u8], signer: &[u8], external_aad: &
 /// Does the same as `recipient_structure` for a recipient that isn't made yet, from its protected
 /// header.
 pub fn recipient_structure_of(holder: Kind, protected: &[u8], external_aad: &[u8]) -> Result<Vec<u8>, Error> {
-    written(|out, cap, len| unsafe {
+    written(room(&[protected, external_aad]), |out, cap, len| unsafe {
         c::coset_recipient_structure_of(
             holder.number(), protected.as_ptr(), protected.len(), external_aad.as_ptr(), external_aad.len(), out, cap, len,
         )
@@ -1440,7 +1478,7 @@ pub fn recipient_structure_of(holder: Kind, protected: &[u8], external_aad: &[u8
 /// signers or recipients is made without them.
 pub fn make(kind: Kind, protected: &[u8], unprotected: &[u8], content: Option<&[u8]>, proof: &[u8]) -> Result<Vec<u8>, Error> {
     let held = content.unwrap_or_default();
-    written(|out, cap, len| unsafe {
+    written(room(&[protected, unprotected, held, proof]), |out, cap, len| unsafe {
         c::coset_make(
             kind.number(), protected.as_ptr(), protected.len(), unprotected.as_ptr(), unprotected.len(),
             content.is_some().into(), held.as_ptr(), held.len(), proof.as_ptr(), proof.len(), out, cap, len,
@@ -1451,17 +1489,17 @@ pub fn make(kind: Kind, protected: &[u8], unprotected: &[u8], content: Option<&[
 /// Returns the item with one more signature, recipient, key or element at the end. A set of keys or
 /// an array may begin with no bytes.
 pub fn add(kind: Kind, bytes: &[u8], member: &[u8]) -> Result<Vec<u8>, Error> {
-    written(|out, cap, len| unsafe {
+    written(room(&[bytes, member]), |out, cap, len| unsafe {
         c::coset_add(kind.number(), bytes.as_ptr(), bytes.len(), member.as_ptr(), member.len(), out, cap, len)
     })
 }
 
 /// Returns the item in its shortest encoding.
 pub fn write(kind: Kind, bytes: &[u8]) -> Result<Vec<u8>, Error> {
-    written(|out, cap, len| unsafe { c::coset_write(kind.number(), bytes.as_ptr(), bytes.len(), out, cap, len) })
+    written(room(&[bytes]), |out, cap, len| unsafe { c::coset_write(kind.number(), bytes.as_ptr(), bytes.len(), out, cap, len) })
 }
 
 /// Returns the key in its shortest encoding, with its labels in this order.
 pub fn canonical_key(order: Order, bytes: &[u8]) -> Result<Vec<u8>, Error> {
-    written(|out, cap, len| unsafe { c::coset_canonical_key(order as u32, bytes.as_ptr(), bytes.len(), out, cap, len) })
+    written(room(&[bytes]), |out, cap, len| unsafe { c::coset_canonical_key(order as u32, bytes.as_ptr(), bytes.len(), out, cap, len) })
 }

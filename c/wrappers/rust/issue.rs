@@ -9,8 +9,8 @@ pub fn issued(claims: &[(i64, Entry<'_>)], key_id: &[u8], sign: impl FnOnce(&[u8
     let protected = coset::put(Kind::Header, b"", 1, Entry::Int(-7))?;
     let unprotected = coset::put(Kind::Header, b"", 4, Entry::Bytes(key_id))?;
     let signed = coset::structure_of(Kind::Sign1(Form::Plain), &protected, b"", b"", &payload)?;
-    let Some(signature) = sign(&signed) else {
-        return Ok(None);
-    };
-    Ok(Some(coset::make(Kind::Sign1(Form::Tagged), &protected, &unprotected, Some(&payload), &signature)?))
+    match sign(&signed) {
+        Some(signature) => coset::make(Kind::Sign1(Form::Tagged), &protected, &unprotected, Some(&payload), &signature).map(Some),
+        None => Ok(None),
+    }
 }
