@@ -41,6 +41,13 @@ extern "C" {
 #define COSET_CALL(...)
 #endif
 
+/* A cast, as C and C++ write it. */
+#ifdef __cplusplus
+#define COSET_CAST(type, value) (static_cast<type>(value))
+#else
+#define COSET_CAST(type, value) ((type)(value))
+#endif
+
 typedef int32_t coset_status;
 
 /* Statuses. Those from COSET_ENDS to COSET_NOT_PRIVATE name a fault in the bytes, or in a header's byte string within

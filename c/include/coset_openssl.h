@@ -92,7 +92,7 @@ static inline struct coset_openssl_bytes coset_openssl_member(const uint8_t *key
   struct coset_openssl_bytes bytes = {NULL, 0};
   size_t len;
   if (coset_label_bytes(COSET_KEY, key, key_len, COSET_IN_ITEM, label, NULL, 0, &len) != COSET_SHORT) return bytes;
-  bytes.at = (uint8_t *)OPENSSL_malloc(len);
+  bytes.at = COSET_CAST(uint8_t *, OPENSSL_malloc(len));
   bytes.len = len;
   if (bytes.at && coset_label_bytes(COSET_KEY, key, key_len, COSET_IN_ITEM, label, bytes.at, len, &len)) {
     OPENSSL_clear_free(bytes.at, bytes.len);
@@ -189,8 +189,8 @@ static inline EVP_PKEY *coset_openssl_okp(const uint8_t *key, size_t key_len) {
 /* Returns a public key for RSA, or NULL. Its exponent is odd, and isn't 1. */
 static inline EVP_PKEY *coset_openssl_rsa(const uint8_t *key, size_t key_len) {
   struct coset_openssl_bytes n = coset_openssl_member(key, key_len, -1), e = coset_openssl_member(key, key_len, -2);
-  BIGNUM *modulus = n.at && n.len <= INT_MAX ? BN_bin2bn(n.at, (int)n.len, NULL) : NULL;
-  BIGNUM *exponent = e.at && e.len <= INT_MAX ? BN_bin2bn(e.at, (int)e.len, NULL) : NULL;
+  BIGNUM *modulus = n.at && n.len <= INT_MAX ? BN_bin2bn(n.at, COSET_CAST(int, n.len), NULL) : NULL;
+  BIGNUM *exponent = e.at && e.len <= INT_MAX ? BN_bin2bn(e.at, COSET_CAST(int, e.len), NULL) : NULL;
   OSSL_PARAM_BLD *builder = OSSL_PARAM_BLD_new();
   OSSL_PARAM *params = NULL;
   EVP_PKEY *made = NULL;
@@ -214,7 +214,8 @@ static inline int coset_openssl_is_signed(EVP_PKEY *key, int padding, const cose
   EVP_PKEY_CTX *with = NULL;
   int is = context && EVP_DigestVerifyInit_ex(context, &with, coset_openssl_digest(question->algorithm), NULL, NULL, key,
                                               NULL) == 1;
-  if (padding) is = is && proof_len == (size_t)EVP_PKEY_get_size(key) && EVP_PKEY_CTX_set_rsa_padding(with, padding) == 1;
+  if (padding) is = is && proof_len == COSET_CAST(size_t, EVP_PKEY_get_size(key));
+  if (padding) is = is && EVP_PKEY_CTX_set_rsa_padding(with, padding) == 1;
   if (padding == RSA_PKCS1_PSS_PADDING) is = is && EVP_PKEY_CTX_set_rsa_pss_saltlen(with, RSA_PSS_SALTLEN_DIGEST) == 1;
   is = is && EVP_DigestVerify(context, proof, proof_len, question->input, question->input_len) == 1;
   EVP_MD_CTX_free(context);
@@ -228,14 +229,14 @@ static inline int coset_openssl_ecdsa(EVP_PKEY *key, const coset_layer_question 
   BIGNUM *r, *s;
   unsigned char *der = NULL;
   int len = 0, is;
-  if (half <= 0 || question->proof_len != 2 * (size_t)half) return 0;
+  if (half <= 0 || question->proof_len != 2 * COSET_CAST(size_t, half)) return 0;
   signature = ECDSA_SIG_new();
   r = BN_bin2bn(question->proof, half, NULL), s = BN_bin2bn(question->proof + half, half, NULL);
   if (signature && r && s && ECDSA_SIG_set0(signature, r, s) == 1) {
     r = s = NULL; /* the signature frees them */
     len = i2d_ECDSA_SIG(signature, &der);
   }
-  is = len > 0 && coset_openssl_is_signed(key, 0, question, der, (size_t)len);
+  is = len > 0 && coset_openssl_is_signed(key, 0, question, der, COSET_CAST(size_t, len));
   OPENSSL_free(der);
   ECDSA_SIG_free(signature);
   BN_free(r), BN_free(s);
@@ -311,7 +312,7 @@ static inline int coset_openssl_decrypted(EVP_CIPHER_CTX *context, int is_ccm, c
   uint8_t none[1] = {0};
   int done = 0, rest = 0;
   if (is_ccm && EVP_DecryptUpdate(context, NULL, &done, NULL, len) != 1) return 0;
-  if (EVP_DecryptUpdate(context, NULL, &done, question->input, (int)question->input_len) != 1) return 0;
+  if (EVP_DecryptUpdate(context, NULL, &done, question->input, COSET_CAST(int, question->input_len)) != 1) return 0;
   done = 0; /* without a place for its output, OpenSSL would take the ciphertext for further data */
   if ((len || is_ccm) && EVP_DecryptUpdate(context, len ? plain : none, &done, question->proof, len) != 1) return 0;
   if (!is_ccm && EVP_DecryptFinal_ex(context, len ? plain + done : none, &rest) != 1) return 0;
@@ -334,12 +335,13 @@ static inline int coset_openssl_decrypt(struct coset_openssl_bytes k, uint8_t *n
   memcpy(end, question->proof + most, tag);
   cipher = EVP_CIPHER_fetch(NULL, name, NULL);
   context = EVP_CIPHER_CTX_new();
-  is = cipher && context && (size_t)EVP_CIPHER_get_key_length(cipher) == k.len &&
+  is = cipher && context && COSET_CAST(size_t, EVP_CIPHER_get_key_length(cipher)) == k.len &&
        EVP_DecryptInit_ex2(context, cipher, NULL, NULL, NULL) == 1 &&
-       EVP_CIPHER_CTX_ctrl(context, EVP_CTRL_AEAD_SET_IVLEN, (int)nonce_len, NULL) == 1 &&
-       EVP_CIPHER_CTX_ctrl(context, EVP_CTRL_AEAD_SET_TAG, (int)tag, end) == 1 &&
+       EVP_CIPHER_CTX_ctrl(context, EVP_CTRL_AEAD_SET_IVLEN, COSET_CAST(int, nonce_len), NULL) == 1 &&
+       EVP_CIPHER_CTX_ctrl(context, EVP_CTRL_AEAD_SET_TAG, COSET_CAST(int, tag), end) == 1 &&
        EVP_DecryptInit_ex2(context, NULL, k.at, nonce, NULL) == 1 &&
-       coset_openssl_decrypted(context, EVP_CIPHER_get_mode(cipher) == EVP_CIPH_CCM_MODE, question, (int)most, plain);
+       coset_openssl_decrypted(context, EVP_CIPHER_get_mode(cipher) == EVP_CIPH_CCM_MODE, question, COSET_CAST(int, most),
+                               plain);
   EVP_CIPHER_CTX_free(context);
   EVP_CIPHER_free(cipher);
   if (!is && most) OPENSSL_cleanse(plain, most);
@@ -387,7 +389,7 @@ static inline int coset_openssl_by_set(const uint8_t *keys, size_t keys_len, con
  * the thread's queue of errors. */
 static inline int coset_openssl_open(void *context, const coset_layer_question *question, uint8_t *plain, size_t cap,
                                      size_t *len, coset_text *issuer) {
-  const coset_openssl_ring *ring = (const coset_openssl_ring *)context;
+  const coset_openssl_ring *ring = COSET_CAST(const coset_openssl_ring *, context);
   size_t i;
   int said = 0;
   ERR_set_mark();

@@ -59,7 +59,7 @@ static inline void coset_cleared(uint8_t *at, size_t len) {
  * list of algorithms is longer than any object. */
 static inline coset_status coset_permitted(const coset_message_spans_view *view, const coset_policy *policy) {
   size_t i = 0;
-  if (policy->algorithms_len > (size_t)PTRDIFF_MAX / sizeof *policy->algorithms) return COSET_MISUSE;
+  if (policy->algorithms_len > COSET_CAST(size_t, PTRDIFF_MAX) / sizeof *policy->algorithms) return COSET_MISUSE;
   if (view->critical == COSET_NOT_UNDERSTOOD) return COSET_CRITICAL;
   if (view->algorithm_form != COSET_INT) return COSET_NOT_ALLOWED;
   while (i < policy->algorithms_len && policy->algorithms[i] != view->algorithm) i++;
@@ -179,7 +179,7 @@ static inline coset_status coset_encrypt0_decrypt(uint32_t form, const uint8_t *
   size_t len, iv_len = 0;
   coset_status status;
   *plain_len = 0;
-  if (plain_cap > (size_t)PTRDIFF_MAX) return COSET_MISUSE;
+  if (plain_cap > COSET_CAST(size_t, PTRDIFF_MAX)) return COSET_MISUSE;
   status = coset_message_spans(kind, in, in_len, 0, policy->external_aad, policy->external_aad_len, policy->has_detached,
                                policy->detached, policy->detached_len, policy->critical, policy->critical_len, out, cap, &len,
                                &view);
@@ -229,7 +229,7 @@ static inline int coset_head(struct coset_walk *walk, unsigned *major, unsigned 
   *major = walk->in[walk->at] >> 5, *info = walk->in[walk->at] & 31u, *number = *info;
   walk->at++;
   if (*info < 24 || *info == 31) return 1;
-  more = *info < 28 ? (size_t)1 << (*info - 24) : SIZE_MAX;
+  more = *info < 28 ? COSET_CAST(size_t, 1) << (*info - 24) : SIZE_MAX;
   if (walk->end - walk->at < more) return 0;
   for (*number = 0; more > 0; more--) *number = *number << 8 | walk->in[walk->at++];
   return 1;
@@ -270,8 +270,8 @@ static inline int coset_step(struct coset_walk *walk) {
   if (info == 31) return coset_enter(walk, UINT64_MAX, major == 4, 0);
   if (major == 2 || major == 3) {
     if (number > walk->end - walk->at) return -1;
-    if (major == 2 && begins_array && number) return coset_enter(walk, 1, 0, (size_t)number);
-    walk->at += (size_t)number;
+    if (major == 2 && begins_array && number) return coset_enter(walk, 1, 0, COSET_CAST(size_t, number));
+    walk->at += COSET_CAST(size_t, number);
   } else if (major > 3 && major < 7 && (number || major == 6)) {
     return coset_enter(walk, major == 6 ? 1 : major == 5 && number < UINT64_MAX / 4 ? 2 * number : number, major == 4, 0);
   }
@@ -288,9 +288,9 @@ static inline int coset_step(struct coset_walk *walk) {
  * kB of stack, and no heap. */
 static inline int coset_is_deeper(const uint8_t *in, size_t len, size_t most) {
   struct coset_walk walk;
-  if (len > (size_t)PTRDIFF_MAX) return 1;
+  if (len > COSET_CAST(size_t, PTRDIFF_MAX)) return 1;
   walk.in = in, walk.at = 0, walk.end = len, walk.depth = 0;
-  walk.most = most < (size_t)COSET_MOST_LEVELS ? most : (size_t)COSET_MOST_LEVELS;
+  walk.most = most < COSET_CAST(size_t, COSET_MOST_LEVELS) ? most : COSET_CAST(size_t, COSET_MOST_LEVELS);
   walk.levels[0].left = 1, walk.levels[0].is_array = 0, walk.levels[0].is_first = 0;
   for (;;) {
     const int found = coset_step(&walk);
@@ -418,7 +418,7 @@ static inline coset_status coset_token_parts(const uint8_t *item, size_t len, co
   token->others = item + span[2].at, token->others_len = span[2].len;
   token->layers = item + span[4].at, token->layers_len = span[4].len;
   if (status) return COSET_OK; /* nil instead of a name */
-  token->issuer = (const char *)item + span[3].at + name.at, token->issuer_len = name.len;
+  token->issuer = COSET_CAST(const char *, COSET_CAST(const void *, item)) + span[3].at + name.at, token->issuer_len = name.len;
   return COSET_OK;
 }
 
@@ -455,12 +455,12 @@ static inline coset_status coset_work_ask(struct coset_work *work, const coset_l
   said = opener(context, &question, work->at + at, left, &plain, &name);
   if (said == COSET_NO_ROOM) { /* more than there is, or else what the proof needs at most */
     if (plain <= left) plain = layer->proof_len > left ? layer->proof_len : left + 1;
-    *needed = plain <= (size_t)PTRDIFF_MAX - at ? at + plain : (size_t)PTRDIFF_MAX;
+    *needed = plain <= COSET_CAST(size_t, PTRDIFF_MAX) - at ? at + plain : COSET_CAST(size_t, PTRDIFF_MAX);
     return COSET_SHORT;
   }
   if (layer->form != COSET_ENCRYPT0) plain = 0;
   if (!name.chars) name.len = 0;
-  if (said != 1 || plain > left || name.len > (size_t)PTRDIFF_MAX - at - plain) return COSET_REFUSED;
+  if (said != 1 || plain > left || name.len > COSET_CAST(size_t, PTRDIFF_MAX) - at - plain) return COSET_REFUSED;
   *needed = at + plain + name.len;
   if (*needed > work->cap) return COSET_SHORT;
   opened = &work->opened[work->count++];
@@ -469,7 +469,7 @@ static inline coset_status coset_work_ask(struct coset_work *work, const coset_l
   opened->structure_len = layer->structure_len, opened->proof_len = layer->proof_len;
   opened->plaintext = layer->form == COSET_ENCRYPT0 ? at : 0, opened->plaintext_len = plain;
   opened->issuer = name.len ? at + plain : 0, opened->issuer_len = name.len;
-  for (i = 0; i < name.len; i++) work->at[at + plain + i] = (uint8_t)name.chars[i];
+  for (i = 0; i < name.len; i++) work->at[at + plain + i] = COSET_CAST(uint8_t, name.chars[i]);
   work->used = *needed;
   return COSET_OK;
 }
@@ -494,7 +494,7 @@ static inline coset_status coset_token_verify(const uint8_t *in, size_t in_len, 
   size_t len = 0, needed = 0;
   room.at = work, room.cap = cap, room.used = 0, room.count = 0;
   coset_token_none(token, &nowhere, 0);
-  if (cap > (size_t)PTRDIFF_MAX) return COSET_MISUSE;
+  if (cap > COSET_CAST(size_t, PTRDIFF_MAX)) return COSET_MISUSE;
   for (;;) {
     status = coset_work_next(&room, in, in_len, now, policy, &len, &layer);
     if (status == COSET_SHORT) needed = room.used + len;

@@ -163,12 +163,16 @@ def has_openssl():
 
 
 def compile_headers():
-    """Compiles each header by itself, as C99 and as C++. That of OpenSSL's ciphers is left out if OpenSSL's isn't there."""
+    """Compiles each header by itself, as C99 and as C++. That of OpenSSL's ciphers is left out if OpenSSL's isn't there.
+
+    Of these compilers, clang++ alone reports casts of C in functions of `extern "C"`."""
+    warnings = ["-Wall", "-Wextra", "-Wpedantic", "-Werror", "-fsyntax-only"]
+    languages = [["cc", "-std=c99", "-x", "c"]]
+    languages += [[it, "-x", "c++", "-Wold-style-cast"] for it in ("c++", "clang++") if shutil.which(it)]
     for name in sorted(os.listdir(f"{HERE}/c/include")):
         if name != "coset_openssl.h" or has_openssl():
-            languages = [["cc", "-std=c99", "-x", "c"]] + [["c++", "-x", "c++"]] * bool(shutil.which("c++"))
             for words in languages:
-                run([*words, "-Wall", "-Wextra", "-Wpedantic", "-Werror", "-fsyntax-only", f"{HERE}/c/include/{name}"])
+                run([*words, *warnings, "-include", f"{HERE}/c/include/{name}", "/dev/null"])
 
 
 def build_callers(folder, objects):
