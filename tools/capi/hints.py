@@ -26,7 +26,7 @@ def public(text):
             methods = [one for one in it.body if isinstance(one, ast.FunctionDef) and not it.name.startswith("_")]
             of_class = {one.name: parameters(one) for one in methods if one.name in ("__init__", "__call__") or one.name[0] != "_"}
             found |= {it.name: None, **{f"{it.name}.{name}": given for name, given in of_class.items()}}
-        elif isinstance(it, ast.Assign | ast.AnnAssign):
+        elif isinstance(it, (ast.Assign, ast.AnnAssign)):
             targets = it.targets if isinstance(it, ast.Assign) else [it.target]
             found |= {name.id: None for target in targets for name in ast.walk(target) if isinstance(name, ast.Name)}
     return {name: given for name, given in found.items() if not name.startswith("_")}
