@@ -2,6 +2,7 @@
 
 Each function gets the arguments of the command, the folder of the library, its object files, and a list of what is wrong. It
 returns the lines to print."""
+import glob
 import importlib.util
 import os
 import shutil
@@ -29,10 +30,11 @@ def kept(given, folder, objects, wrong):
         own_heap(folder, objects, wrong.check)
         return [shutil.copy(f"{folder}/own/libcoset.a", os.path.join(given.keep, f"lib{name}.a")), *wrong]
     paths = [shutil.copy(f"{folder}/libcoset.{it}", os.path.join(given.keep, f"lib{name}.{it}")) for it in ("a", "so")]
-    # The name by which a program finds the shared library when it starts.
+    # The name by which a program finds the shared library when it starts. A name of another interface would be wrong.
     shared = os.path.join(given.keep, interface.soname())
-    if os.path.lexists(shared):
-        os.remove(shared)
+    for old in glob.glob(os.path.join(glob.escape(given.keep), "libcoset.so.*")):
+        if old == shared or os.path.islink(old) and os.readlink(old) in ("libcoset.so", "libcoset_unproved.so"):
+            os.remove(old)
     os.symlink(f"lib{name}.so", shared)
     return [*paths, shared, *wrong]
 
