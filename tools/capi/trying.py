@@ -123,13 +123,15 @@ def try_requests(folder, check):
     if not shutil.which("cmake"):
         return
     with open(f"{folder}/requested.cmake", "w", encoding="utf-8") as file:
-        file.write(install.filled(read("c/packaging/cmake/coset-config-version.cmake"), {"NUMBERS": "0.4.2.9", "OLDEST": "0.4.2.7"}))
+        text = read("c/packaging/cmake/coset-config-version.cmake")
+        file.write(install.filled(text, {"NUMBERS": "0.4.2.9", "OLDEST": "0.4.2.7"}))
         file.write('message(STATUS "${PACKAGE_VERSION_COMPATIBLE}")\n')
     for request, is_met in REQUESTS.items():
         least, _, most = request.partition("...")
         asked = {"": least, "_COUNT": least.count(".") + 1, "_MIN": least, "_RANGE": request if most else "",
                  "_MAX": most.strip("<"), "_RANGE_MAX": "EXCLUDE" if "<" in most else "INCLUDE"}
-        told = run("cmake", *(f"-DPACKAGE_FIND_VERSION{name}={value}" for name, value in asked.items()), "-P", f"{folder}/requested.cmake")
+        given = [f"-DPACKAGE_FIND_VERSION{name}={value}" for name, value in asked.items()]
+        told = run("cmake", *given, "-P", f"{folder}/requested.cmake")
         check(told == f"-- {str(is_met).upper()}", f"0.4.2.9 for the request {request}: {told}")
 
 
