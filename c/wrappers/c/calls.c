@@ -29,7 +29,8 @@
  * - `verified` calls verify.c. The signature is good if ALG, KID, SIGNED and SIGNATURE are those of the question.
  * - `issued` calls issue.c. The signature is SIGNATURE if the bytes to sign are SIGNED.
  * - `safe` is the call of coset_verify.h for the kind. The answer is yes if the question has INPUT, PROOF and KID. A
- *   ciphertext is then decrypted as the IV, and the ciphertext's bytes, each xor 5a.
+ *   ciphertext is then decrypted as the IV and the partial IV, each after the number of its header, and the ciphertext's
+ *   bytes, each xor 5a.
  * - `token` is coset_token_verify, with a policy of these lists. RULES are the seven numbers of coset_rules after its
  *   size, with commas. ANSWERS are the answers for the layers, with commas: `yes`, `no`, or `p` and a plaintext. After
  *   the answer may follow `@` and the name of the issuer. `answers` is the same, with answers that no caller should give
@@ -150,7 +151,7 @@ static void deeper(struct bytes in) {
 }
 
 /* Prints the results of coset_verify.h for a length that no object has. The length is that of a list of algorithms, a
- * plaintext's memory, the memory to work in, a token, and the bytes of coset_is_deeper. */
+ * buffer, the memory to work in, a token, and the bytes of coset_is_deeper. */
 static void lengths(struct bytes in, uint8_t *out, size_t cap) {
   const int64_t es256 = -7;
   const coset_policy policy = {.algorithms = &es256, .algorithms_len = SIZE_MAX};
@@ -158,7 +159,7 @@ static void lengths(struct bytes in, uint8_t *out, size_t cap) {
   const uint8_t *payload = NULL;
   size_t len;
   printf("%" PRId32, coset_sign1_verify(COSET_EITHER, in.at, in.len, &policy, NULL, NULL, out, cap, &payload, &len));
-  printf(" %" PRId32, coset_encrypt0_decrypt(COSET_EITHER, in.at, in.len, &policy, NULL, NULL, out, cap, out, SIZE_MAX, &len));
+  printf(" %" PRId32, coset_encrypt0_decrypt(COSET_EITHER, in.at, in.len, &policy, NULL, NULL, out, SIZE_MAX, &payload, &len));
   printf(" %" PRId32, length_call(in.at, in.len, out, SIZE_MAX, &told));
   printf(" %" PRId32, length_call(in.at, SIZE_MAX, out, cap, &told));
   printf(" %d\n", coset_is_deeper(in.at, SIZE_MAX, COSET_MOST_LEVELS));
@@ -171,14 +172,60 @@ static int is_asked(void *words, const coset_question *question) {
          same(word[2], question->key_id, question->key_id_len);
 }
 
-static int is_decrypted(void *words, const coset_question *question, const uint8_t *iv, size_t iv_len, uint8_t *plain, size_t cap,
-                        size_t *len) {
-  size_t i;
-  *len = iv_len + question->proof_len;
-  if (*len > cap || !is_asked(words, question)) return 0;
-  if (iv_len) memcpy(plain, iv, iv_len);
-  for (i = 0; i < question->proof_len; i++) plain[iv_len + i] = question->proof[i] ^ 0x5a;
+/* Appends the number of a header and the IV in it, if there is one. */
+static size_t with_iv(uint8_t *plain, size_t at, const uint8_t *iv, size_t len, uint32_t map) {
+  if (!iv) return at;
+  plain[at] = (uint8_t)map;
+  memcpy(plain + at + 1, iv, len);
+  return at + 1 + len;
+}
+
+static int is_decrypted(void *words, const coset_question *q, uint8_t *plain, size_t cap, size_t *len) {
+  size_t at;
+  if (!q->iv != !q->iv_len || !q->iv != !q->iv_map || !q->partial_iv != !q->partial_iv_len || !q->partial_iv != !q->partial_iv_map) return 0;
+  if (!is_asked(words, q)) return 0;
+  *len = !!q->iv + q->iv_len + !!q->partial_iv + q->partial_iv_len + q->proof_len;
+  if (*len > cap) return COSET_NO_ROOM;
+  at = with_iv(plain, 0, q->iv, q->iv_len, q->iv_map);
+  at = with_iv(plain, at, q->partial_iv, q->partial_iv_len, q->partial_iv_map);
+  for (size_t i = 0; i < q->proof_len; i++) plain[at + i] = q->proof[i] ^ 0x5a;
   return 1;
+}
+
+/* Returns the status of coset_encrypt0_decrypt. Afterwards `out` has the plaintext at its front. If the status isn't
+ * COSET_OK, nothing of the message is left there. */
+static int32_t decrypted(uint32_t form, struct bytes in, const coset_policy *policy, char **words, uint8_t *out, size_t cap, size_t *len) {
+  const uint8_t *plain = out;
+  const int32_t status = coset_encrypt0_decrypt(form, in.at, in.len, policy, is_decrypted, words, out, cap, &plain, len);
+  if ((status == 0) != (plain != NULL)) return -4;
+  for (size_t i = 0; status && i < cap; i++)
+    if (out[i] && out[i] != 0xee) return -5;
+  if (plain && *len) memmove(out, plain, *len);
+  return status;
+}
+
+/* Makes the same call with as much memory as it says that it needs, from none on, and with a byte less than that. Returns the
+ * status that isn't COSET_SHORT. -7: a size was wrong, or the first wasn't enough. If the plaintext is longer than the
+ * ciphertext, the second must be enough. */
+static int32_t decrypted_in_need(uint32_t form, struct bytes in, const coset_policy *policy, char **words, const uint8_t *plain, size_t plain_len) {
+  const int rounds = plain_len > strlen(words[1]) / 2 ? 3 : 2;
+  size_t cap = 0, len = 0;
+  for (int round = 0; round < rounds; round++) {
+    uint8_t *out = memset(malloc(cap + !cap), 0xee, cap);
+    const int32_t status = decrypted(form, in, policy, words, out, cap, &len);
+    const int is_same = status || (len == plain_len && !memcmp(out, plain, len));
+    free(out);
+    if (status != COSET_SHORT) return is_same ? status : -7;
+    if (len <= cap || len > 1 << 24) return -7;
+    out = memset(malloc(len), 0xee, len);
+    size_t less = 0;
+    const int32_t other = decrypted(form, in, policy, words, out, len - 1, &less);
+    free(out);
+    if (other == COSET_MEMORY) return other;
+    if (other != COSET_SHORT || less != len) return -7;
+    cap = len;
+  }
+  return -7;
 }
 
 /* Returns the status of the call of coset_verify.h for the kind, with these words. Afterwards `out` has the payload or
@@ -191,9 +238,7 @@ static int32_t safe(char **word, uint32_t number, struct bytes in, uint8_t *out,
                                aad.len,    (uint32_t)strtoul(word[6], NULL, 0), detached.at, detached.len};
   const size_t index = strtoul(word[4], NULL, 0);
   const uint8_t *payload = out;
-  uint8_t *plain = malloc(cap + 1);
   int32_t status = -2;
-  memset(plain, 0xee, cap + 1);
   switch (number & 0xff) {
   case COSET_SIGN1: status = coset_sign1_verify(form, in.at, in.len, &policy, is_asked, word + 10, out, cap, &payload, len); break;
   case COSET_MAC0: status = coset_mac0_verify(form, in.at, in.len, &policy, is_asked, word + 10, out, cap, &payload, len); break;
@@ -201,15 +246,18 @@ static int32_t safe(char **word, uint32_t number, struct bytes in, uint8_t *out,
     status = coset_sign_verify(form, in.at, in.len, index, &policy, is_asked, word + 10, out, cap, &payload, len);
     break;
   default:
-    status = coset_encrypt0_decrypt(form, in.at, in.len, &policy, is_decrypted, word + 10, out, cap, plain, cap, len);
-    payload = status ? NULL : plain;
-    for (size_t i = 0; status == COSET_REFUSED && i < cap; i++) status = plain[i] ? -3 : status;
+    status = decrypted(form, in, &policy, word + 10, out, cap, len);
+    payload = status ? NULL : out;
+    if (cap && (status == COSET_OK || status >= COSET_NOT_ALLOWED)) {
+      const int32_t other = decrypted_in_need(form, in, &policy, word + 10, out, *len);
+      if (other != status) payload = NULL, *len = 0, status = other;
+    }
   }
   if ((status == 0) != (payload != NULL)) status = -4;
   for (size_t i = 0; (number & 0xff) != COSET_ENCRYPT0 && status >= COSET_NOT_ALLOWED && i < cap; i++)
     status = out[i] && out[i] != 0xee ? -5 : status;
   if (payload && *len) memmove(out, payload, *len);
-  free(plain), free(aad.at), free(detached.at);
+  free(aad.at), free(detached.at);
   return status;
 }
 

@@ -66,7 +66,8 @@ def message(kind, given, index, aad, has, content, known):
 def safe(kind, given, index, aad, has, content, algorithms, known, *words):
     """Returns the result of `verify` or `decrypt`, as calls.c describes it."""
     is_asked = lambda q: [q.input, q.proof, q.key_id or b""] == list(map(data, words))
-    plain = lambda q, iv: (iv or b"") + bytes(byte ^ 0x5A for byte in q.proof) if is_asked(q) else None
+    ivs = lambda q: b"".join(bytes([which]) + iv for which, iv in ((q.iv_map, q.iv), (q.partial_iv_map, q.partial_iv)) if which)
+    plain = lambda q: ivs(q) + bytes(byte ^ 0x5A for byte in q.proof) if is_asked(q) else None
     more = {"critical": integers(known), "external_aad": data(aad), "detached": detached(has, content)}
     if kind & 0xFF == coset.ENCRYPT0:
         return coset.decrypt(kind, given, integers(algorithms), plain, **more).hex()

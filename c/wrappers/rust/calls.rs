@@ -202,6 +202,17 @@ fn message(w: &[&str]) -> Result<String, Error> {
     Ok(format!("{texts} {number} {named} {map} {critical} {} {lengths}", u32::from(m.is_tagged)))
 }
 
+/// Returns the plaintext by which `safe` answers, as calls.c describes it.
+fn plaintext(q: &Question<'_>) -> Vec<u8> {
+    let mut plain = Vec::new();
+    for (map, iv) in [(q.iv_map, q.iv), (q.partial_iv_map, q.partial_iv)] {
+        plain.extend(map.map(|map| map as u8));
+        plain.extend(iv.unwrap_or_default());
+    }
+    plain.extend(q.proof.iter().map(|byte| byte ^ 0x5a));
+    plain
+}
+
 /// Returns the result of `verify` or `decrypt`, as calls.c describes it.
 fn safe(w: &[&str]) -> Result<String, Error> {
     let (aad, content, algorithms, known) = (bytes(w[5]), bytes(w[7]), integers(w[8]), integers(w[9]));
@@ -213,10 +224,7 @@ fn safe(w: &[&str]) -> Result<String, Error> {
         q.key_id.is_some() == q.key_id_map.is_some() && asked == [10, 11, 12].map(|i| hex(&bytes(w[i])))
     };
     let answer = match k {
-        Kind::Encrypt0(form) => coset::decrypt(form, &input, &policy, |q, iv| {
-            let plain = q.proof.iter().map(|byte| byte ^ 0x5a);
-            is_asked(q).then(|| iv.unwrap_or_default().iter().copied().chain(plain).collect())
-        }),
+        Kind::Encrypt0(form) => coset::decrypt(form, &input, &policy, |q| is_asked(q).then(|| plaintext(q))),
         _ => coset::verify(k, &input, w[4].parse().unwrap(), &policy, is_asked),
     };
     Ok(hex(&answer?))

@@ -210,6 +210,13 @@ pub struct Question<'a> {
     pub input: &'a [u8],
     /// The signature or the tag. For [`decrypt`] the ciphertext.
     pub proof: &'a [u8],
+    /// The initialization vector, label 5, and the partial one, label 6, each if a header has it.
+    /// `None` from [`verify`].
+    pub iv: Option<&'a [u8]>,
+    pub partial_iv: Option<&'a [u8]>,
+    /// The headers that have these two.
+    pub iv_map: Option<Map>,
+    pub partial_iv_map: Option<Map>,
 }
 
 /// The form of a layer of a web token.
@@ -1022,7 +1029,8 @@ impl LentMessage<'_> {
             return Err(Error::NotAllowed);
         }
         let key_id = self.key_id_map.map(|_| self.key_id.as_ref());
-        Ok(Question { algorithm, key_id, key_id_map: self.key_id_map, input: &self.input, proof })
+        let (key_id_map, input) = (self.key_id_map, self.input.as_slice());
+        Ok(Question { algorithm, key_id, key_id_map, input, proof, iv: None, partial_iv: None, iv_map: None, partial_iv_map: None })
     }
 }
 
@@ -1048,27 +1056,32 @@ pub fn verify(
     Ok(policy.detached.map_or_else(|| found.content.into_owned(), <[u8]>::to_vec))
 }
 
+/// Returns the content of the string under a label of a message, from the protected header, else
+/// from the unprotected one, and that header.
+fn in_either(kind: Kind, bytes: &[u8], label: i64) -> Result<(Option<Vec<u8>>, Option<Map>), Error> {
+    for map in [Map::InProtected, Map::InUnprotected] {
+        match label_bytes(kind, bytes, map, label) {
+            Err(Error::Absent) => {}
+            found => return Ok((Some(found?), Some(map))),
+        }
+    }
+    Ok((None, None))
+}
+
 /// Returns the plaintext of a `Kind::Encrypt0` in this form.
 ///
-/// `decrypt` receives the question, whose proof is the ciphertext, and the IV, label 5 of the
-/// headers. It returns the plaintext, or `None` if the ciphertext isn't authentic by a key that the
-/// caller trusts.
+/// `decrypt` receives the question, whose proof is the ciphertext, with the IV and the partial IV.
+/// It returns the plaintext, or `None` if the ciphertext isn't authentic by a key that the caller
+/// trusts. A message may have an IV in one header and a partial IV in the other. Refuse it then
+/// (RFC 8152, section 3.1).
 pub fn decrypt(
     form: Form,
     bytes: &[u8],
     policy: &Policy<'_>,
-    decrypt: impl FnOnce(&Question<'_>, Option<&[u8]>) -> Option<Vec<u8>>,
+    decrypt: impl FnOnce(&Question<'_>) -> Option<Vec<u8>>,
 ) -> Result<Vec<u8>, Error> {
     let kind = Kind::Encrypt0(form);
     let found = message_lent(kind, bytes, 0, policy)?;
-    let iv = match label_bytes(kind, bytes, Map::InProtected, 5) {
-        Err(Error::Absent) => label_bytes(kind, bytes, Map::InUnprotected, 5),
-        iv => iv,
-    };
-    let iv = match iv {
-        Err(Error::Absent) => None,
-        iv => Some(iv?),
-    };
     let carried = match part(kind, bytes, Part::Ciphertext) {
         Err(Error::Absent) => None,
         carried => Some(carried?),
@@ -1079,7 +1092,10 @@ pub fn decrypt(
         (None, Some(detached)) => detached,
         (None, None) => return Err(Error::Absent),
     };
-    decrypt(&found.asked(policy, ciphertext)?, iv.as_deref()).ok_or(Error::Refused)
+    let ((iv, iv_map), (partial_iv, partial_iv_map)) = (in_either(kind, bytes, 5)?, in_either(kind, bytes, 6)?);
+    let asked = found.asked(policy, ciphertext)?;
+    let question = Question { iv: iv.as_deref(), partial_iv: partial_iv.as_deref(), iv_map, partial_iv_map, ..asked };
+    decrypt(&question).ok_or(Error::Refused)
 }
 
 impl<'a> Layer<'a> {

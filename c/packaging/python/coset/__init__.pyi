@@ -185,6 +185,10 @@ class Question(NamedTuple):
     key_id_map: int | None
     input: bytes
     proof: bytes
+    iv: bytes | None = None
+    partial_iv: bytes | None = None
+    iv_map: int | None = None
+    partial_iv_map: int | None = None
 
 class Message(NamedTuple):
     algorithm: int | None
@@ -260,7 +264,7 @@ def decrypt(
     kind: int,
     data: _Bytes,
     algorithms: Collection[int],
-    decrypt: Callable[[Question, bytes | None], bytes | None],
+    decrypt: Callable[[Question], bytes | None],
     critical: Collection[int] = (),
     external_aad: _Bytes = b"",
     detached: _Bytes | None = None,

@@ -132,13 +132,15 @@ class Critical(Refused):
     """A critical label isn't understood, or isn't protected."""
 
 
-class Question(namedtuple("Question", "algorithm key_id key_id_map input proof")):
+class Question(namedtuple("Question", "algorithm key_id key_id_map input proof iv partial_iv iv_map partial_iv_map", defaults=[None] * 4)):
     """The question that the caller's function answers:
     - `algorithm` is one of the allowed ones.
     - `key_id` is the key identifier, or None if the message names no key. `key_id_map` is the header that has it, as
       in Sign1.
     - `input` is the structure that is signed, authenticated, or goes with the ciphertext.
-    - `proof` is the signature or the tag, or for `decrypt` the ciphertext."""
+    - `proof` is the signature or the tag, or for `decrypt` the ciphertext.
+    - `iv` and `partial_iv` are the initialization vector, label 5, and the partial one, label 6, each None if neither
+      header has it. `iv_map` and `partial_iv_map` are the headers that have them. All are None from `verify`."""
 
     __slots__ = ()
 
@@ -707,24 +709,35 @@ def _found(call, *arguments):
         return None
 
 
+def _in_either(kind, data, name):
+    """Returns the content of the string under a label of a message, from the protected header, else from the unprotected
+    one, and that header. Both are None if neither has it."""
+    for which in (IN_PROTECTED, IN_UNPROTECTED):
+        value = _found(label_bytes, kind, data, which, name)
+        if value is not None:
+            return value, which
+    return None, None
+
+
 def decrypt(kind, data, algorithms, decrypt, critical=(), external_aad=b"", detached=None):
     """Returns the plaintext of an ENCRYPT0, with TAGGED, EITHER or neither added.
 
-    `decrypt` receives the question, whose proof is the ciphertext, and the IV, label 5 of the headers, or None. It
-    returns the plaintext, or None if the ciphertext isn't authentic by a key that the caller trusts. The other
-    arguments are those of `verify`."""
+    `decrypt` receives the question, whose proof is the ciphertext, with the IV and the partial IV. It returns the
+    plaintext, or None if the ciphertext isn't authentic by a key that the caller trusts. A message may have an IV in
+    one header and a partial IV in the other. Refuse it then (RFC 8152, section 3.1). The other arguments are those of
+    `verify`."""
     if _kind(kind) & 0xFF != ENCRYPT0:
         raise Misuse("a kind of another call")
     data, own = _bytes(data)[0], None if detached is None else _bytes(detached)[0]
     found = message(kind, data, 0, critical, external_aad)
-    ivs = [_found(label_bytes, kind, data, which, 5) for which in (IN_PROTECTED, IN_UNPROTECTED)]
     carried = _found(part, kind, data, CIPHERTEXT)
     if carried is not None and own is not None:
         raise Misuse("a ciphertext that the message carries and that is given too")
     if carried is None and own is None:
         raise Absent("the ciphertext is detached")
+    (iv, iv_map), (partial_iv, partial_iv_map) = _in_either(kind, data, 5), _in_either(kind, data, 6)
     question = _asked(found, algorithms, own if carried is None else carried)
-    plain = decrypt(question, ivs[1] if ivs[0] is None else ivs[0])
+    plain = decrypt(question._replace(iv=iv, partial_iv=partial_iv, iv_map=iv_map, partial_iv_map=partial_iv_map))
     if plain is None:
         raise Refused("the ciphertext is refused")
     return plain
