@@ -9,7 +9,7 @@ import subprocess
 import sys
 import tempfile
 
-from capi import (accepting, attack, calling, depths, examples, install, limits, memory, messages, misuses, openers, openssl,
+from capi import (accepting, attack, calling, depths, examples, install, items, limits, memory, messages, misuses, openers, openssl,
                   rows, shapes, tokens)
 from capi.building import HERE, WRAPPERS, build_callers, own_heap, run
 from capi.vectors import token
@@ -127,7 +127,7 @@ def by_wrappers(given, folder, calls, wrong):
 def called(given, folder, objects, wrong):
     """Makes all calls. Returns the first faults, and a line with the numbers of calls."""
     build_callers(folder, objects)
-    calls = [*rows.calls(wrong.check), *examples.calls(wrong.check), *messages.sealed_calls(), *tokens.calls()]
+    calls = [*rows.calls(wrong.check), *examples.calls(wrong.check), *messages.sealed_calls(), *items.calls(), *tokens.calls()]
     of_tokens = [*tokens.calls_from_c(wrong.check), *openers.calls(), *shapes.calls()]
     every = [*calls, *of_tokens, *misuses.calls(), *depths.calls(calls)]
     lines, wanted = calling.from_c(f"{folder}/calls_c", every, wrong.check)

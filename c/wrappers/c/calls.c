@@ -4,13 +4,14 @@
  *   label_at KIND IN CAP INDEX | value_at KIND IN CAP INDEX | key_of 11 IN CAP KID
  *   member_span KIND IN INDEX | pair_spans KIND IN INDEX | label_span KIND IN MAP LABEL
  *   string_span 13 IN | integer 13 IN | item_span 13 IN AT
+ *   major_type 13 IN | simple_value 13 IN | float_value 13 IN | map_spans KIND IN
  *   label_bytes KIND IN CAP MAP LABEL | label_int KIND IN MAP LABEL | text_label KIND IN CAP MAP LABEL
  *   structure KIND IN CAP INDEX AAD HAS DETACHED | recipient_structure HOLDER IN CAP AAD
  *   countersign_structure KIND IN CAP LABEL SIGNER AAD HAS DETACHED
  *   sign1 KIND IN CAP AAD HAS DETACHED | message KIND IN CAP INDEX AAD HAS DETACHED KNOWN
  *   verified KIND IN CAP ALG KID SIGNED SIGNATURE | safe KIND IN CAP INDEX AAD HAS DETACHED ALGS KNOWN INPUT PROOF KID
  *   spans KIND IN CAP INDEX AAD HAS DETACHED KNOWN | put_all KIND IN CAP PAIRS
- *   put, put_bytes, put_text, put_int or put_text_label KIND IN CAP LABEL VALUE
+ *   put, put_bytes, put_text, put_int, put_float or put_text_label KIND IN CAP LABEL VALUE
  *   structure_of KIND PROTECTED CAP SIGNER AAD CONTENT | recipient_structure_of HOLDER PROTECTED CAP AAD
  *   make KIND PROTECTED CAP UNPROTECTED HAS CONTENT PROOF
  *   add KIND IN CAP MEMBER | write KIND IN CAP | canonical_key ORDER IN CAP
@@ -51,6 +52,8 @@
  * plaintext alone, and `spans` the four texts. Before the status, `spans` prints how many of three texts are in the
  * input. For `sign1`, `message` and `spans` the numbers of the view follow, which were 77 before.
  *
+ * `float_value` prints the 64 bits of the float, or `nan`. `map_spans` prints the number of pairs, and then their places.
+ *
  * `token` prints the status, and then for COSET_OK:
  * - the claims; the texts of the audience, each `t` and its bytes, with commas; the others; `t` and the issuer's name,
  *   or `-`,
@@ -61,6 +64,8 @@
  *
  * Each input is in memory of its own. With REFUSE=N in the environment, the N-th request for memory of each call is
  * refused. */
+#include "coset_items.h"
+#include "coset_pairs.h"
 #include "coset_verify.h"
 #include "words.h"
 #include <inttypes.h>
@@ -293,7 +298,7 @@ static char *part(char *word, uint8_t *bytes, size_t *count, size_t *at, size_t 
 }
 
 /* Calls coset_put_all with the pairs of a word. A pair is a label and a value with `=` between them, and a comma
- * follows. Each is `i` and an integer, or `t`, `b` or `e` and hexadecimal. `n` stands for a form that doesn't exist,
+ * follows. Each is `i` and an integer, `f` and a float, or `t`, `b` or `e` and hexadecimal. `n` stands for a form that doesn't exist,
  * and `o` for a text outside the bytes. */
 static int32_t put_all(char *word, uint32_t kind, struct bytes in, uint8_t *out, size_t cap, size_t *len) {
   static const char forms[] = "nitbe";
@@ -310,6 +315,13 @@ static int32_t put_all(char *word, uint32_t kind, struct bytes in, uint8_t *out,
     now++;
     pair->value_form = *now == 'o' ? 2 : (uint32_t)(strchr(forms, *now) - forms);
     if (*now == 'i') pair->value = strtoll(now + 1, &now, 10);
+    else if (*now == 'f') {
+      coset_pairs one = coset_pairs_in(pair, 1, bytes.at + bytes.len, 9);
+      const coset_pair named = *pair;
+      coset_pairs_float(&one, pair->label, strtod(now + 1, &now));
+      pair->label_form = named.label_form, pair->label_at = named.label_at, pair->label_len = named.label_len;
+      pair->value_at += bytes.len, bytes.len += one.len;
+    }
     else if (*now == 'o') now++, pair->value_at = SIZE_MAX;
     else now = part(now + 1, bytes.at, &bytes.len, &pair->value_at, &pair->value_len);
   }
@@ -379,6 +391,7 @@ static int32_t made(char **word, uint32_t kind, struct bytes in, uint8_t *out, s
   if (!strcmp(call, "put")) status = coset_put(kind, in.at, in.len, label, b[1].at, b[1].len, out, cap, len);
   if (!strcmp(call, "put_bytes")) status = coset_put_bytes(kind, in.at, in.len, label, b[1].at, b[1].len, out, cap, len);
   if (!strcmp(call, "put_text")) status = coset_put_text(kind, in.at, in.len, label, b[1].at, b[1].len, out, cap, len);
+  if (!strcmp(call, "put_float")) status = coset_put_float(kind, in.at, in.len, label, strtod(word[5], NULL), out, cap, len);
   if (!strcmp(call, "put_int"))
     status = coset_put_int(kind, in.at, in.len, label, strtoll(word[5], NULL, 0), out, cap, len);
   if (!strcmp(call, "put_text_label"))
@@ -419,6 +432,37 @@ static void located(char call, uint32_t kind, struct bytes in, size_t index, int
   putchar('\n');
 }
 
+/* Prints the places of all pairs of a map. -7: with too little memory for them, the call doesn't return their number. */
+static void map_spans(uint32_t kind, struct bytes in) {
+  size_t count = 77, again = 77;
+  coset_status status = coset_map_spans(kind, in.at, in.len, NULL, 0, &count);
+  const size_t room = status == COSET_SHORT ? count : 0;
+  coset_pair_place *pairs = malloc((room + !room) * sizeof *pairs);
+  if (room && coset_map_spans(kind, in.at, in.len, pairs, room - 1, &again) == COSET_SHORT && again != room) status = -7;
+  if (status == COSET_SHORT) status = coset_map_spans(kind, in.at, in.len, pairs, room, &count);
+  left = -1;
+  printf("%" PRId32 " %zu", status, count);
+  for (size_t i = 0; !status && i < count; i++)
+    printf(" %zu %zu %zu %zu", pairs[i].label.at, pairs[i].label.len, pairs[i].value.at, pairs[i].value.len);
+  putchar('\n');
+  free(pairs);
+}
+
+/* Prints an item's major type, its simple value or its float. */
+static void scalar(char call, struct bytes in) {
+  uint32_t number = 77;
+  uint64_t bits;
+  double value = 77;
+  const coset_status status = call == 'f'   ? coset_float_value(in.at, in.len, &value)
+                              : call == 's' ? coset_simple_value(in.at, in.len, &number)
+                                            : coset_major_type(in.at, in.len, &number);
+  left = -1;
+  memcpy(&bits, &value, sizeof bits);
+  if (call != 'f') printf("%" PRId32 " %" PRIu32 "\n", status, number);
+  else if (value != value) printf("%" PRId32 " nan\n", status);
+  else printf("%" PRId32 " %016" PRIx64 "\n", status, bits);
+}
+
 int main(void) {
   static char line[1 << 23];
   char *word[13], number[32];
@@ -451,6 +495,14 @@ int main(void) {
       else if (*call == 'f') fits_call(word, in, cap);
       else if (*call == 'd') deeper(in);
       else lengths(in, out, cap);
+      free(in.at), free(out);
+      if (live) return fprintf(stderr, "%ld blocks are left\n", live), 1;
+      continue;
+    }
+    int is_scalar = !strcmp(call, "major_type") || !strcmp(call, "simple_value") || !strcmp(call, "float_value");
+    if (is_scalar || !strcmp(call, "map_spans")) {
+      if (is_scalar) scalar(*call, in);
+      else map_spans(kind, in);
       free(in.at), free(out);
       if (live) return fprintf(stderr, "%ld blocks are left\n", live), 1;
       continue;

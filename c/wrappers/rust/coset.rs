@@ -78,6 +78,8 @@ pub enum Countersignature {
 #[derive(Clone, Copy, Debug, PartialEq)]
 pub enum Entry<'a> {
     Int(i64),
+    /// Written in its shortest encoding.
+    Float(f64),
     Bytes(&'a [u8]),
     Text(&'a str),
     /// Any item, as its encoding.
@@ -89,6 +91,32 @@ pub enum Entry<'a> {
 pub enum Label<'a> {
     Int(i64),
     Text(&'a str),
+}
+
+/// Returns the half-precision float that has this value, if there is one (RFC 8949, appendix D).
+fn as_half(value: f64) -> Option<u16> {
+    let (bits, size) = (value.to_bits(), value.abs());
+    let sign = if bits >> 63 == 0 { 0 } else { 0x8000 };
+    let exponent = ((bits >> 52 & 0x7ff) as i32 - 1023).max(-14);
+    let fraction = size * 2f64.powi(10 - exponent.min(15));
+    match size {
+        _ if value.is_nan() => Some(0x7e00),
+        f64::INFINITY => Some(sign | 0x7c00),
+        _ if exponent > 15 || fraction.fract() != 0.0 => None,
+        _ => Some(sign | ((exponent + 14) * 1024 + fraction as i32) as u16),
+    }
+}
+
+/// Returns a float in its shortest encoding (RFC 8949, section 4.2.2).
+fn encoded_float(value: f64) -> Vec<u8> {
+    if let Some(half) = as_half(value) {
+        return [&[0xf9][..], &half.to_be_bytes()].concat();
+    }
+    let single = value as f32;
+    if f64::from(single) == value {
+        return [&[0xfa][..], &single.to_be_bytes()].concat();
+    }
+    [&[0xfb][..], &value.to_be_bytes()].concat()
 }
 
 impl From<i64> for Label<'_> {
@@ -827,6 +855,80 @@ pub fn integer(bytes: &[u8]) -> Result<i64, Error> {
     answer(status, value)
 }
 
+/// A major type of items (RFC 8949, section 3.1).
+#[derive(Clone, Copy, Debug, PartialEq, Eq)]
+pub enum MajorType {
+    Unsigned = 0,
+    Negative = 1,
+    ByteString = 2,
+    TextString = 3,
+    Array = 4,
+    Map = 5,
+    Tag = 6,
+    /// A float or a simple value.
+    Simple = 7,
+}
+
+/// Returns the major type of an item.
+pub fn major_type(item: &[u8]) -> Result<MajorType, Error> {
+    use MajorType::{Array, ByteString, Map, Negative, Simple, Tag, TextString, Unsigned};
+    check(Kind::Item, item).map_err(|fault| fault.error)?;
+    Ok([Unsigned, Negative, ByteString, TextString, Array, Map, Tag, Simple][usize::from(item[0] >> 5)])
+}
+
+/// Returns the simple value that an item is: false, true, or `None` for null. The library supports
+/// no others.
+pub fn simple_value(item: &[u8]) -> Result<Option<bool>, Error> {
+    check(Kind::Item, item).map_err(|fault| fault.error)?;
+    match item {
+        [0xf4] => Ok(Some(false)),
+        [0xf5] => Ok(Some(true)),
+        [0xf6] => Ok(None),
+        _ => Err(Error::Type),
+    }
+}
+
+/// Returns a half-precision float (RFC 8949, appendix D).
+fn half(bits: u16) -> f64 {
+    let (exponent, fraction) = (i32::from(bits >> 10 & 31), f64::from(bits & 1023));
+    let size = match exponent {
+        0 => fraction * 2f64.powi(-24),
+        31 if fraction == 0.0 => f64::INFINITY,
+        31 => f64::NAN,
+        _ => (fraction + 1024.0) * 2f64.powi(exponent - 25),
+    };
+    if bits >> 15 == 0 { size } else { -size }
+}
+
+/// Returns the float that an item is, of 16, 32 or 64 bits.
+pub fn float_value(item: &[u8]) -> Result<f64, Error> {
+    check(Kind::Item, item).map_err(|fault| fault.error)?;
+    match *item {
+        [0xf9, a, b] => Ok(half(u16::from_be_bytes([a, b]))),
+        [0xfa, a, b, c, d] => Ok(f32::from_be_bytes([a, b, c, d]).into()),
+        [0xfb, a, b, c, d, e, f, g, h] => Ok(f64::from_be_bytes([a, b, c, d, e, f, g, h])),
+        _ => Err(Error::Type),
+    }
+}
+
+/// Returns the places of the labels and values of all pairs of a map, as received and in their
+/// order. They are found in one walk.
+pub fn map_spans(kind: Kind, bytes: &[u8]) -> Result<Vec<(std::ops::Range<usize>, std::ops::Range<usize>)>, Error> {
+    let mut found = match pair_spans(kind, bytes, 0) {
+        Err(Error::Absent) if bytes[0] >> 5 == 5 => return Ok(Vec::new()),
+        first => vec![first?],
+    };
+    loop {
+        let end = found[found.len() - 1].1.end;
+        if end == bytes.len() || bytes[end] == 0xff {
+            return Ok(found);
+        }
+        let label = item_span(bytes, end)?;
+        let value = item_span(bytes, label.end)?;
+        found.push((label, value));
+    }
+}
+
 /// Returns the value of an integer label, in its shortest encoding.
 pub fn label(kind: Kind, bytes: &[u8], map: Map, label: i64) -> Result<Vec<u8>, Error> {
     written(|out, cap, len| unsafe { c::coset_label(kind.number(), bytes.as_ptr(), bytes.len(), map as u32, label, out, cap, len) })
@@ -1369,6 +1471,14 @@ fn text(at: *const std::ffi::c_char) -> &'static str {
 
 /// Returns the header, key or claims set, which may be empty, with one more pair at its end.
 pub fn put(kind: Kind, map: &[u8], label: i64, value: Entry<'_>) -> Result<Vec<u8>, Error> {
+    let float;
+    let value = match value {
+        Entry::Float(value) => {
+            float = encoded_float(value);
+            Entry::Encoded(&float)
+        }
+        value => value,
+    };
     let (kind, at, n) = (kind.number(), map.as_ptr(), map.len());
     written(|out, cap, len| unsafe {
         match value {
@@ -1376,6 +1486,7 @@ pub fn put(kind: Kind, map: &[u8], label: i64, value: Entry<'_>) -> Result<Vec<u
             Entry::Bytes(value) => c::coset_put_bytes(kind, at, n, label, value.as_ptr(), value.len(), out, cap, len),
             Entry::Text(value) => c::coset_put_text(kind, at, n, label, value.as_ptr(), value.len(), out, cap, len),
             Entry::Encoded(value) => c::coset_put(kind, at, n, label, value.as_ptr(), value.len(), out, cap, len),
+            Entry::Float(_) => unreachable!("it is encoded above"),
         }
     })
 }
@@ -1400,6 +1511,7 @@ pub fn put_all<'a, L: Copy + Into<Label<'a>>>(kind: Kind, map: &[u8], pairs: &[(
                 Entry::Text(text) => (2, 0, part(text.as_bytes())),
                 Entry::Bytes(bytes) => (3, 0, part(bytes)),
                 Entry::Encoded(bytes) => (4, 0, part(bytes)),
+                Entry::Float(value) => (4, 0, part(&encoded_float(value))),
             };
             c::Pair { label_form, value_form, label, label_at, label_len, value, value_at, value_len }
         })

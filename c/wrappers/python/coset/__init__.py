@@ -544,6 +544,56 @@ def integer(data):
     return value.value
 
 
+class MajorType(enum.IntEnum):
+    """Major types of items (RFC 8949, section 3.1). SIMPLE is a float or a simple value."""
+
+    UNSIGNED, NEGATIVE, BYTE_STRING, TEXT_STRING, ARRAY, MAP, TAG, SIMPLE = range(0, 8)
+
+
+def _item(data):
+    """Returns the bytes of one item."""
+    data = _bytes(data)[0]
+    check(ITEM, data)
+    return data
+
+
+def major_type(data):
+    """Returns the MajorType of an item."""
+    return MajorType(_item(data)[0] >> 5)
+
+
+def simple_value(data):
+    """Returns the simple value that an item is: False, True or None. The library supports no others."""
+    data = _item(data)
+    if data not in (b"\xf4", b"\xf5", b"\xf6"):
+        raise WrongType("the item isn't a simple value")
+    return (False, True, None)[data[0] - 0xF4]
+
+
+def float_value(data):
+    """Returns the float that an item is, of 16, 32 or 64 bits."""
+    data = _item(data)
+    if not 0xF9 <= data[0] <= 0xFB:
+        raise WrongType("the item isn't a float")
+    return struct.unpack((">e", ">f", ">d")[data[0] - 0xF9], data[1:])[0]
+
+
+def map_spans(kind, data):
+    """Returns the places of the labels and values of all pairs of a map, as received: a list of two slices each, in their
+    order. They are found in one walk."""
+    data = _bytes(data)[0]
+    try:
+        found = [pair_spans(kind, data, 0)]
+    except Absent:
+        if data[0] >> 5 != MajorType.MAP:
+            raise
+        return []
+    while (end := found[-1][1].stop) < len(data) and data[end] != 0xFF:
+        name = item_span(data, end)
+        found.append((name, item_span(data, name.stop)))
+    return found
+
+
 def label(kind, data, which, name):
     """Returns the value of a label, in its shortest encoding. `name` is an int or a str. `which` is the map:
     IN_PROTECTED, IN_UNPROTECTED or IN_ITEM."""
@@ -1037,13 +1087,15 @@ def status_text(status):
 
 def put(kind, data, name, value):
     """Returns the header, key or claims set, which may be empty, with one more pair at its end. The pair is an integer
-    label, and an int, a str, or bytes. True and False are no integers of CBOR: `put_encoded` takes them, as b"\xf5"
-    and b"\xf4"."""
+    label, and an int, a float, a str, or bytes. True and False are no integers of CBOR: `put_encoded` takes them, as
+    b"\xf5" and b"\xf4"."""
     if isinstance(value, bool):
         raise TypeError("True and False are no integers of CBOR: put_encoded takes their encodings")
     given = _kind(kind), *_bytes(data), _int64(name)
     if isinstance(value, int):
         return _written(_library.coset_put_int, *given, _int64(value))
+    if isinstance(value, float):
+        return _written(_library.coset_put, *given, *_bytes(_encoded_float(value)))
     if isinstance(value, str):
         return _written(_library.coset_put_text, *given, *_bytes(value.encode()))
     return _written(_library.coset_put_bytes, *given, *_bytes(value))
@@ -1055,6 +1107,20 @@ def put_encoded(kind, data, name, value):
     if isinstance(name, str):
         return _written(_library.coset_put_text_label, _kind(kind), *_bytes(data), *_bytes(name.encode()), *_bytes(value))
     return _written(_library.coset_put, _kind(kind), *_bytes(data), _int64(name), *_bytes(value))
+
+
+def _encoded_float(value):
+    """Returns a float in its shortest encoding (RFC 8949, section 4.2.2)."""
+    if math.isnan(value):
+        return b"\xf9\x7e\0"
+    for first, form in (0xF9, ">e"), (0xFA, ">f"):
+        try:
+            bits = struct.pack(form, value)
+        except OverflowError:
+            continue
+        if struct.unpack(form, bits)[0] == value:
+            return bytes([first]) + bits
+    return b"\xfb" + struct.pack(">d", value)
 
 
 class Encoded(bytes):
@@ -1081,6 +1147,8 @@ def _pair(name, value, parts):
         raise TypeError("True and False are no integers of CBOR: Encoded takes their encodings")
     if isinstance(value, int):
         pair.value_form, pair.value = INT, _int64(value)
+    elif isinstance(value, float):
+        pair.value_form, (pair.value_at, pair.value_len) = ENCODED, _part(_encoded_float(value), parts)
     elif isinstance(value, str):
         pair.value_form, (pair.value_at, pair.value_len) = TEXT, _part(value.encode(), parts)
     else:
@@ -1091,7 +1159,7 @@ def _pair(name, value, parts):
 
 def put_all(kind, data, pairs):
     """Returns the header, key or claims set, which may be empty, with these pairs at its end, in order, in one call.
-    `pairs` is a dict, or labels with values. A label is an int or a str. A value is an int, a str, bytes, or
+    `pairs` is a dict, or labels with values. A label is an int or a str. A value is an int, a float, a str, bytes, or
     Encoded, one item of CBOR."""
     parts = bytearray()
     told = [_pair(name, value, parts) for name, value in (pairs.items() if isinstance(pairs, Mapping) else pairs)]
