@@ -85,8 +85,8 @@ def message_calls(kind, number, data, item, tagged):
 
 
 def plaintext(item, ciphertext):
-    """Returns the plaintext of a COSE_Encrypt0, as c/wrappers/c/calls.c decrypts: the IV and the partial IV, each after the number
-    of its header, and the ciphertext's bytes, each xor 5a."""
+    """Returns the plaintext of a COSE_Encrypt0, as c/wrappers/c/calls.c decrypts it. The IV and the partial IV come first, each after
+    the number of its header. The ciphertext's bytes follow, each xor 5a."""
     headers = list(enumerate(headers_of("encrypt0", item), 1))
     found = [bytes([place]) + header[("int", label)][1] for label in (5, 6)
              for place, header in [it for it in headers if ("int", label) in it[1]][:1]]
