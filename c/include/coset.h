@@ -507,10 +507,11 @@ coset_status coset_key_fits(const uint8_t *key, size_t key_len, uint32_t form, i
  * shortest encoding of an item of the kind. Also, for each call: COSET_SHORT; and, unless stated otherwise,
  * COSET_ABSENT if items of the kind have no place for an argument. */
 
-/* Write the header, key or claims set `in`, which may be empty, with one more pair at its end. The label is an integer,
- * or a text in the last call. The value is an encoded item, the content of a byte string, the UTF-8 bytes of a text, or
- * an integer. The status is COSET_DUPLICATE if the label has a value already, and COSET_ABSENT if `in` is an item that
- * isn't a map. Give a new key its type, label 1, first. */
+/* Write the header, key, claims set or COSET_ITEM `in`, which may be empty, with one more pair at its end. The label is
+ * an integer, or a text in the last call. The value is an encoded item, the content of a byte string, the UTF-8 bytes of
+ * a text, or an integer. The status is COSET_ABSENT if `in` is an item that isn't a map. It is COSET_DUPLICATE if the
+ * label has a value already. But labels of a COSET_ITEM may repeat, and aren't compared. Give a new key its type, label
+ * 1, first. */
 COSET_CALL(9)
 coset_status coset_put(uint32_t kind, const uint8_t *in, size_t in_len, int64_t label, const uint8_t *value, size_t value_len,
                        uint8_t *out, size_t cap, size_t *len);

@@ -81,6 +81,42 @@ static inline void coset_pairs_int(coset_pairs *pairs, int64_t label, int64_t va
   coset_pairs_add(pairs, pair);
 }
 
+/* Sets *narrow to the bits of a shorter float with the value of `bits`, without the sign. That float has this least exponent,
+ * and this number of bits for its fraction. Returns 0 if it can't have the value. */
+static inline int coset_narrowed(uint64_t bits, int least, unsigned fractions, uint64_t *narrow) {
+  const uint64_t one = COSET_CAST(uint64_t, 1) << 52, whole = one | (bits & (one - 1));
+  const int exponent = COSET_CAST(int, bits >> 52 & 0x7ff) - 1023, kept = exponent < least ? least : exponent;
+  const unsigned lost = 52 - fractions + COSET_CAST(unsigned, kept - exponent);
+  if (exponent > 1 - least || lost > 52 || (whole & ((COSET_CAST(uint64_t, 1) << lost) - 1))) return 0;
+  *narrow = (COSET_CAST(uint64_t, kept - least) << fractions) + (whole >> lost);
+  return 1;
+}
+
+/* Writes a float in its shortest encoding, of at most nine bytes (RFC 8949, section 4.2.2). Returns its length. */
+static inline size_t coset_encoded_float(double value, uint8_t *at) {
+  uint64_t bits, sign, narrow = 0;
+  size_t width = 2, i;
+  memcpy(&bits, &value, sizeof bits);
+  sign = bits >> 63;
+  if (value != value)
+    narrow = 0x7e00, sign = 0;
+  else if (bits << 1 == COSET_CAST(uint64_t, 0x7ff) << 53)
+    narrow = 0x7c00;
+  else if (bits << 1 && !coset_narrowed(bits, -14, 10, &narrow))
+    width = coset_narrowed(bits, -126, 23, &narrow) ? 4 : 8;
+  bits = width == 8 ? bits : sign << (8 * width - 1) | narrow;
+  at[0] = width == 2 ? 0xf9 : width == 4 ? 0xfa : 0xfb;
+  for (i = width; i > 0; i--, bits >>= 8) at[i] = COSET_CAST(uint8_t, bits);
+  return width + 1;
+}
+
+/* The float is written in its shortest encoding. */
+static inline void coset_pairs_float(coset_pairs *pairs, int64_t label, double value) {
+  uint8_t item[9];
+  const size_t len = coset_encoded_float(value, item);
+  coset_pairs_encoded(pairs, label, item, len);
+}
+
 /* Adds a pair with a text label, and a value of this form, as its bytes. */
 static inline void coset_pairs_named(coset_pairs *pairs, const void *label, size_t label_len, uint32_t form, const void *at,
                                      size_t len) {
@@ -97,6 +133,14 @@ static inline coset_status coset_put_pairs(uint32_t kind, const uint8_t *in, siz
   *len = 0;
   if (pairs->is_full) return COSET_MISUSE;
   return coset_put_all(kind, in, in_len, pairs->at, pairs->count, pairs->bytes, pairs->len, out, cap, len);
+}
+
+/* coset_put for a float, which is written in its shortest encoding. */
+static inline coset_status coset_put_float(uint32_t kind, const uint8_t *in, size_t in_len, int64_t label, double value,
+                                           uint8_t *out, size_t cap, size_t *len) {
+  uint8_t item[9];
+  const size_t n = coset_encoded_float(value, item);
+  return coset_put(kind, in, in_len, label, item, n, out, cap, len);
 }
 
 #endif

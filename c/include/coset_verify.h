@@ -40,15 +40,29 @@ typedef struct coset_question {
   size_t input_len;
   const uint8_t *proof;    /* the signature or the tag; for coset_encrypt0_decrypt the ciphertext */
   size_t proof_len;
+  const uint8_t *iv;       /* from coset_encrypt0_decrypt alone: label 5 of a header, else NULL */
+  size_t iv_len;
+  uint32_t iv_map;         /* the header that has it, as for the key identifier */
+  const uint8_t *partial_iv; /* from coset_encrypt0_decrypt alone: label 6 of a header, else NULL */
+  size_t partial_iv_len;
+  uint32_t partial_iv_map; /* the header that has it */
 } coset_question;
 
 /* Returns 1 if the proof is a signature or a tag of the input, by a key that the caller trusts for that algorithm. */
 typedef int (*coset_verifier)(void *context, const coset_question *question);
 
-/* Decrypts the ciphertext by such a key, and returns 1 if it is authentic. The plaintext is then in `plain`, which has
- * `cap` bytes, and `*len` is its length. `iv` is label 5 of the headers, or NULL if neither has it. */
-typedef int (*coset_decrypter)(void *context, const coset_question *question, const uint8_t *iv, size_t iv_len, uint8_t *plain,
-                               size_t cap, size_t *len);
+enum {
+  COSET_NO_ROOM = -1 /* the result of a coset_decrypter or a coset_opener: `plain` is too small */
+};
+
+/* Decrypts the ciphertext by such a key. Returns:
+ * - 1 if it is authentic. The plaintext is then in `plain`, which has `cap` bytes, and `*len` is its length. `plain` has
+ *   room for as many bytes as the ciphertext has.
+ * - COSET_NO_ROOM if `cap` is too small all the same. `*len` may be the size that is needed.
+ * - 0 otherwise. Any other result counts as 0, and so does a length greater than `cap`.
+ *
+ * A message may have an IV in one header and a partial IV in the other. Refuse it then (RFC 8152, section 3.1). */
+typedef int (*coset_decrypter)(void *context, const coset_question *question, uint8_t *plain, size_t cap, size_t *len);
 
 /* Writes zeros over memory whose contents weren't handed out. */
 static inline void coset_cleared(uint8_t *at, size_t len) {
@@ -84,6 +98,9 @@ static inline coset_question coset_asked(const coset_message_spans_view *view, c
   question.key_id = view->key_id_map ? (view->is_key_id_in_input ? in : out) + view->key_id_at : NULL;
   question.key_id_len = view->key_id_len;
   question.key_id_map = view->key_id_map;
+  question.iv = question.partial_iv = NULL;
+  question.iv_len = question.partial_iv_len = 0;
+  question.iv_map = question.partial_iv_map = COSET_NONE;
   return question;
 }
 
@@ -142,64 +159,114 @@ static inline coset_status coset_sign_verify(uint32_t form, const uint8_t *in, s
   return coset_verify(coset_kind_in(COSET_SIGN, form), in, in_len, index, policy, verify, context, out, cap, payload, payload_len);
 }
 
-/* Writes the IV of a message: label 5 of the protected header, else of the unprotected one. `*len` is 0 if neither has
- * it. */
-static inline coset_status coset_iv(uint32_t kind, const uint8_t *in, size_t in_len, uint8_t *out, size_t cap, size_t *len) {
-  coset_status status = coset_label_bytes(kind, in, in_len, COSET_IN_PROTECTED, 5, out, cap, len);
-  if (status == COSET_ABSENT) status = coset_label_bytes(kind, in, in_len, COSET_IN_UNPROTECTED, 5, out, cap, len);
-  if (status == COSET_ABSENT) return COSET_OK;
+/* Writes the byte string under a label of a message, from the protected header, else from the unprotected one. `*map` is
+ * the header that has it. `*len` is 0, and `*map` COSET_NONE, if neither has it. */
+static inline coset_status coset_in_either(uint32_t kind, const uint8_t *in, size_t in_len, int64_t label, uint8_t *out,
+                                           size_t cap, size_t *len, uint32_t *map) {
+  coset_status status = coset_label_bytes(kind, in, in_len, COSET_IN_PROTECTED, label, out, cap, len);
+  *map = COSET_IN_PROTECTED;
+  if (status != COSET_ABSENT) return status;
+  *map = COSET_IN_UNPROTECTED;
+  status = coset_label_bytes(kind, in, in_len, COSET_IN_UNPROTECTED, label, out, cap, len);
+  if (status != COSET_ABSENT) return status;
+  *map = COSET_NONE;
+  return COSET_OK;
+}
+
+/* Sets the lengths of both IVs, and that of the only ciphertext, carried by the COSET_ENCRYPT0 or detached in the policy.
+ * Returns COSET_OK, COSET_ABSENT if there is no ciphertext, or COSET_MISUSE if there are two. */
+static inline coset_status coset_lengths(uint32_t kind, const uint8_t *in, size_t in_len, const coset_policy *policy,
+                                         coset_question *question) {
+  coset_status status = coset_part(kind, in, in_len, COSET_CIPHERTEXT, NULL, 0, &question->proof_len);
+  if (status == COSET_ABSENT && policy->has_detached) {
+    question->proof_len = policy->detached_len;
+  } else {
+    if (status && status != COSET_SHORT) return status;
+    if (policy->has_detached) return COSET_MISUSE;
+  }
+  status = coset_in_either(kind, in, in_len, 5, NULL, 0, &question->iv_len, &question->iv_map);
+  if (status && status != COSET_SHORT) return status;
+  status = coset_in_either(kind, in, in_len, 6, NULL, 0, &question->partial_iv_len, &question->partial_iv_map);
+  return status == COSET_SHORT ? COSET_OK : status;
+}
+
+/* Writes both IVs to `at`, which has room for them, and completes the question. */
+static inline coset_status coset_completed(uint32_t kind, const uint8_t *in, size_t in_len, const coset_policy *policy,
+                                           const coset_message_spans_view *view, uint8_t *out, uint8_t *at,
+                                           coset_question *question) {
+  const coset_question sizes = *question;
+  coset_status status;
+  *question = coset_asked(view, in, out);
+  question->proof = policy->has_detached ? policy->detached : (view->is_content_in_input ? in : out) + view->content_at;
+  question->proof_len = sizes.proof_len;
+  status = coset_in_either(kind, in, in_len, 5, at, sizes.iv_len, &question->iv_len, &question->iv_map);
+  if (status) return status;
+  question->iv = question->iv_len ? at : NULL;
+  at += question->iv_len;
+  status = coset_in_either(kind, in, in_len, 6, at, sizes.partial_iv_len, &question->partial_iv_len, &question->partial_iv_map);
+  question->partial_iv = question->partial_iv_len ? at : NULL;
   return status;
 }
 
-/* Checks that there is exactly one ciphertext, carried by the COSET_ENCRYPT0 or detached in the policy. Returns
- * COSET_OK, COSET_ABSENT if there is none, or COSET_MISUSE if there are two. */
-static inline coset_status coset_is_carried(uint32_t kind, const uint8_t *in, size_t in_len, const coset_policy *policy) {
-  size_t len;
-  coset_status status = coset_part(kind, in, in_len, COSET_CIPHERTEXT, NULL, 0, &len);
-  if (status != COSET_OK && status != COSET_SHORT && status != COSET_ABSENT) return status;
-  if (!policy->has_detached) return status == COSET_ABSENT ? COSET_ABSENT : COSET_OK;
-  return status == COSET_ABSENT ? COSET_OK : COSET_MISUSE;
+/* Returns the size of a buffer whose last `left` bytes, after the first `at`, had no room for the plaintext. `said` is the
+ * size that the caller's function needs, if it said so. */
+static inline size_t coset_larger(size_t at, size_t left, size_t said, size_t proof_len) {
+  if (said <= left) said = proof_len > left ? proof_len : left + 1;
+  return said <= COSET_CAST(size_t, PTRDIFF_MAX) - at ? at + said : COSET_CAST(size_t, PTRDIFF_MAX);
+}
+
+/* Asks for the plaintext, after the first `at` bytes of `out`. If the answer is yes, `*len` is its length. If the status is
+ * COSET_SHORT, that is the size of `out` that is needed. */
+static inline coset_status coset_decrypted(coset_decrypter decrypt, void *context, const coset_question *question,
+                                           uint8_t *out, size_t at, size_t cap, size_t *len) {
+  size_t plain = 0;
+  const int said = decrypt(context, question, out + at, cap - at, &plain);
+  if (said == COSET_NO_ROOM) {
+    *len = coset_larger(at, cap - at, plain, question->proof_len);
+    return COSET_SHORT;
+  }
+  if (said != 1 || plain > cap - at) return COSET_REFUSED;
+  *len = plain;
+  return COSET_OK;
 }
 
 /* Decrypts a COSET_ENCRYPT0 in this form, and returns the status.
  *
- * If the status is COSET_OK, `decrypt` said yes, and `plain` has the plaintext, of `*plain_len` bytes. After any other
- * status but COSET_SHORT, `*plain_len` is 0. If `decrypt` was called and the status isn't COSET_OK, `plain`
- * has zeros.
+ * If the status is COSET_OK, `decrypt` said yes, and `*plain` is the plaintext, of `*plain_len` bytes, in `out`. After
+ * any other status `*plain` is NULL, and `out` has nothing of the message. COSET_REFUSED means that `decrypt` said no.
  *
- * `out` is memory to work in. It needs room for Enc_structure, for the IV, and for the other texts if the message is
- * read by copies. If `out` is too small, the status is COSET_SHORT, and `*plain_len` is the size that is needed so far.
- * With that size the call may still need more, for the IV. */
+ * `out` needs room for Enc_structure, both IVs, and a plaintext as long as the ciphertext. It also needs room for the other
+ * texts if the message is read by copies. If `out` is too small, the status is COSET_SHORT, and `*plain_len` is the size
+ * that is needed. That size is enough, unless `decrypt` says COSET_NO_ROOM. */
 static inline coset_status coset_encrypt0_decrypt(uint32_t form, const uint8_t *in, size_t in_len, const coset_policy *policy,
                                                   coset_decrypter decrypt, void *context, uint8_t *out, size_t cap,
-                                                  uint8_t *plain, size_t plain_cap, size_t *plain_len) {
+                                                  const uint8_t **plain, size_t *plain_len) {
   const uint32_t kind = coset_kind_in(COSET_ENCRYPT0, form);
   coset_message_spans_view view;
   coset_question question;
-  size_t len, iv_len = 0;
-  coset_status status;
+  coset_status status, sized;
+  size_t len, at;
+  *plain = NULL;
   *plain_len = 0;
-  if (plain_cap > COSET_CAST(size_t, PTRDIFF_MAX)) return COSET_MISUSE;
   status = coset_message_spans(kind, in, in_len, 0, policy->external_aad, policy->external_aad_len, policy->has_detached,
                                policy->detached, policy->detached_len, policy->critical, policy->critical_len, out, cap, &len,
                                &view);
-  if (status == COSET_SHORT) *plain_len = len;
-  if (status) return status;
-  status = coset_iv(kind, in, in_len, out + len, cap - len, &iv_len);
-  if (status == COSET_SHORT) *plain_len = len + iv_len;
-  if (!status) status = coset_is_carried(kind, in, in_len, policy);
-  if (!status) status = coset_permitted(&view, policy);
-  if (status) return status;
-  question = coset_asked(&view, in, out);
-  question.proof = (view.is_content_in_input ? in : out) + view.content_at;
-  question.proof = policy->has_detached ? policy->detached : question.proof;
-  question.proof_len = policy->has_detached ? policy->detached_len : view.content_len;
-  if (decrypt(context, &question, iv_len ? out + len : NULL, iv_len, plain, plain_cap, plain_len) == 1 &&
-      *plain_len <= plain_cap)
-    return COSET_OK;
-  coset_cleared(plain, plain_cap);
-  *plain_len = 0;
-  return COSET_REFUSED;
+  if (status && status != COSET_SHORT) return status;
+  sized = coset_lengths(kind, in, in_len, policy, &question);
+  at = sized ? 0 : len + question.iv_len + question.partial_iv_len;
+  if (!sized && at + question.proof_len > cap) sized = COSET_SHORT, *plain_len = at + question.proof_len;
+  if (sized) {
+    if (!status) coset_cleared(out, len);
+    return sized;
+  }
+  status = coset_permitted(&view, policy);
+  if (!status) status = coset_completed(kind, in, in_len, policy, &view, out, out + len, &question);
+  if (!status) status = coset_decrypted(decrypt, context, &question, out, at, cap, plain_len);
+  if (status)
+    coset_cleared(out, cap);
+  else
+    *plain = out + at;
+  return status;
 }
 
 /* ---- A bound on nesting, for threads with little stack */
@@ -345,10 +412,6 @@ typedef struct coset_layer_question {
   size_t index; /* of the layer, from the outermost, which is 0 */
 } coset_layer_question;
 
-enum {
-  COSET_NO_ROOM = -1 /* a coset_opener's result: `plain` is too small */
-};
-
 /* Verifies or decrypts the layer by a key that fits (coset_key_fits), and that the caller trusts. Returns:
  * - 1 if the layer is authentic. For COSET_ENCRYPT0 the plaintext is then in `plain`, which has `cap` bytes, and `*len`
  *   is its length. `*issuer` is the name of the key's issuer, or remains empty if that issuer has no name.
@@ -453,9 +516,8 @@ static inline coset_status coset_work_ask(struct coset_work *work, const coset_l
   int said;
   if (work->count == 4) return COSET_REFUSED;
   said = opener(context, &question, work->at + at, left, &plain, &name);
-  if (said == COSET_NO_ROOM) { /* more than there is, or else what the proof needs at most */
-    if (plain <= left) plain = layer->proof_len > left ? layer->proof_len : left + 1;
-    *needed = plain <= COSET_CAST(size_t, PTRDIFF_MAX) - at ? at + plain : COSET_CAST(size_t, PTRDIFF_MAX);
+  if (said == COSET_NO_ROOM) {
+    *needed = coset_larger(at, left, plain, layer->proof_len);
     return COSET_SHORT;
   }
   if (layer->form != COSET_ENCRYPT0) plain = 0;

@@ -9,10 +9,12 @@ from capi.vectors import token
 
 # Calls that return places.
 SPANS = ("member_span", "pair_spans", "label_span", "item_span", "string_span")
+# Calls that return a number, or a text for one.
+NUMBERS = ("count", "label_int", "integer", "major_type", "simple_value")
 # Calls that verify a token.
 TOKENS = ("token", "ring")
 # Calls without a buffer for their result.
-WITHOUT_ROOM = ("check", "count", "label_int", "integer", *SPANS)
+WITHOUT_ROOM = ("check", "float_value", "map_spans", *NUMBERS, *SPANS)
 # Calls that return a view.
 WITH_VIEW = ("sign1", "message", "spans")
 LARGE = 1 << 16
@@ -91,8 +93,12 @@ def told_by_c(call, status, answer, cap):
         return spans_told(status, answer, view)
     if call == "safe":
         return [str(status), str(len(answer or b""))] + ([answer.hex()] if answer else [])
-    if call in ("count", "label_int", "integer"):
+    if call in NUMBERS:
         return [str(status), str(answer or 0)]
+    if call == "float_value":
+        return [str(status), answer or "0" * 16]
+    if call == "map_spans":
+        return [str(status), *(answer or "0").split()]
     if status == -1:
         return ["-1"]
     if status == OK and len(answer) > cap:

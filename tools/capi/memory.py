@@ -28,7 +28,7 @@ def is_clean(asked, want, got):
     if asked.startswith("open "):
         got = [*got[:7], *got[8:]]  # without the index of the layer, which may be known
     is_untouched = len(got) < 3 or set(got[2][i:i + 2] for i in range(0, len(got[2]), 2)) <= {"ee"}
-    is_empty = want[0] == "0" and len(want) == 1 or got[1] in ("0", str(NO_OFFSET))
+    is_empty = want[0] == "0" and len(want) == 1 or not got[1].strip("0") or got[1] == str(NO_OFFSET)
     return is_untouched and set(got[3:]) <= {"0"} and is_empty
 
 

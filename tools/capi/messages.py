@@ -84,6 +84,15 @@ def message_calls(kind, number, data, item, tagged):
         yield from safe_calls(kind, number, data, item, words, status, told, detached)
 
 
+def plaintext(item, ciphertext):
+    """Returns the plaintext of a COSE_Encrypt0, as c/wrappers/c/calls.c decrypts it. The IV and the partial IV come first, each after
+    the number of its header. The ciphertext's bytes follow, each xor 5a."""
+    headers = list(enumerate(headers_of("encrypt0", item), 1))
+    found = [bytes([place]) + header[("int", label)][1] for label in (5, 6)
+             for place, header in [it for it in headers if ("int", label) in it[1]][:1]]
+    return b"".join(found) + bytes(byte ^ 0x5a for byte in ciphertext)
+
+
 def safe_calls(kind, number, data, item, words, status, told, detached):
     """Yields the calls of coset_verify.h, and the same calls of the wrappers. In one the verifier gets the right structure and
     accepts; others are refused."""
@@ -99,13 +108,21 @@ def safe_calls(kind, number, data, item, words, status, told, detached):
     for length in view[5:]:
         texts.append(told[len(b"".join(texts)):][:length])
     content = carried if detached is None else detached
-    ivs = [header[("int", 5)][1] for header in headers_of(kind, item) if ("int", 5) in header] if crypted else []
-    proof, answer = (content, b"".join(ivs[:1]) + bytes(byte ^ 0x5a for byte in content)) if crypted else (texts[1], content)
+    proof, answer = (content, plaintext(item, content)) if crypted else (texts[1], content)
     asked = [texts[0], proof, texts[3]]
     for allowed, said in ([view[0], True], [view[0], False], [view[0] + 1, True]):
         status = CRITICAL if view[3] == 2 else NOT_ALLOWED if view[1] != 1 or allowed != view[0] else OK if said else REFUSED
         given = words[:4] + [f"{allowed},-99999", words[4]] + (asked if said else [texts[0] + b"x", *asked[1:]])
         yield ("safe", number, data, given, status, answer if status == OK else None)
+
+
+def sealed_calls():
+    """Yields the calls for COSE_Encrypt0s with an IV, a partial IV or neither in each of the headers."""
+    ivs = [], [("int", 5), (2, b"an IV")], [("int", 6), (2, b"part")]
+    for protected, unprotected, content in itertools.product(ivs, ivs, ((2, b"sealed"), (2, b""), ("simple", 22, 22))):
+        header = encode(("map", [("int", 1), ("int", 1), *protected]))
+        item = ("array", [(2, header), ("map", unprotected), content])
+        yield from message_calls("encrypt0", 5, encode(item), item, False)
 
 
 def calls(kind, number, data, item, tagged):

@@ -9,7 +9,7 @@ WITH_KIND = (
     ("text_label", [1, b"x"]), ("structure", [0, b"", 0, b""]), ("put", [1, b"\1"]), ("put_bytes", [1, b"\1"]),
     ("put_text", [1, b"x"]), ("put_int", [1, 1]), ("put_text_label", [b"x", b"\1"]), ("structure_of", [b"", b"", b""]),
     ("make", [b"", 0, b"", b""]), ("add", [b"\1"]), ("write", []), ("sign1", [b"", 0, b""]), ("message", [0, b"", 0, b"", "-"]),
-    ("recipient_structure", [b""]), ("recipient_structure_of", [b""]), ("put_all", ["i1=i1"]), ("spans", [0, b"", 0, b"", "-"]),
+    ("map_spans", []), ("recipient_structure", [b""]), ("recipient_structure_of", [b""]), ("put_all", ["i1=i1"]), ("spans", [0, b"", 0, b"", "-"]),
     ("countersign_structure", [7, b"", b"", 0, b""]))
 # Calls with a payload, without the flag that says that there is one.
 WITHOUT_FLAG = (

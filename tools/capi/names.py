@@ -104,7 +104,7 @@ def compare_functions(sources, check):
 
 def compare_python(check):
     """Compares the constants of the Python wrapper with the header's."""
-    numbers = {n: int(v, 0) for n, v in re.findall(CONSTANT, header())}
+    numbers = {n: int(v, 0) for n, v in re.findall(CONSTANT, header() + read("c", "include", "coset_items.h"))}
     python = read("c", "wrappers", "python", "coset", "__init__.py")
     for names, first in re.findall(r"^([A-Z0-9_, ]+) = (?:map\(Kind, )?range\((\w+), \w+\)", python, re.M):
         for place, name in enumerate(names.strip().split(", ")):

@@ -43,6 +43,8 @@ def spans_at(kind, number, data):
     members = list(children(data, listed)) if listed is not None and data[listed] >> 5 == 4 else []
     yield from by_index("member_span", number, data, [(it,) for it in members])
     yield from by_index("pair_spans", number, data, list(zip(places[::2], places[1::2])) if is_map else [])
+    told = f"{len(places) // 2} {spelled(*places)}".strip() if is_map else None
+    yield ("map_spans", number, data, [], OK if is_map else ABSENT, told)
 
 
 def label_span(kind, data, which, label):

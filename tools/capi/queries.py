@@ -1,11 +1,13 @@
 """The calls that ask about an item: its parts, its members, its pairs, and the values under its labels."""
 import itertools
+import math
+import struct
 
 from capi import messages, structures
 from capi.kinds import ABSENT, EMPTY, OK, PARTS, TAGGED, TYPE, bytes_at, fits_int64, maps, members, pairs_of
 from capi.places import descendants, label_span, spans_at
 from capi.vectors import status_of
-from cbor import decode, encode
+from cbor import WIDTHS, decode, encode
 
 
 def there(call, number, data, words, result):
@@ -58,6 +60,21 @@ def scalars(number, data, item):
     yield ("integer", number, data, [], OK if fits else TYPE, item[1] if fits else None)
 
 
+def scalar_values(number, data, item):
+    """Yields the calls for the major type, for a simple value and for a float."""
+    width = WIDTHS.get(data[0] & 31) if item[0] == "simple" else None
+    yield ("major_type", number, data, [], OK, data[0] >> 5)
+    is_simple = item[0] == "simple" and width is None
+    yield ("simple_value", number, data, [], OK if is_simple else TYPE, item[2] if is_simple else None)
+    yield ("float_value", number, data, [], OK if width else TYPE, bits(data) if width else None)
+
+
+def bits(data):
+    """Returns the 64 bits of a float, or `nan`, as the programs print them."""
+    value, = struct.unpack({3: ">e", 5: ">f", 9: ">d"}[len(data)], data[1:])
+    return "nan" if math.isnan(value) else struct.pack(">d", value).hex()
+
+
 def first_values(number, data, item):
     """Yields the calls for the value under each integer label. If a label repeats, its first value is returned."""
     pairs = pairs_of(item)
@@ -85,6 +102,7 @@ def items(data, item):
     yield from spans_at("any", number, data)
     yield from item_spans(number, data)
     yield from scalars(number, data, item)
+    yield from scalar_values(number, data, item)
     yield from first_values(number, data, item)
 
 

@@ -10,8 +10,8 @@ import subprocess
 import sys
 import tempfile
 
-from capi import (accepting, attack, calling, depths, examples, install, interface, limits, memory, misuses, openers, openssl,
-                  rows, rust, shapes, tokens, trying)
+from capi import (accepting, attack, calling, depths, examples, install, interface, items, limits, memory, messages, misuses,
+                  openers, openssl, rows, rust, shapes, tokens, trying)
 from capi.building import HERE, WRAPPERS, build_callers, own_heap, run
 from capi.vectors import token
 from cbor import decode
@@ -133,7 +133,7 @@ def called(given, folder, objects, wrong):
     """Makes all calls. Returns the first faults, and a line with the numbers of calls."""
     build_callers(folder, objects)
     rust.build_calls(folder)
-    calls = [*rows.calls(wrong.check), *examples.calls(wrong.check), *tokens.calls()]
+    calls = [*rows.calls(wrong.check), *examples.calls(wrong.check), *messages.sealed_calls(), *items.calls(), *tokens.calls()]
     of_tokens = [*tokens.calls_from_c(wrong.check), *openers.calls(), *shapes.calls()]
     every = [*calls, *of_tokens, *misuses.calls(), *depths.calls(calls)]
     lines, wanted = calling.from_c(f"{folder}/calls_c", every, wrong.check)

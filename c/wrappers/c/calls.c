@@ -4,13 +4,14 @@
  *   label_at KIND IN CAP INDEX | value_at KIND IN CAP INDEX | key_of 11 IN CAP KID
  *   member_span KIND IN INDEX | pair_spans KIND IN INDEX | label_span KIND IN MAP LABEL
  *   string_span 13 IN | integer 13 IN | item_span 13 IN AT
+ *   major_type 13 IN | simple_value 13 IN | float_value 13 IN | map_spans KIND IN
  *   label_bytes KIND IN CAP MAP LABEL | label_int KIND IN MAP LABEL | text_label KIND IN CAP MAP LABEL
  *   structure KIND IN CAP INDEX AAD HAS DETACHED | recipient_structure HOLDER IN CAP AAD
  *   countersign_structure KIND IN CAP LABEL SIGNER AAD HAS DETACHED
  *   sign1 KIND IN CAP AAD HAS DETACHED | message KIND IN CAP INDEX AAD HAS DETACHED KNOWN
  *   verified KIND IN CAP ALG KID SIGNED SIGNATURE | safe KIND IN CAP INDEX AAD HAS DETACHED ALGS KNOWN INPUT PROOF KID
  *   spans KIND IN CAP INDEX AAD HAS DETACHED KNOWN | put_all KIND IN CAP PAIRS
- *   put, put_bytes, put_text, put_int or put_text_label KIND IN CAP LABEL VALUE
+ *   put, put_bytes, put_text, put_int, put_float or put_text_label KIND IN CAP LABEL VALUE
  *   structure_of KIND PROTECTED CAP SIGNER AAD CONTENT | recipient_structure_of HOLDER PROTECTED CAP AAD
  *   make KIND PROTECTED CAP UNPROTECTED HAS CONTENT PROOF
  *   add KIND IN CAP MEMBER | write KIND IN CAP | canonical_key ORDER IN CAP
@@ -29,7 +30,8 @@
  * - `verified` calls verify.c. The signature is good if ALG, KID, SIGNED and SIGNATURE are those of the question.
  * - `issued` calls issue.c. The signature is SIGNATURE if the bytes to sign are SIGNED.
  * - `safe` is the call of coset_verify.h for the kind. The answer is yes if the question has INPUT, PROOF and KID. A
- *   ciphertext is then decrypted as the IV, and the ciphertext's bytes, each xor 5a.
+ *   ciphertext is then decrypted as the IV and the partial IV, each after the number of its header, and the ciphertext's
+ *   bytes, each xor 5a.
  * - `token` is coset_token_verify, with a policy of these lists. RULES are the seven numbers of coset_rules after its
  *   size, with commas. ANSWERS are the answers for the layers, with commas: `yes`, `no`, or `p` and a plaintext. After
  *   the answer may follow `@` and the name of the issuer. `answers` is the same, with answers that no caller should give
@@ -50,6 +52,8 @@
  * plaintext alone, and `spans` the four texts. Before the status, `spans` prints how many of three texts are in the
  * input. For `sign1`, `message` and `spans` the numbers of the view follow, which were 77 before.
  *
+ * `float_value` prints the 64 bits of the float, or `nan`. `map_spans` prints the number of pairs, and then their places.
+ *
  * `token` prints the status, and then for COSET_OK:
  * - the claims; the texts of the audience, each `t` and its bytes, with commas; the others; `t` and the issuer's name,
  *   or `-`,
@@ -60,6 +64,8 @@
  *
  * Each input is in memory of its own. With REFUSE=N in the environment, the N-th request for memory of each call is
  * refused. */
+#include "coset_items.h"
+#include "coset_pairs.h"
 #include "coset_verify.h"
 #include "words.h"
 #include <inttypes.h>
@@ -150,7 +156,7 @@ static void deeper(struct bytes in) {
 }
 
 /* Prints the results of coset_verify.h for a length that no object has. The length is that of a list of algorithms, a
- * plaintext's memory, the memory to work in, a token, and the bytes of coset_is_deeper. */
+ * buffer, the memory to work in, a token, and the bytes of coset_is_deeper. */
 static void lengths(struct bytes in, uint8_t *out, size_t cap) {
   const int64_t es256 = -7;
   const coset_policy policy = {.algorithms = &es256, .algorithms_len = SIZE_MAX};
@@ -158,7 +164,7 @@ static void lengths(struct bytes in, uint8_t *out, size_t cap) {
   const uint8_t *payload = NULL;
   size_t len;
   printf("%" PRId32, coset_sign1_verify(COSET_EITHER, in.at, in.len, &policy, NULL, NULL, out, cap, &payload, &len));
-  printf(" %" PRId32, coset_encrypt0_decrypt(COSET_EITHER, in.at, in.len, &policy, NULL, NULL, out, cap, out, SIZE_MAX, &len));
+  printf(" %" PRId32, coset_encrypt0_decrypt(COSET_EITHER, in.at, in.len, &policy, NULL, NULL, out, SIZE_MAX, &payload, &len));
   printf(" %" PRId32, length_call(in.at, in.len, out, SIZE_MAX, &told));
   printf(" %" PRId32, length_call(in.at, SIZE_MAX, out, cap, &told));
   printf(" %d\n", coset_is_deeper(in.at, SIZE_MAX, COSET_MOST_LEVELS));
@@ -171,14 +177,60 @@ static int is_asked(void *words, const coset_question *question) {
          same(word[2], question->key_id, question->key_id_len);
 }
 
-static int is_decrypted(void *words, const coset_question *question, const uint8_t *iv, size_t iv_len, uint8_t *plain, size_t cap,
-                        size_t *len) {
-  size_t i;
-  *len = iv_len + question->proof_len;
-  if (*len > cap || !is_asked(words, question)) return 0;
-  if (iv_len) memcpy(plain, iv, iv_len);
-  for (i = 0; i < question->proof_len; i++) plain[iv_len + i] = question->proof[i] ^ 0x5a;
+/* Appends the number of a header and the IV in it, if there is one. */
+static size_t with_iv(uint8_t *plain, size_t at, const uint8_t *iv, size_t len, uint32_t map) {
+  if (!iv) return at;
+  plain[at] = (uint8_t)map;
+  memcpy(plain + at + 1, iv, len);
+  return at + 1 + len;
+}
+
+static int is_decrypted(void *words, const coset_question *q, uint8_t *plain, size_t cap, size_t *len) {
+  size_t at;
+  if (!q->iv != !q->iv_len || !q->iv != !q->iv_map || !q->partial_iv != !q->partial_iv_len || !q->partial_iv != !q->partial_iv_map) return 0;
+  if (!is_asked(words, q)) return 0;
+  *len = !!q->iv + q->iv_len + !!q->partial_iv + q->partial_iv_len + q->proof_len;
+  if (*len > cap) return COSET_NO_ROOM;
+  at = with_iv(plain, 0, q->iv, q->iv_len, q->iv_map);
+  at = with_iv(plain, at, q->partial_iv, q->partial_iv_len, q->partial_iv_map);
+  for (size_t i = 0; i < q->proof_len; i++) plain[at + i] = q->proof[i] ^ 0x5a;
   return 1;
+}
+
+/* Returns the status of coset_encrypt0_decrypt. Afterwards `out` has the plaintext at its front. If the status isn't
+ * COSET_OK, nothing of the message is left there. */
+static int32_t decrypted(uint32_t form, struct bytes in, const coset_policy *policy, char **words, uint8_t *out, size_t cap, size_t *len) {
+  const uint8_t *plain = out;
+  const int32_t status = coset_encrypt0_decrypt(form, in.at, in.len, policy, is_decrypted, words, out, cap, &plain, len);
+  if ((status == 0) != (plain != NULL)) return -4;
+  for (size_t i = 0; status && i < cap; i++)
+    if (out[i] && out[i] != 0xee) return -5;
+  if (plain && *len) memmove(out, plain, *len);
+  return status;
+}
+
+/* Makes the same call with as much memory as it says that it needs, from none on, and with a byte less than that. Returns the
+ * status that isn't COSET_SHORT. -7: a size was wrong, or the first wasn't enough. If the plaintext is longer than the
+ * ciphertext, the second must be enough. */
+static int32_t decrypted_in_need(uint32_t form, struct bytes in, const coset_policy *policy, char **words, const uint8_t *plain, size_t plain_len) {
+  const int rounds = plain_len > strlen(words[1]) / 2 ? 3 : 2;
+  size_t cap = 0, len = 0;
+  for (int round = 0; round < rounds; round++) {
+    uint8_t *out = memset(malloc(cap + !cap), 0xee, cap);
+    const int32_t status = decrypted(form, in, policy, words, out, cap, &len);
+    const int is_same = status || (len == plain_len && !memcmp(out, plain, len));
+    free(out);
+    if (status != COSET_SHORT) return is_same ? status : -7;
+    if (len <= cap || len > 1 << 24) return -7;
+    out = memset(malloc(len), 0xee, len);
+    size_t less = 0;
+    const int32_t other = decrypted(form, in, policy, words, out, len - 1, &less);
+    free(out);
+    if (other == COSET_MEMORY) return other;
+    if (other != COSET_SHORT || less != len) return -7;
+    cap = len;
+  }
+  return -7;
 }
 
 /* Returns the status of the call of coset_verify.h for the kind, with these words. Afterwards `out` has the payload or
@@ -191,9 +243,7 @@ static int32_t safe(char **word, uint32_t number, struct bytes in, uint8_t *out,
                                aad.len,    (uint32_t)strtoul(word[6], NULL, 0), detached.at, detached.len};
   const size_t index = strtoul(word[4], NULL, 0);
   const uint8_t *payload = out;
-  uint8_t *plain = malloc(cap + 1);
   int32_t status = -2;
-  memset(plain, 0xee, cap + 1);
   switch (number & 0xff) {
   case COSET_SIGN1: status = coset_sign1_verify(form, in.at, in.len, &policy, is_asked, word + 10, out, cap, &payload, len); break;
   case COSET_MAC0: status = coset_mac0_verify(form, in.at, in.len, &policy, is_asked, word + 10, out, cap, &payload, len); break;
@@ -201,15 +251,18 @@ static int32_t safe(char **word, uint32_t number, struct bytes in, uint8_t *out,
     status = coset_sign_verify(form, in.at, in.len, index, &policy, is_asked, word + 10, out, cap, &payload, len);
     break;
   default:
-    status = coset_encrypt0_decrypt(form, in.at, in.len, &policy, is_decrypted, word + 10, out, cap, plain, cap, len);
-    payload = status ? NULL : plain;
-    for (size_t i = 0; status == COSET_REFUSED && i < cap; i++) status = plain[i] ? -3 : status;
+    status = decrypted(form, in, &policy, word + 10, out, cap, len);
+    payload = status ? NULL : out;
+    if (cap && (status == COSET_OK || status >= COSET_NOT_ALLOWED)) {
+      const int32_t other = decrypted_in_need(form, in, &policy, word + 10, out, *len);
+      if (other != status) payload = NULL, *len = 0, status = other;
+    }
   }
   if ((status == 0) != (payload != NULL)) status = -4;
   for (size_t i = 0; (number & 0xff) != COSET_ENCRYPT0 && status >= COSET_NOT_ALLOWED && i < cap; i++)
     status = out[i] && out[i] != 0xee ? -5 : status;
   if (payload && *len) memmove(out, payload, *len);
-  free(plain), free(aad.at), free(detached.at);
+  free(aad.at), free(detached.at);
   return status;
 }
 
@@ -245,7 +298,7 @@ static char *part(char *word, uint8_t *bytes, size_t *count, size_t *at, size_t 
 }
 
 /* Calls coset_put_all with the pairs of a word. A pair is a label and a value with `=` between them, and a comma
- * follows. Each is `i` and an integer, or `t`, `b` or `e` and hexadecimal. `n` stands for a form that doesn't exist,
+ * follows. Each is `i` and an integer, `f` and a float, or `t`, `b` or `e` and hexadecimal. `n` stands for a form that doesn't exist,
  * and `o` for a text outside the bytes. */
 static int32_t put_all(char *word, uint32_t kind, struct bytes in, uint8_t *out, size_t cap, size_t *len) {
   static const char forms[] = "nitbe";
@@ -262,6 +315,13 @@ static int32_t put_all(char *word, uint32_t kind, struct bytes in, uint8_t *out,
     now++;
     pair->value_form = *now == 'o' ? 2 : (uint32_t)(strchr(forms, *now) - forms);
     if (*now == 'i') pair->value = strtoll(now + 1, &now, 10);
+    else if (*now == 'f') {
+      coset_pairs one = coset_pairs_in(pair, 1, bytes.at + bytes.len, 9);
+      const coset_pair named = *pair;
+      coset_pairs_float(&one, pair->label, strtod(now + 1, &now));
+      pair->label_form = named.label_form, pair->label_at = named.label_at, pair->label_len = named.label_len;
+      pair->value_at += bytes.len, bytes.len += one.len;
+    }
     else if (*now == 'o') now++, pair->value_at = SIZE_MAX;
     else now = part(now + 1, bytes.at, &bytes.len, &pair->value_at, &pair->value_len);
   }
@@ -331,6 +391,7 @@ static int32_t made(char **word, uint32_t kind, struct bytes in, uint8_t *out, s
   if (!strcmp(call, "put")) status = coset_put(kind, in.at, in.len, label, b[1].at, b[1].len, out, cap, len);
   if (!strcmp(call, "put_bytes")) status = coset_put_bytes(kind, in.at, in.len, label, b[1].at, b[1].len, out, cap, len);
   if (!strcmp(call, "put_text")) status = coset_put_text(kind, in.at, in.len, label, b[1].at, b[1].len, out, cap, len);
+  if (!strcmp(call, "put_float")) status = coset_put_float(kind, in.at, in.len, label, strtod(word[5], NULL), out, cap, len);
   if (!strcmp(call, "put_int"))
     status = coset_put_int(kind, in.at, in.len, label, strtoll(word[5], NULL, 0), out, cap, len);
   if (!strcmp(call, "put_text_label"))
@@ -371,6 +432,37 @@ static void located(char call, uint32_t kind, struct bytes in, size_t index, int
   putchar('\n');
 }
 
+/* Prints the places of all pairs of a map. -7: with too little memory for them, the call doesn't return their number. */
+static void map_spans(uint32_t kind, struct bytes in) {
+  size_t count = 77, again = 77;
+  coset_status status = coset_map_spans(kind, in.at, in.len, NULL, 0, &count);
+  const size_t room = status == COSET_SHORT ? count : 0;
+  coset_pair_place *pairs = malloc((room + !room) * sizeof *pairs);
+  if (room && coset_map_spans(kind, in.at, in.len, pairs, room - 1, &again) == COSET_SHORT && again != room) status = -7;
+  if (status == COSET_SHORT) status = coset_map_spans(kind, in.at, in.len, pairs, room, &count);
+  left = -1;
+  printf("%" PRId32 " %zu", status, count);
+  for (size_t i = 0; !status && i < count; i++)
+    printf(" %zu %zu %zu %zu", pairs[i].label.at, pairs[i].label.len, pairs[i].value.at, pairs[i].value.len);
+  putchar('\n');
+  free(pairs);
+}
+
+/* Prints an item's major type, its simple value or its float. */
+static void scalar(char call, struct bytes in) {
+  uint32_t number = 77;
+  uint64_t bits;
+  double value = 77;
+  const coset_status status = call == 'f'   ? coset_float_value(in.at, in.len, &value)
+                              : call == 's' ? coset_simple_value(in.at, in.len, &number)
+                                            : coset_major_type(in.at, in.len, &number);
+  left = -1;
+  memcpy(&bits, &value, sizeof bits);
+  if (call != 'f') printf("%" PRId32 " %" PRIu32 "\n", status, number);
+  else if (value != value) printf("%" PRId32 " nan\n", status);
+  else printf("%" PRId32 " %016" PRIx64 "\n", status, bits);
+}
+
 int main(void) {
   static char line[1 << 23];
   char *word[13], number[32];
@@ -403,6 +495,14 @@ int main(void) {
       else if (*call == 'f') fits_call(word, in, cap);
       else if (*call == 'd') deeper(in);
       else lengths(in, out, cap);
+      free(in.at), free(out);
+      if (live) return fprintf(stderr, "%ld blocks are left\n", live), 1;
+      continue;
+    }
+    int is_scalar = !strcmp(call, "major_type") || !strcmp(call, "simple_value") || !strcmp(call, "float_value");
+    if (is_scalar || !strcmp(call, "map_spans")) {
+      if (is_scalar) scalar(*call, in);
+      else map_spans(kind, in);
       free(in.at), free(out);
       if (live) return fprintf(stderr, "%ld blocks are left\n", live), 1;
       continue;

@@ -1,5 +1,6 @@
 """Makes the calls that it reads through the wrapper, as c/wrappers/c/calls.c does, and prints their results (tools/c). A
 result is `ok` and a value, or the error."""
+import struct
 import sys
 
 import coset
@@ -23,7 +24,7 @@ def data(word):
 
 def pairs(word):
     """Returns the pairs in the word of `put_all`."""
-    values = {"i": int, "t": lambda it: data(it).decode(), "b": data, "e": lambda it: coset.Encoded(data(it))}
+    values = {"i": int, "f": float, "t": lambda it: data(it).decode(), "b": data, "e": lambda it: coset.Encoded(data(it))}
     halves = [pair.split("=") for pair in word.split(",") if "=" in pair]
     return [tuple(values[half[0]](half[1:]) for half in pair) for pair in halves]
 
@@ -66,7 +67,8 @@ def message(kind, given, index, aad, has, content, known):
 def safe(kind, given, index, aad, has, content, algorithms, known, *words):
     """Returns the result of `verify` or `decrypt`, as calls.c describes it."""
     is_asked = lambda q: [q.input, q.proof, q.key_id or b""] == list(map(data, words))
-    plain = lambda q, iv: (iv or b"") + bytes(byte ^ 0x5A for byte in q.proof) if is_asked(q) else None
+    ivs = lambda q: b"".join(bytes([which]) + iv for which, iv in ((q.iv_map, q.iv), (q.partial_iv_map, q.partial_iv)) if which)
+    plain = lambda q: ivs(q) + bytes(byte ^ 0x5A for byte in q.proof) if is_asked(q) else None
     more = {"critical": integers(known), "external_aad": data(aad), "detached": detached(has, content)}
     if kind & 0xFF == coset.ENCRYPT0:
         return coset.decrypt(kind, given, integers(algorithms), plain, **more).hex()
@@ -223,6 +225,16 @@ def span(part):
     return f"{part.start} {part.stop - part.start}"
 
 
+def floating(value):
+    """Returns the bits of a float, or `nan`."""
+    return "nan" if value != value else struct.pack(">d", value).hex()
+
+
+def places(pairs):
+    """Returns the number of pairs, and the places of their labels and values."""
+    return " ".join([str(len(pairs)), *(span(part) for pair in pairs for part in pair)])
+
+
 def verification(given, *words):
     """Returns the payload for the words of `verified`."""
     is_asked = lambda q: [str(q.algorithm), (q.key_id or b"").hex(), q.input.hex(), q.proof.hex()] == list(words)
@@ -241,6 +253,10 @@ _WITHOUT_ROOM = {
     "label_span": lambda kind, given, which, label: span(coset.label_span(kind, given, int(which), int(label))),
     "item_span": lambda _, given, at: span(coset.item_span(given, int(at))),
     "string_span": lambda _, given: span(coset.string_span(given)),
+    "major_type": lambda _, given: str(int(coset.major_type(given))),
+    "simple_value": lambda _, given: {False: "20", True: "21", None: "22"}[coset.simple_value(given)],
+    "float_value": lambda _, given: floating(coset.float_value(given)),
+    "map_spans": lambda kind, given: places(coset.map_spans(kind, given)),
 }
 # Calls with several results, as texts.
 _SEVERAL = {
@@ -277,6 +293,7 @@ _BYTES = {
         coset.countersign_structure(kind, given, int(label), data(signer), data(aad), detached(*payload)),
     "put": lambda kind, given, label, value: coset.put_encoded(kind, given, int(label), data(value)),
     "put_int": lambda kind, given, label, value: coset.put(kind, given, int(label), int(value)),
+    "put_float": lambda kind, given, label, value: coset.put(kind, given, int(label), float(value)),
     "put_bytes": lambda kind, given, label, value: coset.put(kind, given, int(label), data(value)),
     "put_text": lambda kind, given, label, value: coset.put(kind, given, int(label), data(value).decode()),
     "put_text_label": lambda kind, given, label, value: coset.put_encoded(kind, given, data(label).decode(), data(value)),

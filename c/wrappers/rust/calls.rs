@@ -81,6 +81,7 @@ fn made(w: &[&str]) -> Result<Vec<u8>, Error> {
         "put" => coset::put(k, &input, label, Entry::Encoded(&bytes(w[5]))),
         "put_bytes" => coset::put(k, &input, label, Entry::Bytes(&bytes(w[5]))),
         "put_text" => coset::put(k, &input, label, Entry::Text(&text(w[5]))),
+        "put_float" => coset::put(k, &input, label, Entry::Float(w[5].parse().unwrap())),
         "put_int" => coset::put(k, &input, label, Entry::Int(w[5].parse().unwrap())),
         "put_text_label" => coset::put_text_label(k, &input, &text(w[4]), &bytes(w[5])),
         "structure_of" => coset::structure_of(k, &input, &bytes(w[4]), &bytes(w[5]), &bytes(w[6])),
@@ -139,7 +140,7 @@ fn put_all(k: Kind, input: &[u8], word: &str) -> Result<Vec<u8>, Error> {
         .filter_map(|pair| pair.split_once('='))
         .map(|(label, value)| {
             let label_text = if label.starts_with('t') { text(&label[1..]) } else { String::new() };
-            let value_bytes = if value.starts_with('i') { Vec::new() } else { bytes(&value[1..]) };
+            let value_bytes = if value.starts_with(['i', 'f']) { Vec::new() } else { bytes(&value[1..]) };
             (label_text, label.as_bytes().to_vec(), value, value_bytes)
         })
         .collect();
@@ -152,6 +153,7 @@ fn put_all(k: Kind, input: &[u8], word: &str) -> Result<Vec<u8>, Error> {
             };
             let value = match value.as_bytes()[0] {
                 b'i' => Entry::Int(value[1..].parse().unwrap()),
+                b'f' => Entry::Float(value[1..].parse().unwrap()),
                 b't' => Entry::Text(std::str::from_utf8(held).unwrap()),
                 b'b' => Entry::Bytes(held),
                 _ => Entry::Encoded(held),
@@ -202,6 +204,17 @@ fn message(w: &[&str]) -> Result<String, Error> {
     Ok(format!("{texts} {number} {named} {map} {critical} {} {lengths}", u32::from(m.is_tagged)))
 }
 
+/// Returns the plaintext by which `safe` answers, as calls.c describes it.
+fn plaintext(q: &Question<'_>) -> Vec<u8> {
+    let mut plain = Vec::new();
+    for (map, iv) in [(q.iv_map, q.iv), (q.partial_iv_map, q.partial_iv)] {
+        plain.extend(map.map(|map| map as u8));
+        plain.extend(iv.unwrap_or_default());
+    }
+    plain.extend(q.proof.iter().map(|byte| byte ^ 0x5a));
+    plain
+}
+
 /// Returns the result of `verify` or `decrypt`, as calls.c describes it.
 fn safe(w: &[&str]) -> Result<String, Error> {
     let (aad, content, algorithms, known) = (bytes(w[5]), bytes(w[7]), integers(w[8]), integers(w[9]));
@@ -213,10 +226,7 @@ fn safe(w: &[&str]) -> Result<String, Error> {
         q.key_id.is_some() == q.key_id_map.is_some() && asked == [10, 11, 12].map(|i| hex(&bytes(w[i])))
     };
     let answer = match k {
-        Kind::Encrypt0(form) => coset::decrypt(form, &input, &policy, |q, iv| {
-            let plain = q.proof.iter().map(|byte| byte ^ 0x5a);
-            is_asked(q).then(|| iv.unwrap_or_default().iter().copied().chain(plain).collect())
-        }),
+        Kind::Encrypt0(form) => coset::decrypt(form, &input, &policy, |q| is_asked(q).then(|| plaintext(q))),
         _ => coset::verify(k, &input, w[4].parse().unwrap(), &policy, is_asked),
     };
     Ok(hex(&answer?))
@@ -446,6 +456,17 @@ fn answer(w: &[&str]) -> Result<String, Error> {
         "item_span" => span(coset::item_span(&input, w[3].parse().unwrap())?),
         "string_span" => span(coset::string_span(&input)?),
         "integer" => coset::integer(&input)?.to_string(),
+        "major_type" => (coset::major_type(&input)? as u8).to_string(),
+        "simple_value" => coset::simple_value(&input)?.map_or("22", |is| if is { "21" } else { "20" }).to_string(),
+        "float_value" => match coset::float_value(&input)? {
+            value if value.is_nan() => "nan".to_string(),
+            value => format!("{:016x}", value.to_bits()),
+        },
+        "map_spans" => {
+            let found = coset::map_spans(k, &input)?;
+            let places = found.iter().map(|(label, value)| format!(" {} {}", span(label.clone()), span(value.clone())));
+            format!("{}{}", found.len(), places.collect::<String>())
+        }
         "pair_spans" => {
             let (label, value) = coset::pair_spans(k, &input, w[3].parse().unwrap())?;
             format!("{} {}", span(label), span(value))

@@ -88,6 +88,8 @@ pub enum Countersignature {
 #[derive(Clone, Copy, Debug, PartialEq)]
 pub enum Entry<'a> {
     Int(i64),
+    /// Written in its shortest encoding.
+    Float(f64),
     Bytes(&'a [u8]),
     Text(&'a str),
     /// Any item, as its encoding.
@@ -99,6 +101,36 @@ pub enum Entry<'a> {
 pub enum Label<'a> {
     Int(i64),
     Text(&'a str),
+}
+
+/// Returns the half-precision float that has this value, if there is one (RFC 8949, appendix D).
+fn as_half(value: f64) -> Option<u16> {
+    let bits = value.to_bits();
+    let sign = (bits >> 48 & 0x8000) as u16;
+    let (exponent, fraction) = ((bits >> 52 & 0x7ff) as i32 - 1023, bits & ((1 << 52) - 1));
+    match exponent {
+        1024 => Some(if fraction == 0 { sign | 0x7c00 } else { 0x7e00 }),
+        -1023 if fraction == 0 => Some(sign),
+        -24..=15 => {
+            // A subnormal number has the leading bit in its fraction.
+            let (whole, lost) = (fraction | 1 << 52, 42 + (-14 - exponent).max(0));
+            let half = (whole >> lost) as u16 + (exponent.max(-14) + 14) as u16 * 1024;
+            (whole & ((1 << lost) - 1) == 0).then(|| sign | half)
+        }
+        _ => None,
+    }
+}
+
+/// Returns a float in its shortest encoding (RFC 8949, section 4.2.2).
+fn encoded_float(value: f64) -> Vec<u8> {
+    if let Some(half) = as_half(value) {
+        return [&[0xf9][..], &half.to_be_bytes()].concat();
+    }
+    let single = value as f32;
+    if f64::from(single) == value {
+        return [&[0xfa][..], &single.to_be_bytes()].concat();
+    }
+    [&[0xfb][..], &value.to_be_bytes()].concat()
 }
 
 impl From<i64> for Label<'_> {
@@ -220,6 +252,13 @@ pub struct Question<'a> {
     pub input: &'a [u8],
     /// The signature or the tag. For [`decrypt`] the ciphertext.
     pub proof: &'a [u8],
+    /// The initialization vector, label 5, and the partial one, label 6, each if a header has it.
+    /// `None` from [`verify`].
+    pub iv: Option<&'a [u8]>,
+    pub partial_iv: Option<&'a [u8]>,
+    /// The headers that have these two.
+    pub iv_map: Option<Map>,
+    pub partial_iv_map: Option<Map>,
 }
 
 /// The form of a layer of a web token.
@@ -844,6 +883,84 @@ pub fn integer(bytes: &[u8]) -> Result<i64, Error> {
     answer(status, value)
 }
 
+/// A major type of items (RFC 8949, section 3.1).
+#[derive(Clone, Copy, Debug, PartialEq, Eq)]
+pub enum MajorType {
+    Unsigned = 0,
+    Negative = 1,
+    ByteString = 2,
+    TextString = 3,
+    Array = 4,
+    Map = 5,
+    Tag = 6,
+    /// A float or a simple value.
+    Simple = 7,
+}
+
+/// Returns the major type of an item.
+pub fn major_type(item: &[u8]) -> Result<MajorType, Error> {
+    use MajorType::{Array, ByteString, Map, Negative, Simple, Tag, TextString, Unsigned};
+    check(Kind::Item, item).map_err(|fault| fault.error)?;
+    Ok([Unsigned, Negative, ByteString, TextString, Array, Map, Tag, Simple][usize::from(item[0] >> 5)])
+}
+
+/// Returns the simple value that an item is: false, true, or `None` for null. The library supports
+/// no others.
+pub fn simple_value(item: &[u8]) -> Result<Option<bool>, Error> {
+    check(Kind::Item, item).map_err(|fault| fault.error)?;
+    match item {
+        [0xf4] => Ok(Some(false)),
+        [0xf5] => Ok(Some(true)),
+        [0xf6] => Ok(None),
+        _ => Err(Error::Type),
+    }
+}
+
+/// Returns 2 to the power of an exponent from -1022 to 1023.
+fn power_of_two(exponent: i32) -> f64 {
+    f64::from_bits(((exponent + 1023) as u64) << 52)
+}
+
+/// Returns a half-precision float (RFC 8949, appendix D).
+fn half(bits: u16) -> f64 {
+    let (exponent, fraction) = (i32::from(bits >> 10 & 31), f64::from(bits & 1023));
+    let size = match exponent {
+        0 => fraction * power_of_two(-24),
+        31 => return f64::from_bits(u64::from(bits >> 15) << 63 | 0x7ff << 52 | u64::from(bits & 1023) << 42),
+        _ => (fraction + 1024.0) * power_of_two(exponent - 25),
+    };
+    if bits >> 15 == 0 { size } else { -size }
+}
+
+/// Returns the float that an item is, of 16, 32 or 64 bits.
+pub fn float_value(item: &[u8]) -> Result<f64, Error> {
+    check(Kind::Item, item).map_err(|fault| fault.error)?;
+    match *item {
+        [0xf9, a, b] => Ok(half(u16::from_be_bytes([a, b]))),
+        [0xfa, a, b, c, d] => Ok(f32::from_be_bytes([a, b, c, d]).into()),
+        [0xfb, a, b, c, d, e, f, g, h] => Ok(f64::from_be_bytes([a, b, c, d, e, f, g, h])),
+        _ => Err(Error::Type),
+    }
+}
+
+/// Returns the places of the labels and values of all pairs of a map, as received and in their
+/// order. They are found in one walk.
+pub fn map_spans(kind: Kind, bytes: &[u8]) -> Result<Vec<(Range<usize>, Range<usize>)>, Error> {
+    let mut found = match pair_spans(kind, bytes, 0) {
+        Err(Error::Absent) if bytes[0] >> 5 == 5 => return Ok(Vec::new()),
+        first => vec![first?],
+    };
+    loop {
+        let end = found[found.len() - 1].1.end;
+        if end == bytes.len() || bytes[end] == 0xff {
+            return Ok(found);
+        }
+        let label = item_span(bytes, end)?;
+        let value = item_span(bytes, label.end)?;
+        found.push((label, value));
+    }
+}
+
 /// Returns the value of an integer label, in its shortest encoding.
 pub fn label(kind: Kind, bytes: &[u8], map: Map, label: i64) -> Result<Vec<u8>, Error> {
     written(room(&[bytes]), |out, cap, len| unsafe { c::coset_label(kind.number(), bytes.as_ptr(), bytes.len(), map as u32, label, out, cap, len) })
@@ -1044,7 +1161,8 @@ impl LentMessage<'_> {
             _ => return Err(Error::NotAllowed),
         };
         let key_id = self.key_id_map.map(|_| self.key_id.as_ref());
-        Ok(Question { algorithm, key_id, key_id_map: self.key_id_map, input: &self.input, proof })
+        let (key_id_map, input) = (self.key_id_map, self.input.as_slice());
+        Ok(Question { algorithm, key_id, key_id_map, input, proof, iv: None, partial_iv: None, iv_map: None, partial_iv_map: None })
     }
 }
 
@@ -1070,27 +1188,32 @@ pub fn verify(
     Ok(policy.detached.map_or_else(|| found.content.into_owned(), <[u8]>::to_vec))
 }
 
+/// Returns the content of the string under a label of a message, from the protected header, else
+/// from the unprotected one, and that header.
+fn in_either(kind: Kind, bytes: &[u8], label: i64) -> Result<(Option<Vec<u8>>, Option<Map>), Error> {
+    for map in [Map::InProtected, Map::InUnprotected] {
+        match label_bytes(kind, bytes, map, label) {
+            Err(Error::Absent) => {}
+            found => return Ok((Some(found?), Some(map))),
+        }
+    }
+    Ok((None, None))
+}
+
 /// Returns the plaintext of a `Kind::Encrypt0` in this form.
 ///
-/// `decrypt` receives the question, whose proof is the ciphertext, and the IV, label 5 of the
-/// headers. It returns the plaintext, or `None` if the ciphertext isn't authentic by a key that the
-/// caller trusts.
+/// `decrypt` receives the question, whose proof is the ciphertext, with the IV and the partial IV.
+/// It returns the plaintext, or `None` if the ciphertext isn't authentic by a key that the caller
+/// trusts. A message may have an IV in one header and a partial IV in the other. Refuse it then
+/// (RFC 8152, section 3.1).
 pub fn decrypt(
     form: Form,
     bytes: &[u8],
     policy: &Policy<'_>,
-    decrypt: impl FnOnce(&Question<'_>, Option<&[u8]>) -> Option<Vec<u8>>,
+    decrypt: impl FnOnce(&Question<'_>) -> Option<Vec<u8>>,
 ) -> Result<Vec<u8>, Error> {
     let kind = Kind::Encrypt0(form);
     let found = message_lent(kind, bytes, 0, policy)?;
-    let iv = match label_bytes(kind, bytes, Map::InProtected, 5) {
-        Err(Error::Absent) => label_bytes(kind, bytes, Map::InUnprotected, 5),
-        iv => iv,
-    };
-    let iv = match iv {
-        Err(Error::Absent) => None,
-        iv => Some(iv?),
-    };
     let carried = match part(kind, bytes, Part::Ciphertext) {
         Err(Error::Absent) => None,
         carried => Some(carried?),
@@ -1101,7 +1224,10 @@ pub fn decrypt(
         (None, Some(detached)) => detached,
         (None, None) => return Err(Error::Absent),
     };
-    decrypt(&found.asked(policy, ciphertext)?, iv.as_deref()).ok_or(Error::Refused)
+    let ((iv, iv_map), (partial_iv, partial_iv_map)) = (in_either(kind, bytes, 5)?, in_either(kind, bytes, 6)?);
+    let asked = found.asked(policy, ciphertext)?;
+    let question = Question { iv: iv.as_deref(), partial_iv: partial_iv.as_deref(), iv_map, partial_iv_map, ..asked };
+    decrypt(&question).ok_or(Error::Refused)
 }
 
 impl<'a> Layer<'a> {
@@ -1391,9 +1517,17 @@ fn text(at: *const u8) -> &'static str {
 
 /// Returns the header, key or claims set, which may be empty, with one more pair at its end.
 pub fn put(kind: Kind, map: &[u8], label: i64, value: Entry<'_>) -> Result<Vec<u8>, Error> {
+    let float;
+    let value = match value {
+        Entry::Float(value) => {
+            float = encoded_float(value);
+            Entry::Encoded(&float)
+        }
+        value => value,
+    };
     let (kind, at, n) = (kind.number(), map.as_ptr(), map.len());
     let bytes = match value {
-        Entry::Int(_) => b"",
+        Entry::Int(_) | Entry::Float(_) => b"",
         Entry::Bytes(value) | Entry::Encoded(value) => value,
         Entry::Text(value) => value.as_bytes(),
     };
@@ -1403,6 +1537,7 @@ pub fn put(kind: Kind, map: &[u8], label: i64, value: Entry<'_>) -> Result<Vec<u
             Entry::Bytes(value) => c::coset_put_bytes(kind, at, n, label, value.as_ptr(), value.len(), out, cap, len),
             Entry::Text(value) => c::coset_put_text(kind, at, n, label, value.as_ptr(), value.len(), out, cap, len),
             Entry::Encoded(value) => c::coset_put(kind, at, n, label, value.as_ptr(), value.len(), out, cap, len),
+            Entry::Float(_) => unreachable!("it is encoded above"),
         }
     })
 }
@@ -1427,6 +1562,7 @@ pub fn put_all<'a, L: Copy + Into<Label<'a>>>(kind: Kind, map: &[u8], pairs: &[(
                 Entry::Text(text) => (2, 0, part(text.as_bytes())),
                 Entry::Bytes(bytes) => (3, 0, part(bytes)),
                 Entry::Encoded(bytes) => (4, 0, part(bytes)),
+                Entry::Float(value) => (4, 0, part(&encoded_float(value))),
             };
             c::Pair { label_form, value_form, label, label_at, label_len, value, value_at, value_len }
         })

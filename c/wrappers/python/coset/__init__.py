@@ -132,13 +132,15 @@ class Critical(Refused):
     """A critical label isn't understood, or isn't protected."""
 
 
-class Question(namedtuple("Question", "algorithm key_id key_id_map input proof")):
+class Question(namedtuple("Question", "algorithm key_id key_id_map input proof iv partial_iv iv_map partial_iv_map", defaults=[None] * 4)):
     """The question that the caller's function answers:
     - `algorithm` is one of the allowed ones.
     - `key_id` is the key identifier, or None if the message names no key. `key_id_map` is the header that has it, as
       in Sign1.
     - `input` is the structure that is signed, authenticated, or goes with the ciphertext.
-    - `proof` is the signature or the tag, or for `decrypt` the ciphertext."""
+    - `proof` is the signature or the tag, or for `decrypt` the ciphertext.
+    - `iv` and `partial_iv` are the initialization vector, label 5, and the partial one, label 6, each None if neither
+      header has it. `iv_map` and `partial_iv_map` are the headers that have them. All are None from `verify`."""
 
     __slots__ = ()
 
@@ -543,6 +545,56 @@ def integer(data):
     return value.value
 
 
+class MajorType(enum.IntEnum):
+    """Major types of items (RFC 8949, section 3.1). SIMPLE is a float or a simple value."""
+
+    UNSIGNED, NEGATIVE, BYTE_STRING, TEXT_STRING, ARRAY, MAP, TAG, SIMPLE = range(0, 8)
+
+
+def _item(data):
+    """Returns the bytes of one item."""
+    data = _bytes(data)[0]
+    check(ITEM, data)
+    return data
+
+
+def major_type(data):
+    """Returns the MajorType of an item."""
+    return MajorType(_item(data)[0] >> 5)
+
+
+def simple_value(data):
+    """Returns the simple value that an item is: False, True or None. The library supports no others."""
+    data = _item(data)
+    if data not in (b"\xf4", b"\xf5", b"\xf6"):
+        raise WrongType("the item isn't a simple value")
+    return (False, True, None)[data[0] - 0xF4]
+
+
+def float_value(data):
+    """Returns the float that an item is, of 16, 32 or 64 bits."""
+    data = _item(data)
+    if not 0xF9 <= data[0] <= 0xFB:
+        raise WrongType("the item isn't a float")
+    return struct.unpack((">e", ">f", ">d")[data[0] - 0xF9], data[1:])[0]
+
+
+def map_spans(kind, data):
+    """Returns the places of the labels and values of all pairs of a map, as received: a list of two slices each, in their
+    order. They are found in one walk."""
+    data = _bytes(data)[0]
+    try:
+        found = [pair_spans(kind, data, 0)]
+    except Absent:
+        if data[0] >> 5 != MajorType.MAP:
+            raise
+        return []
+    while (end := found[-1][1].stop) < len(data) and data[end] != 0xFF:
+        name = item_span(data, end)
+        found.append((name, item_span(data, name.stop)))
+    return found
+
+
 def label(kind, data, which, name):
     """Returns the value of a label, in its shortest encoding. `name` is an int or a str. `which` is the map:
     IN_PROTECTED, IN_UNPROTECTED or IN_ITEM."""
@@ -708,24 +760,35 @@ def _found(call, *arguments):
         return None
 
 
+def _in_either(kind, data, name):
+    """Returns the content of the string under a label of a message, from the protected header, else from the unprotected
+    one, and that header. Both are None if neither has it."""
+    for which in (IN_PROTECTED, IN_UNPROTECTED):
+        value = _found(label_bytes, kind, data, which, name)
+        if value is not None:
+            return value, which
+    return None, None
+
+
 def decrypt(kind, data, algorithms, decrypt, critical=(), external_aad=b"", detached=None):
     """Returns the plaintext of an ENCRYPT0, with TAGGED, EITHER or neither added.
 
-    `decrypt` receives the question, whose proof is the ciphertext, and the IV, label 5 of the headers, or None. It
-    returns the plaintext, or None if the ciphertext isn't authentic by a key that the caller trusts. The other
-    arguments are those of `verify`."""
+    `decrypt` receives the question, whose proof is the ciphertext, with the IV and the partial IV. It returns the
+    plaintext, or None if the ciphertext isn't authentic by a key that the caller trusts. A message may have an IV in
+    one header and a partial IV in the other. Refuse it then (RFC 8152, section 3.1). The other arguments are those of
+    `verify`."""
     if _kind(kind) & 0xFF != ENCRYPT0:
         raise Misuse("a kind of another call")
     data, own = _bytes(data)[0], None if detached is None else _bytes(detached)[0]
     found = message(kind, data, 0, critical, external_aad)
-    ivs = [_found(label_bytes, kind, data, which, 5) for which in (IN_PROTECTED, IN_UNPROTECTED)]
     carried = _found(part, kind, data, CIPHERTEXT)
     if carried is not None and own is not None:
         raise Misuse("a ciphertext that the message carries and that is given too")
     if carried is None and own is None:
         raise Absent("the ciphertext is detached")
+    (iv, iv_map), (partial_iv, partial_iv_map) = _in_either(kind, data, 5), _in_either(kind, data, 6)
     question = _asked(found, algorithms, own if carried is None else carried)
-    plain = decrypt(question, ivs[1] if ivs[0] is None else ivs[0])
+    plain = decrypt(question._replace(iv=iv, partial_iv=partial_iv, iv_map=iv_map, partial_iv_map=partial_iv_map))
     if plain is None:
         raise Refused("the ciphertext is refused")
     return plain
@@ -1030,7 +1093,7 @@ def status_text(status):
 
 def put(kind, data, name, value):
     """Returns the header, key or claims set, which may be empty, with one more pair at its end. The pair is a label, an
-    int or a str, and an int, a str, or bytes. True and False are no integers of CBOR: `put_encoded` takes them, as
+    int or a str, and an int, a float, a str, or bytes. True and False are no integers of CBOR: `put_encoded` takes them, as
     b"\xf5" and b"\xf4"."""
     if isinstance(value, bool):
         raise TypeError("True and False are no integers of CBOR: put_encoded takes their encodings")
@@ -1039,6 +1102,8 @@ def put(kind, data, name, value):
     given = _kind(kind), *_bytes(data), _int64(name)
     if isinstance(value, int):
         return _written(_library.coset_put_int, *given, _int64(value))
+    if isinstance(value, float):
+        return _written(_library.coset_put, *given, *_bytes(_encoded_float(value)))
     if isinstance(value, str):
         return _written(_library.coset_put_text, *given, *_bytes(value.encode()))
     return _written(_library.coset_put_bytes, *given, *_bytes(value))
@@ -1050,6 +1115,20 @@ def put_encoded(kind, data, name, value):
     if isinstance(name, str):
         return _written(_library.coset_put_text_label, _kind(kind), *_bytes(data), *_bytes(name.encode()), *_bytes(value))
     return _written(_library.coset_put, _kind(kind), *_bytes(data), _int64(name), *_bytes(value))
+
+
+def _encoded_float(value):
+    """Returns a float in its shortest encoding (RFC 8949, section 4.2.2)."""
+    if math.isnan(value):
+        return b"\xf9\x7e\0"
+    for first, form in (0xF9, ">e"), (0xFA, ">f"):
+        try:
+            bits = struct.pack(form, value)
+        except OverflowError:
+            continue
+        if struct.unpack(form, bits)[0] == value:
+            return bytes([first]) + bits
+    return b"\xfb" + struct.pack(">d", value)
 
 
 class Encoded(bytes):
@@ -1076,6 +1155,8 @@ def _pair(name, value, parts):
         raise TypeError("True and False are no integers of CBOR: Encoded takes their encodings")
     if isinstance(value, int):
         pair.value_form, pair.value = INT, _int64(value)
+    elif isinstance(value, float):
+        pair.value_form, (pair.value_at, pair.value_len) = ENCODED, _part(_encoded_float(value), parts)
     elif isinstance(value, str):
         pair.value_form, (pair.value_at, pair.value_len) = TEXT, _part(value.encode(), parts)
     else:
@@ -1086,7 +1167,7 @@ def _pair(name, value, parts):
 
 def put_all(kind, data, pairs):
     """Returns the header, key or claims set, which may be empty, with these pairs at its end, in order, in one call.
-    `pairs` is a dict, or labels with values. A label is an int or a str. A value is an int, a str, bytes, or
+    `pairs` is a dict, or labels with values. A label is an int or a str. A value is an int, a float, a str, bytes, or
     Encoded, one item of CBOR."""
     parts = bytearray()
     told = [_pair(name, value, parts) for name, value in (pairs.items() if isinstance(pairs, Mapping) else pairs)]
