@@ -54,10 +54,11 @@ def item(value):
 def policy_of(word):
     """Returns the rules, the three lists of numbers and the two lists of texts of a policy, as words of `token`.
 
-    Returns None if C can't express it: a critical label that is a text, a list of audiences without one, or a greatest age of 0."""
+    Returns None if C can't express it: a form with a list, a critical label that is a text, a list of audiences without one, or a
+    greatest age of 0."""
     rules, lists = [0] * 7, {name: "-" for name in ("algs", "crit", "need", "aud", "types")}
     for name, _, value in (part.partition("=") for part in word.split(",")):
-        if (name, value) == ("age", "0"):
+        if (name, value) == ("age", "0") or name == "lists" or (name == "plain" and value not in FORMS):
             return None
         if name in ("leeway", "age"):
             rules[name == "age"] = int(value)
@@ -275,17 +276,22 @@ def verifications(row, answer):
 
 
 def rings(row, answer):
-    """Yields the call for a row `ring`, from C alone."""
+    """Yields the call for a row `ring`, from C alone. There is none if C can't express the policy."""
     _, sets, said, now, policy, spelled = row
+    words = policy_of(policy)
+    if words is None:
+        return
     issuers = [word.rpartition(":") for word in sets.split(",")]
     spelled_sets = listed(f"{text(name.encode() or None)}:{keys}" for name, _, keys in issuers)
     status, result = result_of(answer, [])
-    yield ("ring", 0, bytes.fromhex(spelled), [now, *policy_of(policy), spelled_sets, said], status, result)
+    yield ("ring", 0, bytes.fromhex(spelled), [now, *words, spelled_sets, said], status, result)
 
 
 def fittings(row, answer):
-    """Yields the call for a row `fits`. There is none if the layer's algorithm has no number."""
-    _, key, form, protected, unprotected, length = row
+    """Yields the call for a row `fits`. There is none if the layer's algorithm has no number, or for a form with a list."""
+    _, key, form, protected, unprotected, length, *_ = row
+    if form not in FORMS:
+        return
     headers = [dict(pairs_of(decode(bytes.fromhex(header))[0])) for header in (protected, unprotected)]
     algorithm = headers[0].get(("int", 1), (None,))
     texts = [next((header[("int", label)][1] for header in headers if header.get(("int", label), (2, b""))[1]), b"")

@@ -1,5 +1,5 @@
 -- The layers of a token, from the outermost in.
-use Rattle.std.proofs.Common.{◌≡◌, ◌∙◌, ◌+◌, ◌<◌, ◌≤◌, ◌&&◌, ◌||◌, ℕ, Bool, true, false, List, [], ◌∷◌, ap, drop, get_or, length, map, not, refl, sym}
+use Rattle.std.proofs.Common.{◌≡◌, ◌∙◌, ◌+◌, ◌<◌, ◌≤◌, ◌&&◌, ◌||◌, ℕ, Bool, false, List, ◌∷◌, ap, drop, get_or, length, map, not, sym}
 use Rattle.std.proofs.lemmas.List.{drop_all, drop_more}
 use Rattle.cwt_verify.specs.Opening.{verified_view}
 use Rattle.cwt_verify.specs.declared.layer.VerifiedLayer.{VerifiedLayer}

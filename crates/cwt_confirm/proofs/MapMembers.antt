@@ -1,11 +1,9 @@
 -- The members of a map, one after another.
-use Rattle.std.specs.Borrow.{Bor}
 use Rattle.std.specs.List.{cons_option, find}
-use Rattle.std.specs.Map.{keys_of}
 use Rattle.std.proofs.Common.{◌≡◌, ◌∙◌, ◌+◌, ◌++◌, ◌<◌, ◌≤◌, ℕ, ℤ, List, [], ◌∷◌}
-use Rattle.std.proofs.Common.{Option, Some, None, ap, append_assoc, cond, drop, get_or, length, map, option_map, refl, sym}
+use Rattle.std.proofs.Common.{Option, Some, None, ap, append_assoc, cond, drop, get_or, length, option_map, refl, sym}
 use Rattle.std.proofs.lemmas.List.{append-nil, drop_all, drop_more}
-use Rattle.coset.specs.Item.{Item, Pairs}
+use Rattle.coset.specs.Item.{Item}
 use Rattle.coset.specs.Parts.{as_integer, as_text}
 use Rattle.coset.specs.View.{value_item, value_pairs}
 use Rattle.coset_value.specs.declared.value.Value.{Value}

@@ -1,7 +1,6 @@
 -- Nonces, one after another.
-use Rattle.std.specs.Borrow.{Bor}
 use Rattle.std.proofs.Common.{◌≡◌, ◌∙◌, ◌+◌, ◌++◌, ◌<◌, ◌≤◌, ℕ, List, [], ◌∷◌}
-use Rattle.std.proofs.Common.{Option, Some, None, ap, append_assoc, drop, get_or, length, map, option_map, refl, sym}
+use Rattle.std.proofs.Common.{Option, Some, None, ap, append_assoc, drop, get_or, length, option_map, refl, sym}
 use Rattle.std.proofs.lemmas.List.{append-nil, drop_all, drop_more}
 use Rattle.coset.specs.Shape.{both}
 use Rattle.coset.specs.View.{value_item, value_items}

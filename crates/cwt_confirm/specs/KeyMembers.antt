@@ -1,5 +1,5 @@
 -- The members that a key must have or must not have, by its type (RFC 9052, section 7; RFC 9053, section 7).
-use Rattle.std.specs.Prelude.{◌&&◌, ◌||◌, ℤ, pos, List, [], ◌∷◌, Option, Some, None, Bool, true, false, not, int_lt, is_some}
+use Rattle.std.specs.Prelude.{◌&&◌, ◌||◌, ℤ, pos, List, [], ◌∷◌, Option, None, Bool, true, false, not, int_lt, is_some}
 use Rattle.std.specs.List.{list_all, list_any}
 use Rattle.std.specs.Option.{option_map_or}
 use Rattle.coset.specs.Item.{Item}

@@ -3,14 +3,15 @@
 ghost use Rattle.std.specs.Prelude.{◌≡◌, map};
 ghost use Rattle.coset.specs.View.{value_item};
 ghost use Rattle.coset.specs.Views.{header_view};
+ghost use Rattle.cwt_verify.specs.Layers.{part_view};
 ghost use Rattle.cwt_verify.specs.Opening.{verified_view};
-ghost use Rattle.cwt_confirm.specs.Concealed.{conceal_cnf, has_cnf, is_encrypted, reveals, shows_cnf};
+ghost use Rattle.cwt_confirm.specs.Concealed.{conceal_cnf, has_cnf, is_encrypted, part_shows_cnf, reveals, shows_cnf};
 
 use crate::member::member;
 use coset::cbor::value::Value;
 use coset::iana::{CwtClaimName, EnumI64};
 use coset::{Header, Label};
-use cwt_verify::{Form, VerifiedLayer};
+use cwt_verify::{Form, Part, VerifiedLayer};
 
 /// The label of claims in a header (RFC 9597).
 const CWT_CLAIMS: i64 = 15;
@@ -35,11 +36,26 @@ fn shows_cnf(header: &Header) -> bool
     }
 }
 
-/// Returns true if a header of the layer shows the confirmation.
+/// Returns true if a header of the accepted part shows the confirmation.
+fn part_shows_cnf(part: &Part) -> bool
+    ensures { result ≡ part_shows_cnf (part_view part.now) }
+{
+    match part {
+        Part::Whole => false,
+        Part::Signature(signature) => {
+            shows_cnf(&signature.protected.header) || shows_cnf(&signature.unprotected)
+        }
+        Part::Recipient(recipient) => shows_cnf(&recipient.unprotected),
+    }
+}
+
+/// Returns true if a header of the layer, or of its accepted part, shows the confirmation.
 fn reveals(layer: &VerifiedLayer<'_>) -> bool
     ensures { result ≡ reveals (verified_view layer.now) }
 {
-    shows_cnf(&layer.protected.header) || shows_cnf(&layer.unprotected)
+    shows_cnf(&layer.protected.header)
+        || shows_cnf(&layer.unprotected)
+        || part_shows_cnf(&layer.part)
 }
 
 /// Returns true if the layer is encrypted.
@@ -47,7 +63,7 @@ fn is_encrypted(layer: &VerifiedLayer<'_>) -> bool
     ensures { result ≡ is_encrypted (verified_view layer.now).form }
 {
     match layer.form {
-        Form::Encrypt0 => true,
+        Form::Encrypt0 | Form::Encrypt => true,
         _ => false,
     }
 }

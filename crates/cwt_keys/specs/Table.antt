@@ -3,7 +3,7 @@ use Rattle.std.specs.Prelude.{ℕ, Option, Some, None, Bool, true, false, if◌t
 use Rattle.coset_iana.specs.declared.algorithms.Algorithm.{Algorithm}
 use Rattle.coset_iana.specs.declared.algorithms.Algorithm.TheVariants as a
 use Rattle.coset_iana.specs.declared.keys.EllipticCurve.TheVariants as curve
-use Rattle.cwt_keys.specs.declared.form.Form.TheVariants.{Sign1, Mac0, Encrypt0}
+use Rattle.cwt_keys.specs.declared.form.Form.TheVariants.{Sign1, Mac0, Encrypt0, Sign, Mac, Encrypt}
 use Rattle.cwt_keys.specs.declared.form.Form.{Form}
 use Rattle.cwt_keys.specs.declared.table.KeyKind.{KeyKind}
 use Rattle.cwt_keys.specs.declared.table.KeyKind.TheVariants.{NistCurve, Ec2, EdwardsCurve, Okp, Rsa, HssLms, WalnutDsa, Akp, Symmetric, SymmetricFrom}
@@ -85,9 +85,21 @@ abbrev pub same_form : Form → Form → Bool
 same_form Sign1 Sign1 = true
 same_form Mac0 Mac0 = true
 same_form Encrypt0 Encrypt0 = true
+same_form Sign Sign = true
+same_form Mac Mac = true
+same_form Encrypt Encrypt = true
 same_form f g = false
 
--- The row, if it is of this form.
+-- The form without a list that takes the same algorithms: one signature, a MAC, or a ciphertext, without recipients.
+abbrev pub single_form : Form → Form
+single_form Sign1 = Sign1
+single_form Mac0 = Mac0
+single_form Encrypt0 = Encrypt0
+single_form Sign = Sign1
+single_form Mac = Mac0
+single_form Encrypt = Encrypt0
+
+-- The row, if layers of this form take its algorithm. The rows' own forms are those without a list.
 abbrev pub of_form : Form → Option Row → Option Row
 of_form f None = None
-of_form f (Some r) = if same_form f r.form then Some r else None
+of_form f (Some r) = if same_form (single_form f) r.form then Some r else None

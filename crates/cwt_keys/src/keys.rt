@@ -20,8 +20,9 @@ pub trait Keys {
     /// The view of the keys: the layers that they may accept, and the errors that they may return.
     ghost view: { Self → KeysView Self.Error };
 
-    /// Verifies the signature or the MAC of a layer (`COSE_Sign1`, `COSE_Mac0`). Returns the name
-    /// of the issuer whose key accepted it, or `None` if that issuer has no name.
+    /// Verifies the MAC of a layer, or one signature (`COSE_Sign1`, `COSE_Mac0`, `COSE_Sign`,
+    /// `COSE_Mac`). Returns the name of the issuer whose key accepted it, or `None` if that issuer
+    /// has no name.
     ///
     /// # Errors
     /// Any error that these keys may return for this layer (`refuses` of `view`).
@@ -30,8 +31,8 @@ pub trait Keys {
             (view self.now).accepts (seal_view sealed.now) (name_view n)) }
         ensures refused { IfErr result (λ e. (view self.now).refuses (seal_view sealed.now) e) };
 
-    /// Returns the plaintext of an encrypted layer (`COSE_Encrypt0`), and the name of the issuer
-    /// whose key decrypted it, or `None` if that issuer has no name.
+    /// Returns the plaintext of an encrypted layer (`COSE_Encrypt0`, `COSE_Encrypt`), and the name
+    /// of the issuer whose key decrypted it, or `None` if that issuer has no name.
     ///
     /// # Errors
     /// Any error that these keys may return for this layer (`refuses` of `view`).

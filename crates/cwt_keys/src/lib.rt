@@ -9,7 +9,7 @@ mod keys;
 mod sealed;
 mod table;
 
-pub use form::{Form, is_for};
+pub use form::{Form, is_for, single_form};
 pub use keys::Keys;
 pub use sealed::Sealed;
 pub use table::{KeyKind, Row, row_for};

@@ -16,7 +16,7 @@ use Rattle.coset_iana.specs.declared.keys.KeyOperation.TheVariants.{Verify, MacV
 use Rattle.cwt_keys.specs.Sealed.{SealView, algorithm_of, assigned_in, iv_of, key_id_of, partial_iv_of}
 use Rattle.cwt_keys.specs.Table.{of_form, row_for}
 use Rattle.cwt_keys.specs.declared.form.Form.{Form}
-use Rattle.cwt_keys.specs.declared.form.Form.TheVariants.{Sign1, Mac0, Encrypt0}
+use Rattle.cwt_keys.specs.declared.form.Form.TheVariants.{Sign1, Mac0, Encrypt0, Sign, Mac, Encrypt}
 use Rattle.cwt_keys.specs.declared.table.Row.{Row}
 use Rattle.cwt_ring.specs.Kinds.{is_of_kind}
 use Rattle.cwt_ring.specs.Nonce.{nonce_of}
@@ -35,6 +35,9 @@ abbrev pub operations_for : Form → List KeyOperation
 operations_for Sign1 = Verify ∷ []
 operations_for Mac0 = MacVerify ∷ []
 operations_for Encrypt0 = Decrypt ∷ UnwrapKey ∷ []
+operations_for Sign = Verify ∷ []
+operations_for Mac = MacVerify ∷ []
+operations_for Encrypt = Decrypt ∷ UnwrapKey ∷ []
 
 -- The operation is one of these.
 abbrev pub has_operation : List LabelView → KeyOperation → Bool
@@ -49,6 +52,9 @@ abbrev pub has_tag : Form → ℕ → List ℕ → Bool
 has_tag Sign1 n proof = true
 has_tag Mac0 n proof = length proof == n
 has_tag Encrypt0 n proof = nat_le n (length proof)
+has_tag Sign n proof = true
+has_tag Mac n proof = length proof == n
+has_tag Encrypt n proof = nat_le n (length proof)
 
 -- The layer names no key, or the one with this identifier (RFC 9052, section 3.1, "kid").
 abbrev pub may_be : List ℕ → List ℕ → Bool
@@ -61,6 +67,7 @@ suits r k s = is_of_kind r.keys k && permits r.form k.key_ops && has_tag r.form 
 -- The nonce by which the key opens the layer. A signature and a MAC have an empty one.
 abbrev pub nonce_by : Form → ℕ → KeyView → SealView → Option (List ℕ)
 nonce_by Encrypt0 n k s = nonce_of (iv_of s) (partial_iv_of s) k.base_iv n
+nonce_by Encrypt n k s = nonce_of (iv_of s) (partial_iv_of s) k.base_iv n
 nonce_by f n k s = Some []
 
 -- The same, if the key and the layer are for this algorithm and as its row requires.

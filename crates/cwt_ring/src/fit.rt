@@ -50,9 +50,9 @@ fn permits(key: &CoseKey, form: Form) -> bool
         return true;
     }
     match form {
-        Form::Sign1 => has_operation(key, KeyOperation::Verify),
-        Form::Mac0 => has_operation(key, KeyOperation::MacVerify),
-        Form::Encrypt0 => {
+        Form::Sign1 | Form::Sign => has_operation(key, KeyOperation::Verify),
+        Form::Mac0 | Form::Mac => has_operation(key, KeyOperation::MacVerify),
+        Form::Encrypt0 | Form::Encrypt => {
             has_operation(key, KeyOperation::Decrypt) || has_operation(key, KeyOperation::UnwrapKey)
         }
     }
@@ -63,9 +63,9 @@ fn has_tag(row: Row, proof: &[u8]) -> bool
     ensures { result ≡ has_tag row.form row.tag proof.now }
 {
     match row.form {
-        Form::Sign1 => true,
-        Form::Mac0 => proof.len() == row.tag,
-        Form::Encrypt0 => row.tag <= proof.len(),
+        Form::Sign1 | Form::Sign => true,
+        Form::Mac0 | Form::Mac => proof.len() == row.tag,
+        Form::Encrypt0 | Form::Encrypt => row.tag <= proof.len(),
     }
 }
 
@@ -94,7 +94,12 @@ fn nonce_by(row: Row, key: &CoseKey, sealed: &Sealed<'_>) -> Option<Nonce>
         ≡ nonce_by row.form row.nonce (key_view key.now) (seal_view sealed.now) }
 {
     match row.form {
-        Form::Encrypt0 => nonce_for(sealed.iv(), sealed.partial_iv(), &key.base_iv, row.nonce),
+        Form::Encrypt0 | Form::Encrypt => nonce_for(
+            sealed.iv(),
+            sealed.partial_iv(),
+            &key.base_iv,
+            row.nonce,
+        ),
         _ => Some(Nonce::empty()),
     }
 }
@@ -114,7 +119,8 @@ fn nonce_by(row: Row, key: &CoseKey, sealed: &Sealed<'_>) -> Option<Nonce>
 /// - A MAC has exactly the length of the row, and a ciphertext is at least as long as its tag.
 /// - For a ciphertext, the layer has an IV of the row's length. Or it has no IV but a Partial IV of
 ///   at most that length, and the key has a Base IV of exactly that length (RFC 9052, section 3.1).
-/// - The layer names no key identifier, or that of the key.
+/// - The layer names no key identifier, or that of the key. That of a `COSE_Mac` or `COSE_Encrypt`
+///   is in its recipient.
 pub fn fits(key: &CoseKey, sealed: &Sealed<'_>) -> Option<Nonce>
     ensures { option_map nonce_view result ≡ fits (key_view key.now) (seal_view sealed.now) }
 {

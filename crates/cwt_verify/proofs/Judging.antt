@@ -14,7 +14,7 @@ use Rattle.cwt_verify.specs.Claims.{first_true, reasons, required_reasons}
 use Rattle.cwt_verify.specs.HeaderClaims.{Agrees, agree}
 use Rattle.cwt_verify.specs.Opening.{VerifiedView, verified_view}
 use Rattle.cwt_verify.specs.Policy.{PolicyView}
-use Rattle.cwt_verify.specs.Verify.{HasClaims, IsTyped, IsVouched, TokenView, VerifiesToken, is_typed, token_view}
+use Rattle.cwt_verify.specs.Verify.{HasClaims, IsTyped, IsVouched, VerifiesToken, is_typed, token_view}
 use Rattle.cwt_verify.specs.Walk.{OpensAll, verified_views, voucher_view}
 use Rattle.cwt_verify.specs.declared.error.TokenError.{TokenError}
 use Rattle.cwt_verify.specs.declared.error.TokenError.TheVariants as token

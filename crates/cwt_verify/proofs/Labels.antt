@@ -1,7 +1,6 @@
 -- Labels of two lists of pairs, one after the other.
 use Rattle.std.specs.Prelude.{IfOk}
 use Rattle.std.specs.Borrow.{Bor}
-use Rattle.std.specs.List.{list_all}
 use Rattle.std.specs.Map.{keys_of}
 use Rattle.std.proofs.Common.{◌≡◌, ◌∙◌, ◌&&◌, Bool, List, [], ◌∷◌, Result, Ok, Err, ap, map, not, refl, sym}
 use Rattle.coset_value.specs.declared.value.Value.{Value}

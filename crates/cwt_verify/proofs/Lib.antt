@@ -1,3 +1,4 @@
+mod Directing
 mod Innermost
 mod Judging
 mod Labels
@@ -5,5 +6,7 @@ mod Missing
 mod Opened
 mod PairTests
 mod Reading
+mod Receiving
+mod Trying
 mod TypeNames
 mod Walking

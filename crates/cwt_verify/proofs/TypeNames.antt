@@ -1,9 +1,9 @@
 -- The type that an item names.
-use Rattle.std.proofs.Common.{◌≡◌, ◌∙◌, ℕ, ℤ, pos, List, Option, Some, None, ap, arith, option_map, refl, subst, sym}
+use Rattle.std.proofs.Common.{◌≡◌, ℕ, ℤ, List, Option, Some, None, ap, arith, option_map, refl, subst}
 use Rattle.std.specs.Int.{w64}
 use Rattle.std.specs.Prelude.{FitsSigned}
 use Rattle.coset.specs.Item.{Item, array, boolean, bytes, dict, float, integer, null, tag, text}
-use Rattle.coset.specs.Parts.{as_integer, as_text}
+use Rattle.coset.specs.Parts.{as_integer}
 use Rattle.coset.specs.Registry.{number-first_numbered}
 use Rattle.coset_iana.specs.CoapContentFormat as formats
 use Rattle.coset_iana.specs.declared.content_formats.CoapContentFormat.{CoapContentFormat}

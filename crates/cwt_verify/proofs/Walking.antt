@@ -1,5 +1,5 @@
 -- The layers of a token, one after another.
-use Rattle.std.proofs.Common.{◌≡◌, ◌≤◌, ◌<◌, ◌+◌, ◌++◌, ◌∙◌, ℕ, suc, List, [], ◌∷◌, length, map, Bool, true, false, Option, Some, None, Ok, Err, nat_eq, refl}
+use Rattle.std.proofs.Common.{◌≡◌, ◌≤◌, ◌<◌, ◌+◌, ◌++◌, ◌∙◌, ℕ, List, [], ◌∷◌, length, map, Bool, true, false, Option, Some, None, Ok, Err, nat_eq, refl}
 use Rattle.std.proofs.Common.{sym, ap, subst, arith, if◌then◌else◌}
 use Rattle.std.proofs.lemmas.Bool.Decides.{nat_tests}
 use Rattle.std.proofs.lemmas.List.{length-map, length_push, map-append}
@@ -9,9 +9,8 @@ use Rattle.cwt_keys.specs.Keys.{KeysView, Name}
 use Rattle.cwt_verify.specs.Layers.{begins_with_tag}
 use Rattle.cwt_verify.specs.Opening.{VerifiedView, seen, verified_view}
 use Rattle.cwt_verify.specs.Policy.{PolicyView, authenticates}
-use Rattle.cwt_verify.specs.Walk.{Accepted, Arrives, IsOpened, IsTooDeep, Leads, OpensAll, OpensNext, RefusesAt, RefusesLayer, first_of, goes_on}
+use Rattle.cwt_verify.specs.Walk.{Accepted, IsOpened, Leads, OpensAll, OpensNext, RefusesLayer, first_of, goes_on}
 use Rattle.cwt_verify.specs.Walk.{is_outside, verified_views, vouched, voucher, voucher_view}
-use Rattle.cwt_verify.specs.declared.error.LayerError.{LayerError}
 use Rattle.cwt_verify.specs.declared.error.TokenError.{TokenError}
 use Rattle.cwt_verify.specs.declared.error.TokenError.TheVariants as token
 use Rattle.cwt_verify.specs.declared.layer.VerifiedLayer.{VerifiedLayer}

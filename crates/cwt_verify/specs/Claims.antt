@@ -1,9 +1,9 @@
 -- The claims of a token, and the policy's requirements for them (RFC 8392, section 3).
-use Rattle.std.specs.Prelude.{◌≡◌, ◌==◌, ◌&&◌, ◌++◌, not, ℕ, ℤ, List, [], ◌∷◌, length, map}
+use Rattle.std.specs.Prelude.{◌≡◌, ◌==◌, ◌&&◌, not, ℕ, ℤ, List, [], ◌∷◌, length, map}
 use Rattle.std.specs.Prelude.{Option, Some, None, Bool, true, false, is_some, is_none, Result, Ok, Err}
 use Rattle.std.specs.List.{list_any}
 use Rattle.std.specs.Cmp.Lexicographic.{pointwise}
-use Rattle.coset.specs.Claims.{ClaimsView, same_label}
+use Rattle.coset.specs.Claims.{same_label}
 use Rattle.coset.specs.Item.{Item}
 use Rattle.coset.specs.Known.{KnownView}
 use Rattle.coset.specs.LabelData.{RegisteredLabelView, assigned}

@@ -1,3 +1,4 @@
+pub mod Admission
 pub mod Claims
 pub mod HeaderClaims
 pub mod Headers
@@ -5,6 +6,8 @@ pub mod Layers
 pub mod Moment
 pub mod Opening
 pub mod Policy
+pub mod Recipients
+pub mod Signatures
 pub mod Texts
 pub mod Types
 pub mod Verify

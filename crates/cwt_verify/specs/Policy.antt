@@ -11,7 +11,7 @@ use Rattle.coset_iana.specs.declared.algorithms.Algorithm.{Algorithm}
 use Rattle.coset_iana.specs.declared.claims.CwtClaimName.{CwtClaimName}
 use Rattle.cwt_keys.specs.Table.{of_form, row_for}
 use Rattle.cwt_keys.specs.declared.form.Form.{Form}
-use Rattle.cwt_keys.specs.declared.form.Form.TheVariants.{Sign1, Mac0, Encrypt0}
+use Rattle.cwt_keys.specs.declared.form.Form.TheVariants.{Sign1, Mac0, Encrypt0, Sign, Mac, Encrypt}
 use Rattle.cwt_verify.specs.Headers.{has_label}
 use Rattle.cwt_verify.specs.declared.policy.Audience.{Audience}
 use Rattle.cwt_verify.specs.declared.policy.Audience.TheVariants.{Absent, OneOf, Unchecked}
@@ -38,6 +38,7 @@ pub record PolicyView : Type 0 where
   pub required : List CwtClaimName
   pub critical : List RegisteredLabelView
   pub untagged_form : Form
+  pub accept_lists : Bool
   pub authenticated_by : Authentication
   pub require_exp : Bool
   pub refuse_future_iat : Bool
@@ -52,6 +53,7 @@ policy_view p = record {
   required = p.required.now;
   critical = map critical_view p.critical.now;
   untagged_form = p.untagged_form;
+  accept_lists = p.accept_lists;
   authenticated_by = p.authenticated_by;
   require_exp = p.require_exp;
   refuse_future_iat = p.refuse_future_iat;
@@ -59,7 +61,7 @@ policy_view p = record {
   leeway = p.leeway;
 }
 
--- The policy that allows no algorithm, refuses an audience, and requires an expiration time.
+-- The policy that allows no algorithm, refuses an audience and forms with a list, and requires an expiration time.
 abbrev pub strict : PolicyView
 strict = record {
   algorithms = [];
@@ -68,6 +70,7 @@ strict = record {
   required = [];
   critical = [];
   untagged_form = Sign1;
+  accept_lists = false;
   authenticated_by = SignatureOrMac;
   require_exp = true;
   refuse_future_iat = true;
@@ -132,7 +135,13 @@ abbrev pub authenticates : Authentication → Form → Bool
 authenticates Signature Sign1 = true
 authenticates Signature Mac0 = false
 authenticates Signature Encrypt0 = false
+authenticates Signature Sign = true
+authenticates Signature Mac = false
+authenticates Signature Encrypt = false
 authenticates SignatureOrMac Sign1 = true
 authenticates SignatureOrMac Mac0 = true
 authenticates SignatureOrMac Encrypt0 = false
+authenticates SignatureOrMac Sign = true
+authenticates SignatureOrMac Mac = true
+authenticates SignatureOrMac Encrypt = false
 authenticates AnyLayer form = true

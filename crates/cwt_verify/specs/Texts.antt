@@ -4,7 +4,8 @@ use Rattle.std.specs.Fmt.{◌++?◌, decimal, signed_decimal}
 use Rattle.coset.specs.Errors.{error_text}
 use Rattle.coset_iana.specs.CwtClaimName as claim_names
 use Rattle.cwt_verify.specs.declared.error.LayerError.{LayerError}
-use Rattle.cwt_verify.specs.declared.error.LayerError.TheVariants.{Message, Headers, Algorithm, Critical, NoPayload, Keys}
+use Rattle.cwt_verify.specs.declared.error.LayerError.TheVariants.{Message, Headers, Algorithm, Critical, Recipients, NoPayload, NoSignature, Keys}
+use Rattle.cwt_verify.specs.declared.error.LayerError.TheVariants.{TooManySignatures}
 use Rattle.cwt_verify.specs.declared.error.TokenError.{TokenError}
 use Rattle.cwt_verify.specs.declared.error.TokenError.TheVariants as token
 
@@ -15,7 +16,10 @@ layer_error_text text Headers = Some (codes "headers contradict each other")
 layer_error_text text (Algorithm None) = Some (codes "no algorithm that is allowed")
 layer_error_text text (Algorithm (Some number)) = Some (codes "algorithm ") ++? (Some (signed_decimal number) ++? Some (codes " not allowed"))
 layer_error_text text Critical = Some (codes "critical label not understood")
+layer_error_text text Recipients = Some (codes "not one direct recipient with a key identifier")
 layer_error_text text NoPayload = Some (codes "no payload")
+layer_error_text text NoSignature = Some (codes "no signature")
+layer_error_text text TooManySignatures = Some (codes "too many signatures")
 layer_error_text text (Keys e) = text e
 
 -- The text of a reason against a token.

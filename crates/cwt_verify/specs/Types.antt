@@ -1,5 +1,5 @@
 -- The type of a token (RFC 9596).
-use Rattle.std.specs.Prelude.{ℕ, ℤ, pos, List, Option, Some, None, Bool, false, option_map}
+use Rattle.std.specs.Prelude.{ℕ, ℤ, pos, List, Option, Some, None, Bool, option_map}
 use Rattle.std.specs.List.{list_any}
 use Rattle.std.specs.Map.{lookup}
 use Rattle.std.specs.Str.{str_eq_ignore_ascii_case}

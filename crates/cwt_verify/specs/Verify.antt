@@ -1,7 +1,6 @@
 -- The results of verifying a token (RFC 8392, section 7.2).
-use Rattle.std.specs.Prelude.{◌≡◌, ℕ, ℤ, List, [], ◌∷◌, map, string_bytes, Bool, true, false, Option, Some, None, Result, Ok, Err}
+use Rattle.std.specs.Prelude.{◌≡◌, ℕ, ℤ, List, [], ◌∷◌, map, string_bytes, Bool, true, false, Some, None, Result, Ok, Err}
 use Rattle.coset.specs.Claims.{claims_view}
-use Rattle.coset.specs.CoseError.{CoseError}
 use Rattle.coset.specs.Grammar.{IsItem}
 use Rattle.coset.specs.Item.{Item}
 use Rattle.coset.specs.Known.{KnownView, known}
@@ -13,7 +12,7 @@ use Rattle.cwt_verify.specs.HeaderClaims.{agree}
 use Rattle.cwt_verify.specs.Opening.{VerifiedView, seen}
 use Rattle.cwt_verify.specs.Policy.{PolicyView}
 use Rattle.cwt_verify.specs.Types.{has_type}
-use Rattle.cwt_verify.specs.Walk.{Accepted, Arrives, IsTooDeep, RefusesAt, verified_views, voucher}
+use Rattle.cwt_verify.specs.Walk.{Arrives, IsTooDeep, RefusesAt, verified_views, voucher}
 use Rattle.cwt_verify.specs.declared.error.TokenError.{TokenError}
 use Rattle.cwt_verify.specs.declared.error.TokenError.TheVariants.{Layer, TooDeep, Unauthenticated, «Type», Claims, HeaderClaims}
 use Rattle.cwt_verify.specs.declared.token.VerifiedToken.{VerifiedToken}

@@ -1,16 +1,18 @@
 -- The layers of a token, from the outermost in (RFC 8392, section 7.2).
-use Rattle.std.specs.Prelude.{◌≡◌, ◌≤◌, ◌<◌, ◌++◌, ◌||◌, ℕ, List, [], ◌∷◌, length, map, option_map, Bool, true, false, Option, Some, None, Result, Ok, Err, Vec}
+use Rattle.std.specs.Prelude.{◌≡◌, ◌⊎◌, ◌≤◌, ◌<◌, ◌++◌, ◌||◌, ℕ, List, [], ◌∷◌, length, map, option_map, Bool, true, false, Option, Some, None}
+use Rattle.std.specs.Prelude.{Result, Ok, Err, Vec}
 use Rattle.std.specs.Prelude.{if◌then◌else◌}
 use Rattle.std.specs.Borrow.{Bor}
 use Rattle.std.specs.Global.{Global}
 use Rattle.coset.specs.Results.{Describes, IsRefused}
 use Rattle.cwt_keys.specs.Keys.{KeysView, Name, name_view}
-use Rattle.cwt_verify.specs.Headers.{contradict}
-use Rattle.cwt_verify.specs.Layers.{LayerView, attached, begins_with_tag, form_of, layer, protected_of, unprotected_of}
-use Rattle.cwt_verify.specs.Opening.{HasContent, Refuses, VerifiedView, seen, verified_view}
-use Rattle.cwt_verify.specs.Policy.{PolicyView, allows, authenticates, named_number, understands}
+use Rattle.coset.specs.Shape.{Shape}
+use Rattle.cwt_verify.specs.Admission.{IsAdmitted, RefusesHeaders}
+use Rattle.cwt_verify.specs.Layers.{LayerView, PartView, begins_with_tag, headers_of, layer}
+use Rattle.cwt_verify.specs.Opening.{HasContent, RefusesContent, VerifiedView, seen, verified_view}
+use Rattle.cwt_verify.specs.Policy.{PolicyView, authenticates}
 use Rattle.cwt_verify.specs.declared.error.LayerError.{LayerError}
-use Rattle.cwt_verify.specs.declared.error.LayerError.TheVariants.{Message, Headers, Algorithm, Critical, NoPayload, Keys}
+use Rattle.cwt_verify.specs.declared.error.LayerError.TheVariants.{Message}
 use Rattle.cwt_verify.specs.declared.error.TokenError.{TokenError}
 use Rattle.cwt_verify.specs.declared.error.TokenError.TheVariants.{Layer, TooDeep}
 use Rattle.cwt_verify.specs.declared.layer.OpenedLayer.{OpenedLayer}
@@ -23,44 +25,32 @@ MAX_LAYERS = 4
 
 -- ---- one layer
 
--- Returns true if the layer's headers contradict each other.
-abbrev pub is_torn : LayerView → Bool
-is_torn l = contradict (protected_of l).header (unprotected_of l)
-
--- Returns true if the policy allows the algorithm in the layer's protected header.
-abbrev pub is_allowed : PolicyView → LayerView → Bool
-is_allowed p l = allows p (form_of l) (protected_of l).header
-
--- Returns true if each critical label of the layer is understood.
-abbrev pub is_clear : PolicyView → LayerView → Bool
-is_clear p l = understands p (protected_of l).header (unprotected_of l)
-
--- The policy admits the layer.
-abbrev pub IsAdmitted : PolicyView → LayerView → Type 0
-IsAdmitted p l = (is_torn l ≡ false) × (is_allowed p l ≡ true) × (is_clear p l ≡ true)
+-- The shape of a layer that the policy names, the outermost or another one.
+abbrev pub layer_by : PolicyView → Bool → Shape LayerView
+layer_by p outermost = layer p.accept_lists p.untagged_form outermost
 
 -- The bytes `q` are a layer, the outermost or another one, and `R` holds for it.
 abbrev pub IsLayer : PolicyView → Bool → List ℕ → (LayerView → Type 0) → Type 0
-IsLayer p outermost q R = (l : LayerView) × Describes (layer p.untagged_form outermost) q l × R l
+IsLayer p outermost q R = (l : LayerView) × Describes (layer_by p outermost) q l × R l
+
+-- The first reason against a layer: that against its headers. If the policy admits them, it is the reason why the layer
+-- isn't opened.
+abbrev pub RefusesRead : {E : Type 0} → KeysView E → PolicyView → LayerView → LayerError E → Type 0
+RefusesRead k p l e = RefusesHeaders p (headers_of l) e ⊎ (IsAdmitted p (headers_of l) × RefusesContent k p l e)
 
 -- The first reason against the layer in the bytes `q`, or the fault if they are no layer.
 abbrev pub RefusesLayer : {E : Type 0} → KeysView E → PolicyView → Bool → List ℕ → LayerError E → Type 0
-RefusesLayer k p outermost q (Message e) = IsRefused (layer p.untagged_form outermost) q e
-RefusesLayer k p outermost q Headers = IsLayer p outermost q (λ l. is_torn l ≡ true)
-RefusesLayer k p outermost q (Algorithm a) =
-    IsLayer p outermost q (λ l. (is_torn l ≡ false) × (is_allowed p l ≡ false) × (a ≡ named_number (protected_of l).header))
-RefusesLayer k p outermost q Critical = IsLayer p outermost q (λ l. (is_torn l ≡ false) × (is_allowed p l ≡ true) × (is_clear p l ≡ false))
-RefusesLayer k p outermost q NoPayload = IsLayer p outermost q (λ l. IsAdmitted p l × (attached l ≡ None))
-RefusesLayer k p outermost q (Keys e) = IsLayer p outermost q (λ l. IsAdmitted p l × Refuses k l e)
+RefusesLayer k p outermost q (Message e) = IsRefused (layer_by p outermost) q e
+RefusesLayer k p outermost q e = IsLayer p outermost q (λ l. RefusesRead k p l e)
 
--- A layer, and the name of the issuer whose key accepted it.
+-- A layer, the part of it that a key accepted, and the name of the key's issuer.
 abbrev pub Accepted : Type 0
-Accepted = LayerView × Name
+Accepted = LayerView × (PartView × Name)
 
 -- The bytes `q` are the layer, the policy admits it, the keys accept it for the issuer of that name, and `c` is its
 -- content.
 abbrev pub IsOpened : {E : Type 0} → KeysView E → PolicyView → Bool → List ℕ → Accepted → List ℕ → Type 0
-IsOpened k p outermost q x c = Describes (layer p.untagged_form outermost) q x.0 × IsAdmitted p x.0 × HasContent k x.0 c x.1
+IsOpened k p outermost q x c = Describes (layer_by p outermost) q x.0 × IsAdmitted p (headers_of x.0) × HasContent k p x.0 c x.1.0 x.1.1
 
 -- The result of opening one layer.
 abbrev pub OpensOne : {E : Type 0} → KeysView E → PolicyView → Bool → List ℕ → Result OpenedLayer (LayerError E) → Type 0

@@ -9,6 +9,10 @@ use std::fmt;
 
 /// The reason why a layer of a token is refused. If several reasons apply, it is the first in this
 /// order.
+///
+/// In a `COSE_Sign`, the headers of the message come first, and need no algorithm. If each
+/// signature is refused, the reason is the one against the last signature: the first in this order
+/// for its own headers.
 #[derive(Debug, Drop)]
 pub enum LayerError<E> {
     /// The bytes aren't a message of the layer's form, or an allocation failed.
@@ -22,9 +26,18 @@ pub enum LayerError<E> {
     /// A critical label isn't understood, or isn't in the protected header; or the unprotected
     /// header lists critical labels (RFC 9052, section 3.1).
     Critical,
+    /// There isn't exactly one recipient, or it isn't one that is `direct` and names its key (RFC
+    /// 9052, section 8.5.1). Such a recipient has a protected header of zero length, no encrypted
+    /// key, and no recipients inside. Its unprotected header has a key identifier, and lists no
+    /// critical labels.
+    Recipients,
     /// The layer has no payload, or no ciphertext.
     NoPayload,
-    /// The keys were asked about this layer and refused it.
+    /// The list of signatures is empty (RFC 9052, section 4.1).
+    NoSignature,
+    /// The list has more than 16 signatures. Its sender chose their number, and each costs a check.
+    TooManySignatures,
+    /// The keys were asked about this layer, or about a signature in it, and refused it.
     Keys(E),
 }
 
@@ -39,7 +52,10 @@ impl<E: fmt::Display> fmt::Display for LayerError<E> {
             LayerError::Algorithm(None) => write!(f, "no algorithm that is allowed"),
             LayerError::Algorithm(Some(number)) => write!(f, "algorithm {number} not allowed"),
             LayerError::Critical => write!(f, "critical label not understood"),
+            LayerError::Recipients => write!(f, "not one direct recipient with a key identifier"),
             LayerError::NoPayload => write!(f, "no payload"),
+            LayerError::NoSignature => write!(f, "no signature"),
+            LayerError::TooManySignatures => write!(f, "too many signatures"),
             LayerError::Keys(error) => write!(f, "{error}"),
         }
     }

@@ -5,10 +5,11 @@ ghost use Rattle.coset.specs.Results.{IsRefused};
 ghost use Rattle.coset.specs.Shape.{any};
 ghost use Rattle.coset.specs.View.{value_item, value_pairs};
 ghost use Rattle.coset.specs.Views.{header_view};
-ghost use Rattle.cwt_verify.specs.HeaderClaims.{Agrees, agrees, has_claims, has_pair, layer_agrees, layer_has_claims, pairs_in};
+ghost use Rattle.cwt_verify.specs.HeaderClaims.{Agrees, agrees, has_claims, has_pair, layer_agrees, layer_has_claims, pairs_in, part_agrees, part_has_claims};
+ghost use Rattle.cwt_verify.specs.Layers.{part_view};
 ghost use Rattle.cwt_verify.specs.Opening.{verified_view};
 
-use crate::layer::VerifiedLayer;
+use crate::layer::{Part, VerifiedLayer};
 use coset::cbor::value::Value;
 use coset::laws::one_item;
 use coset::{CborSerializable, Header, Label, Result};
@@ -40,11 +41,27 @@ fn agrees(header: &Header, pairs: &[(Value, Value)]) -> bool
     claims.iter().all(|pair| has_pair(pair, pairs))
 }
 
-/// Returns true if each claim in the headers of the layer is one of these pairs.
+/// Returns true if each claim in the headers of the part is one of these pairs.
+fn part_agrees(part: &Part, pairs: &[(Value, Value)]) -> bool
+    ensures { result ≡ part_agrees (value_pairs pairs.now) (part_view part.now) }
+{
+    match part {
+        Part::Whole => true,
+        Part::Signature(signature) => {
+            agrees(&signature.protected.header, pairs) && agrees(&signature.unprotected, pairs)
+        }
+        Part::Recipient(recipient) => agrees(&recipient.unprotected, pairs),
+    }
+}
+
+/// Returns true if each claim in the headers of the layer, and of the part that the keys accepted,
+/// is one of these pairs.
 fn layer_agrees(layer: &VerifiedLayer<'_>, pairs: &[(Value, Value)]) -> bool
     ensures { result ≡ layer_agrees (value_pairs pairs.now) (verified_view layer.now) }
 {
-    agrees(&layer.protected.header, pairs) && agrees(&layer.unprotected, pairs)
+    agrees(&layer.protected.header, pairs)
+        && agrees(&layer.unprotected, pairs)
+        && part_agrees(&layer.part, pairs)
 }
 
 /// Returns true if the header has claims.
@@ -54,11 +71,26 @@ fn has_claims(header: &Header) -> bool
     header.get(&Label::Int(CWT_CLAIMS)).is_some()
 }
 
-/// Returns true if a header of the layer has claims.
+/// Returns true if a header of the part has claims.
+fn part_has_claims(part: &Part) -> bool
+    ensures { result ≡ part_has_claims (part_view part.now) }
+{
+    match part {
+        Part::Whole => false,
+        Part::Signature(signature) => {
+            has_claims(&signature.protected.header) || has_claims(&signature.unprotected)
+        }
+        Part::Recipient(recipient) => has_claims(&recipient.unprotected),
+    }
+}
+
+/// Returns true if a header of the layer, or of the part that the keys accepted, has claims.
 fn layer_has_claims(layer: &VerifiedLayer<'_>) -> bool
     ensures { result ≡ layer_has_claims (verified_view layer.now) }
 {
-    has_claims(&layer.protected.header) || has_claims(&layer.unprotected)
+    has_claims(&layer.protected.header)
+        || has_claims(&layer.unprotected)
+        || part_has_claims(&layer.part)
 }
 
 /// Returns the pairs of a map. Any other value has none.

@@ -2,18 +2,30 @@
 
 ghost use Rattle.std.specs.Prelude.{◌≡◌};
 ghost use Rattle.coset.specs.Results.{ReadsSlice, RefusesSlice};
+ghost use Rattle.coset.specs.Encrypt.{encrypt_view};
 ghost use Rattle.coset.specs.Encrypt0.{encrypt0_view};
+ghost use Rattle.coset.specs.Mac.{mac_view};
 ghost use Rattle.coset.specs.Mac0.{mac0_view};
 ghost use Rattle.coset.specs.Parts.{as_tag};
 ghost use Rattle.coset.specs.Pulls.{pull_item};
+ghost use Rattle.coset.specs.Sign.{sign_view};
 ghost use Rattle.coset.specs.Sign1.{sign1_view};
 ghost use Rattle.coset.specs.Views.{header_view};
+ghost use Rattle.cwt_verify.specs.Admission.{headers_view};
 ghost use Rattle.cwt_verify.specs.Opening.{Opens};
-ghost use Rattle.cwt_verify.specs.Layers.{LayerView, encrypted, form_of, without_cwt_tag, layer, layer_item, layer_view, macced, message_in, named_form, names_form, protected_of, signed, unprotected_of};
+ghost use Rattle.cwt_verify.specs.Policy.{PolicyView, policy_view};
+ghost use Rattle.cwt_verify.specs.Layers.{encrypted, headers_of, layer, layer_item, layer_view, list_form, macced, message_in, named_by, named_form, names_form, protected_of, signed, unprotected_of, without_cwt_tag};
 
+use crate::admission::Headers;
 use crate::error::LayerError;
+use crate::policy::Policy;
+use crate::recipients::{open_encrypted_for, open_macced_for};
+use crate::signatures::open_signed_by;
 use coset::cbor::de::Pull;
-use coset::{CoseEncrypt0, CoseMac0, CoseSign1, FromPull, Header, ProtectedHeader, Result};
+use coset::{
+    CoseEncrypt, CoseEncrypt0, CoseMac, CoseMac0, CoseRecipient, CoseSign, CoseSign1,
+    CoseSignature, FromPull, Header, ProtectedHeader, Result,
+};
 use coset_codec::traits::whole_item;
 use cwt_keys::{Form, Keys, Sealed};
 use std::alloc::Global;
@@ -27,8 +39,29 @@ const COSE_MAC0: u64 = 17;
 /// The tag of encrypted messages (RFC 8152, section 2).
 const COSE_ENCRYPT0: u64 = 16;
 
+/// The tag of messages with a list of signatures (RFC 8152, section 2).
+const COSE_SIGN: u64 = 98;
+
+/// The tag of messages with a MAC and a list of recipients (RFC 8152, section 2).
+const COSE_MAC: u64 = 97;
+
+/// The tag of encrypted messages with a list of recipients (RFC 8152, section 2).
+const COSE_ENCRYPT: u64 = 96;
+
 /// The tag of web tokens (RFC 8392, section 6).
 const CWT: u64 = 61;
+
+/// The part of a layer that the keys accepted.
+#[derive(Debug, Drop)]
+pub enum Part {
+    /// The layer itself: a `COSE_Sign1`, a `COSE_Mac0` or a `COSE_Encrypt0`.
+    Whole,
+    /// A signature of a `COSE_Sign`. Nothing is known about the other signatures.
+    Signature(CoseSignature),
+    /// The recipient of a `COSE_Mac` or a `COSE_Encrypt`, which is `direct`. Whoever sent the token
+    /// chose its values.
+    Recipient(CoseRecipient),
+}
 
 /// A layer that the keys accepted.
 #[derive(Debug, Drop)]
@@ -39,6 +72,8 @@ pub struct VerifiedLayer<'k> {
     pub protected: ProtectedHeader,
     /// The unprotected header. Whoever sent the token chose its values.
     pub unprotected: Header,
+    /// The part of the layer that a key accepted.
+    pub part: Part,
     /// The name of the issuer whose key accepted the layer, or `None` if that issuer has no name.
     pub issuer: Option<&'k str>,
 }
@@ -55,20 +90,42 @@ pub(crate) struct OpenedLayer<'k> {
 /// A layer: a message of one of the forms.
 ///
 /// ```cddl
-/// message = COSE_Sign1 / COSE_Mac0 / COSE_Encrypt0
+/// single = COSE_Sign1 / COSE_Mac0 / COSE_Encrypt0
+/// list = COSE_Sign / COSE_Mac / COSE_Encrypt          ; only if the policy accepts lists
 /// tagged = #6.18(COSE_Sign1) / #6.17(COSE_Mac0) / #6.16(COSE_Encrypt0)
-/// layer = message / tagged        ; the outermost also #6.61(tagged)
+///        / #6.98(COSE_Sign) / #6.97(COSE_Mac) / #6.96(COSE_Encrypt)
+/// layer = single / list / tagged  ; the outermost also #6.61(tagged)
 /// ```
 #[derive(Debug, Drop)]
 pub(crate) enum Layer {
     Sign1(CoseSign1),
     Mac0(CoseMac0),
     Encrypt0(CoseEncrypt0),
+    Sign(CoseSign),
+    Mac(CoseMac),
+    Encrypt(CoseEncrypt),
 }
 
-/// Returns the form that the tag `number` names, or `None` if it names none.
-fn named_form(number: u64) -> Option<Form>
-    ensures { result ≡ named_form number }
+/// Returns the form with a list that the tag `number` names, or `None` if it names none.
+fn list_form(number: u64) -> Option<Form>
+    ensures { result ≡ list_form number }
+{
+    if number == COSE_SIGN {
+        return Some(Form::Sign);
+    }
+    if number == COSE_MAC {
+        return Some(Form::Mac);
+    }
+    if number == COSE_ENCRYPT {
+        return Some(Form::Encrypt);
+    }
+    None
+}
+
+/// Returns the form that the tag `number` names, or `None` if it names none. Forms with a list are
+/// named only if `lists` is true.
+fn named_form(lists: bool, number: u64) -> Option<Form>
+    ensures { result ≡ named_form lists number }
 {
     if number == COSE_SIGN1 {
         return Some(Form::Sign1);
@@ -79,28 +136,28 @@ fn named_form(number: u64) -> Option<Form>
     if number == COSE_ENCRYPT0 {
         return Some(Form::Encrypt0);
     }
-    None
+    if lists { list_form(number) } else { None }
 }
 
 /// Returns true if the item is under the tag of a form.
-fn names_form(item: Pull<'_>) -> bool
-    ensures { result ≡ names_form (as_tag (pull_item item.entry)) }
+fn names_form(lists: bool, item: Pull<'_>) -> bool
+    ensures { result ≡ names_form lists (as_tag (pull_item item.entry)) }
 {
     match item.tag() {
-        Some((number, _)) => named_form(number).is_some(),
+        Some((number, _)) => named_form(lists, number).is_some(),
         None => false,
     }
 }
 
 /// Removes the tag of web tokens if the tag of a form follows; any other item is returned as it is.
-fn without_cwt_tag(item: Pull<'_>) -> Pull<'_>
+fn without_cwt_tag(lists: bool, item: Pull<'_>) -> Pull<'_>
     ensures { pull_item result
-        ≡ without_cwt_tag (pull_item item.entry) (as_tag (pull_item item.entry)) }
+        ≡ without_cwt_tag lists (pull_item item.entry) (as_tag (pull_item item.entry)) }
 {
     match item.tag() {
         Some((number, inner)) => {
             if number == CWT {
-                if names_form(inner) {
+                if names_form(lists, inner) {
                     return inner;
                 }
             }
@@ -111,11 +168,11 @@ fn without_cwt_tag(item: Pull<'_>) -> Pull<'_>
 }
 
 /// Returns the item of a layer. Only the outermost layer may be under the tag of web tokens.
-fn layer_item(outermost: bool, item: Pull<'_>) -> Pull<'_>
-    ensures { pull_item result ≡ layer_item outermost (pull_item item.entry) }
+fn layer_item(lists: bool, outermost: bool, item: Pull<'_>) -> Pull<'_>
+    ensures { pull_item result ≡ layer_item lists outermost (pull_item item.entry) }
 {
     if outermost {
-        without_cwt_tag(item)
+        without_cwt_tag(lists, item)
     } else {
         item
     }
@@ -123,11 +180,11 @@ fn layer_item(outermost: bool, item: Pull<'_>) -> Pull<'_>
 
 /// Returns the form that the item's tag names, and the item of the message. An item without such a
 /// tag is itself the message, of the form `plain`.
-fn message_in(plain: Form, item: Pull<'_>) -> (Form, Pull<'_>)
-    ensures { (result.0, pull_item result.1) ≡ message_in plain (pull_item item.entry) }
+fn message_in(lists: bool, plain: Form, item: Pull<'_>) -> (Form, Pull<'_>)
+    ensures { (result.0, pull_item result.1) ≡ message_in lists plain (pull_item item.entry) }
 {
     match item.tag() {
-        Some((number, inner)) => match named_form(number) {
+        Some((number, inner)) => match named_form(lists, number) {
             Some(form) => (form, inner),
             None => (plain, item),
         },
@@ -136,75 +193,114 @@ fn message_in(plain: Form, item: Pull<'_>) -> (Form, Pull<'_>)
 }
 
 impl Layer {
-    /// Reads a layer from its bytes.
+    /// Reads a layer from its bytes. `lists` says whether forms with a list are read too, and
+    /// `plain` is the form of a layer without a tag.
     ///
     /// # Errors
     /// - `OutOfMemory` if an allocation fails.
     /// - A fault in the bytes, if they are not a layer.
-    pub(crate) fn read(alloc: Global, plain: Form, outermost: bool, bytes: &[u8]) -> Result<Layer>
-        ensures read { ReadsSlice (layer plain outermost) layer_view bytes.now result }
-        ensures refused { RefusesSlice (layer plain outermost) bytes.now result }
+    pub(crate) fn read(
+        alloc: Global,
+        lists: bool,
+        plain: Form,
+        outermost: bool,
+        bytes: &[u8],
+    ) -> Result<Layer>
+        ensures read { ReadsSlice (layer lists plain outermost) layer_view bytes.now result }
+        ensures refused { RefusesSlice (layer lists plain outermost) bytes.now result }
     {
-        let item = layer_item(outermost, whole_item(bytes)?);
-        let (form, message) = message_in(plain, item);
+        let item = layer_item(lists, outermost, whole_item(bytes)?);
+        let (form, message) = message_in(lists, plain, item);
         match form {
             Form::Sign1 => Ok(Layer::Sign1(CoseSign1::from_pull(alloc, message)?)),
             Form::Mac0 => Ok(Layer::Mac0(CoseMac0::from_pull(alloc, message)?)),
             Form::Encrypt0 => Ok(Layer::Encrypt0(CoseEncrypt0::from_pull(alloc, message)?)),
+            Form::Sign => Ok(Layer::Sign(CoseSign::from_pull(alloc, message)?)),
+            Form::Mac => Ok(Layer::Mac(CoseMac::from_pull(alloc, message)?)),
+            Form::Encrypt => Ok(Layer::Encrypt(CoseEncrypt::from_pull(alloc, message)?)),
         }
     }
 
-    /// Returns the form of the layer.
-    pub(crate) fn form(&self) -> Form
-        ensures { result ≡ form_of (layer_view self.now) }
+    /// Returns the form that the algorithm in the protected header must be for, or `None` if the
+    /// header needs no algorithm, because each signature names its own.
+    fn named_by(&self) -> Option<Form>
+        ensures { result ≡ named_by (layer_view self.now) }
     {
         match self {
-            Layer::Sign1(_) => Form::Sign1,
-            Layer::Mac0(_) => Form::Mac0,
-            Layer::Encrypt0(_) => Form::Encrypt0,
+            Layer::Sign1(_) => Some(Form::Sign1),
+            Layer::Mac0(_) => Some(Form::Mac0),
+            Layer::Encrypt0(_) => Some(Form::Encrypt0),
+            Layer::Sign(_) => None,
+            Layer::Mac(_) => Some(Form::Mac),
+            Layer::Encrypt(_) => Some(Form::Encrypt),
         }
     }
 
     /// Returns the protected header.
-    pub(crate) fn protected(&self) -> &Header
+    fn protected(&self) -> &Header
         ensures { header_view result.now ≡ (protected_of (layer_view self.now)).header }
     {
         match self {
             Layer::Sign1(message) => &message.protected.header,
             Layer::Mac0(message) => &message.protected.header,
             Layer::Encrypt0(message) => &message.protected.header,
+            Layer::Sign(message) => &message.protected.header,
+            Layer::Mac(message) => &message.protected.header,
+            Layer::Encrypt(message) => &message.protected.header,
         }
     }
 
     /// Returns the unprotected header.
-    pub(crate) fn unprotected(&self) -> &Header
+    fn unprotected(&self) -> &Header
         ensures { header_view result.now ≡ unprotected_of (layer_view self.now) }
     {
         match self {
             Layer::Sign1(message) => &message.unprotected,
             Layer::Mac0(message) => &message.unprotected,
             Layer::Encrypt0(message) => &message.unprotected,
+            Layer::Sign(message) => &message.unprotected,
+            Layer::Mac(message) => &message.unprotected,
+            Layer::Encrypt(message) => &message.unprotected,
+        }
+    }
+
+    /// Returns the headers of the message, which the policy must admit.
+    pub(crate) fn headers(&self) -> Headers<'_>
+        ensures { headers_view result ≡ headers_of (layer_view self.now) }
+    {
+        Headers {
+            form: self.named_by(),
+            protected: self.protected(),
+            unprotected: self.unprotected(),
         }
     }
 
     /// Returns the layer and its content, if the keys accept it: its payload, or the plaintext of
-    /// its ciphertext.
+    /// its ciphertext. Of a list of signatures, the keys must accept one that the policy admits.
     ///
     /// # Errors
+    /// - `Recipients` if the layer has recipients, except for exactly one that is `direct`.
     /// - `NoPayload` if the layer has no payload, or no ciphertext.
+    /// - `NoSignature` if the list of signatures is empty, and `TooManySignatures` if it has more than
+    ///   16.
     /// - `Message` if the structure can't be made, for example because an allocation fails.
-    /// - `Keys` if the keys refuse the layer.
+    /// - `Headers`, `Algorithm` or `Critical` if the policy doesn't admit the last signature.
+    /// - `Keys` if the keys refuse the layer, or the last signature.
     pub(crate) fn open<'k, K: Keys>(
         self,
         alloc: Global,
+        policy: &Policy<'_>,
         keys: &'k K,
     ) -> std::result::Result<OpenedLayer<'k>, LayerError<K::Error>>
-        ensures { Opens (K.view keys.now) (layer_view self) result }
+        ensures { Opens (K.view keys.now) (policy_view policy.now) (layer_view self) result }
     {
         match self {
             Layer::Sign1(message) => open_signed(alloc, keys, message),
             Layer::Mac0(message) => open_macced(alloc, keys, message),
             Layer::Encrypt0(message) => open_encrypted(alloc, keys, message),
+            Layer::Sign(message) => open_signed_by(alloc, policy, keys, message),
+            Layer::Mac(message) => open_macced_for(alloc, keys, message),
+            Layer::Encrypt(message) => open_encrypted_for(alloc, keys, message),
         }
     }
 }
@@ -215,7 +311,7 @@ fn open_signed<'k, K: Keys>(
     keys: &'k K,
     mut message: CoseSign1,
 ) -> std::result::Result<OpenedLayer<'k>, LayerError<K::Error>>
-    ensures { Opens (K.view keys.now) (signed (sign1_view message)) result }
+    ensures { (p : PolicyView) → Opens (K.view keys.now) p (signed (sign1_view message)) result }
 {
     let Some(content) = message.payload.take() else {
         return Err(LayerError::NoPayload);
@@ -224,13 +320,13 @@ fn open_signed<'k, K: Keys>(
         Ok(structure) => structure,
         Err(error) => return Err(LayerError::Message(error)),
     };
-    let sealed = Sealed {
-        form: Form::Sign1,
-        protected: &message.protected,
-        unprotected: &message.unprotected,
-        proof: &message.signature,
-        structure: &structure,
-    };
+    let sealed = Sealed::new(
+        Form::Sign1,
+        &message.protected,
+        &message.unprotected,
+        &message.signature,
+        &structure,
+    );
     match keys.verify(&sealed) {
         Ok(issuer) => Ok(OpenedLayer {
             content,
@@ -238,6 +334,7 @@ fn open_signed<'k, K: Keys>(
                 form: Form::Sign1,
                 protected: message.protected,
                 unprotected: message.unprotected,
+                part: Part::Whole,
                 issuer,
             },
         }),
@@ -251,7 +348,7 @@ fn open_macced<'k, K: Keys>(
     keys: &'k K,
     mut message: CoseMac0,
 ) -> std::result::Result<OpenedLayer<'k>, LayerError<K::Error>>
-    ensures { Opens (K.view keys.now) (macced (mac0_view message)) result }
+    ensures { (p : PolicyView) → Opens (K.view keys.now) p (macced (mac0_view message)) result }
 {
     let Some(content) = message.payload.take() else {
         return Err(LayerError::NoPayload);
@@ -260,13 +357,13 @@ fn open_macced<'k, K: Keys>(
         Ok(structure) => structure,
         Err(error) => return Err(LayerError::Message(error)),
     };
-    let sealed = Sealed {
-        form: Form::Mac0,
-        protected: &message.protected,
-        unprotected: &message.unprotected,
-        proof: &message.tag,
-        structure: &structure,
-    };
+    let sealed = Sealed::new(
+        Form::Mac0,
+        &message.protected,
+        &message.unprotected,
+        &message.tag,
+        &structure,
+    );
     match keys.verify(&sealed) {
         Ok(issuer) => Ok(OpenedLayer {
             content,
@@ -274,6 +371,7 @@ fn open_macced<'k, K: Keys>(
                 form: Form::Mac0,
                 protected: message.protected,
                 unprotected: message.unprotected,
+                part: Part::Whole,
                 issuer,
             },
         }),
@@ -287,7 +385,8 @@ fn open_encrypted<'k, K: Keys>(
     keys: &'k K,
     mut message: CoseEncrypt0,
 ) -> std::result::Result<OpenedLayer<'k>, LayerError<K::Error>>
-    ensures { Opens (K.view keys.now) (encrypted (encrypt0_view message)) result }
+    ensures { (p : PolicyView) → Opens (K.view keys.now) p (encrypted (encrypt0_view message))
+        result }
 {
     let Some(ciphertext) = message.ciphertext.take() else {
         return Err(LayerError::NoPayload);
@@ -296,13 +395,13 @@ fn open_encrypted<'k, K: Keys>(
         Ok(structure) => structure,
         Err(error) => return Err(LayerError::Message(error)),
     };
-    let sealed = Sealed {
-        form: Form::Encrypt0,
-        protected: &message.protected,
-        unprotected: &message.unprotected,
-        proof: &ciphertext,
-        structure: &structure,
-    };
+    let sealed = Sealed::new(
+        Form::Encrypt0,
+        &message.protected,
+        &message.unprotected,
+        &ciphertext,
+        &structure,
+    );
     match keys.decrypt(alloc, &sealed) {
         Ok((content, issuer)) => Ok(OpenedLayer {
             content,
@@ -310,6 +409,7 @@ fn open_encrypted<'k, K: Keys>(
                 form: Form::Encrypt0,
                 protected: message.protected,
                 unprotected: message.unprotected,
+                part: Part::Whole,
                 issuer,
             },
         }),

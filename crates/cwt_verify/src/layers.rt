@@ -6,12 +6,14 @@ ghost use Rattle.cwt_verify.specs.Policy.{policy_view};
 ghost use Rattle.cwt_verify.specs.Opening.{verified_view};
 ghost use Rattle.cwt_verify.specs.Walk.{OpensAll, OpensNext, OpensOne, verified_views, vouched, voucher_view};
 
+use crate::admission::check_headers;
 use crate::error::{LayerError, TokenError};
-use crate::headers::contradict;
 use crate::layer::{Layer, OpenedLayer, VerifiedLayer};
-use crate::policy::{Policy, named_number};
+use crate::policy::Policy;
 use coset::CoseError;
-use coset::laws::{signed_when_read, structure_when_read};
+use coset::laws::{
+    each_signed_when_read, signed_when_read, structure_when_read, structures_when_read,
+};
 use cwt_keys::Keys;
 use std::alloc::Global;
 
@@ -54,25 +56,16 @@ fn open_one<'k, K: Keys>(
     ensures { OpensOne (K.view keys.now) (policy_view policy.now) outermost bytes.now result }
 {
     signed_when_read();
+    each_signed_when_read();
     structure_when_read();
-    let layer = match Layer::read(alloc, policy.untagged_form, outermost, bytes) {
+    structures_when_read();
+    let lists = policy.accept_lists;
+    let layer = match Layer::read(alloc, lists, policy.untagged_form, outermost, bytes) {
         Ok(layer) => layer,
         Err(error) => return Err(LayerError::Message(error)),
     };
-    let are_torn = match contradict(alloc, layer.protected(), layer.unprotected()) {
-        Ok(are_torn) => are_torn,
-        Err(error) => return Err(LayerError::Message(error)),
-    };
-    if are_torn {
-        return Err(LayerError::Headers);
-    }
-    if !policy.allows(layer.form(), layer.protected()) {
-        return Err(LayerError::Algorithm(named_number(layer.protected())));
-    }
-    if !policy.understands(layer.protected(), layer.unprotected()) {
-        return Err(LayerError::Critical);
-    }
-    layer.open(alloc, keys)
+    check_headers(alloc, policy, layer.headers())?;
+    layer.open(alloc, policy, keys)
 }
 
 /// Returns the name of the issuer who vouches for the content of a layer: that of the layer itself

@@ -4,6 +4,7 @@
 //! layers and the token meets a [`Policy`]. The result also says whose key authenticated the token.
 #![tactic(auto)]
 
+mod admission;
 mod claims;
 mod error;
 mod header_claims;
@@ -12,11 +13,13 @@ mod layer;
 mod layers;
 mod moment;
 mod policy;
+mod recipients;
+mod signatures;
 mod token;
 mod types;
 
 pub use cwt_keys::{Form, Keys, Sealed};
 pub use error::{LayerError, TokenError};
-pub use layer::VerifiedLayer;
+pub use layer::{Part, VerifiedLayer};
 pub use policy::{Audience, Authentication, Policy};
 pub use token::{VerifiedToken, verify_token};

@@ -57,6 +57,11 @@ pub struct Policy<'a> {
     /// The form of an outermost layer without a tag. Sender and verifier must agree on it (RFC
     /// 8392, section 7.2, step 3).
     pub untagged_form: Form,
+    /// True if a layer under a tag may also be a `COSE_Sign`, a `COSE_Mac` or a `COSE_Encrypt`. Of
+    /// a list of signatures, the keys must accept one, and nothing is known about the others (RFC
+    /// 9052, section 4.1). A list of recipients must have exactly one, which is `direct` and names
+    /// its key (section 8.5.1).
+    pub accept_lists: bool,
     /// The layers that authenticate the sender. A token must have at least one of them.
     pub authenticated_by: Authentication,
     /// True if a token must have an expiration time (`exp`).
@@ -75,9 +80,9 @@ impl<'a> Policy<'a> {
     /// Returns a policy that accepts no token, because it allows no algorithm.
     ///
     /// Tokens with an audience are refused. There are no types, no required claims and no critical
-    /// labels. A layer without a tag has a signature, and a signature or a MAC authenticates. A
-    /// token must have an expiration time, and must not be issued later than now. The clocks don't
-    /// differ, and there is no greatest age.
+    /// labels. A layer without a tag has one signature, lists of signatures and of recipients are
+    /// refused, and a signature or a MAC authenticates. A token must have an expiration time, and
+    /// must not be issued later than now. The clocks don't differ, and there is no greatest age.
     pub fn strict() -> Policy<'a>
         ensures { policy_view result ≡ strict }
     {
@@ -88,6 +93,7 @@ impl<'a> Policy<'a> {
             required: &[],
             critical: &[],
             untagged_form: Form::Sign1,
+            accept_lists: false,
             authenticated_by: Authentication::SignatureOrMac,
             require_exp: true,
             refuse_future_iat: true,
@@ -157,8 +163,8 @@ impl Policy<'_> {
     {
         match (self.authenticated_by, form) {
             (Authentication::AnyLayer, _) => true,
-            (_, Form::Sign1) => true,
-            (Authentication::SignatureOrMac, Form::Mac0) => true,
+            (_, Form::Sign1 | Form::Sign) => true,
+            (Authentication::SignatureOrMac, Form::Mac0 | Form::Mac) => true,
             _ => false,
         }
     }

@@ -53,14 +53,21 @@ fn is_typed(types: &[&str], layers: &[VerifiedLayer<'_>]) -> bool
 /// 8392, section 7.2).
 ///
 /// `now` is in seconds since 1970 began in UTC. A layer is a message with a signature
-/// (`COSE_Sign1`), with a MAC (`COSE_Mac0`), or encrypted (`COSE_Encrypt0`). It is under its tag.
-/// The outermost layer may also be plain, or under the tag of web tokens on top of its own (RFC
-/// 8392, section 6).
+/// (`COSE_Sign1`), with a MAC (`COSE_Mac0`), or encrypted (`COSE_Encrypt0`). If the policy accepts
+/// lists, it may also be a message with a list of signatures (`COSE_Sign`), or with a list of
+/// recipients (`COSE_Mac`, `COSE_Encrypt`). It is under its tag. The outermost layer may also be
+/// plain, or under the tag of web tokens on top of its own (RFC 8392, section 6).
+///
+/// The signatures of a `COSE_Sign` are tried in order, until the policy admits one and the keys
+/// accept it. A list of recipients must have exactly one, which is `direct` and names its key (RFC
+/// 9052, section 8.5.1). Any other way to obtain a key is refused with `Recipients`: key wrap, key
+/// transport and key agreement.
 ///
 /// The content of a layer is its payload, or the plaintext that the keys return. If the content
 /// begins with a tag, it is another layer, and otherwise the claims. A token has at most four
 /// layers. The keys must accept each layer. They receive it once, from the outermost in, and only
-/// if the policy accepts its headers. Only content that the keys accepted is read.
+/// if the policy accepts its headers. Of a `COSE_Sign` they receive each signature that the policy
+/// admits, until they accept one. Only content that the keys accepted is read.
 ///
 /// # Errors
 /// The first error that applies, in the order of [`TokenError`]. If an allocation fails, the error

@@ -1,6 +1,6 @@
 -- The results of a proof of possession, from the parts of a message up to the token.
 use Rattle.std.specs.Prelude.{IsErrAnd}
-use Rattle.std.proofs.Common.{◌≡◌, ℕ, List, [], Option, Some, None, Bool, false, Result, Ok, Err, inr, subst, sym}
+use Rattle.std.proofs.Common.{◌≡◌, ℕ, List, [], Option, Some, None, false, Result, Ok, Err, inr, subst, sym}
 use Rattle.coset.specs.Calls.{IsStructure}
 use Rattle.coset.specs.CoseKey.{CoseKey}
 use Rattle.coset.specs.Keys.{KeyView}

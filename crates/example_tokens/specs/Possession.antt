@@ -15,7 +15,7 @@ use Rattle.coset_iana.specs.declared.algorithms.Algorithm.TheVariants.{ES256}
 use Rattle.cwt_confirm.specs.Confirm.{ReadsConfirmation}
 use Rattle.cwt_confirm.specs.declared.confirmed.Confirmation.{Confirmation}
 use Rattle.cwt_confirm.specs.declared.confirmed.Confirmation.TheVariants.{Key, EncryptedKey, KeyId}
-use Rattle.cwt_keys.specs.Sealed.{SealView, algorithm_of}
+use Rattle.cwt_keys.specs.Sealed.{SealView, algorithm_of, parts}
 use Rattle.cwt_keys.specs.declared.form.Form.TheVariants as forms
 use Rattle.cwt_ring.specs.Fits.{fits}
 use Rattle.cwt_ring.specs.Ring.{CiphersView}
@@ -72,7 +72,7 @@ is_critical m = not (length (fields_in m.protected.header).crit == 0) || not (le
 
 -- The parts that keys receive of the message, if its structure has the bytes `s`.
 abbrev pub seal_of : Sign1View → List ℕ → SealView
-seal_of m s = record { form = forms.Sign1; protected = m.protected; unprotected = m.unprotected; proof = m.signature; structure = s }
+seal_of m s = parts forms.Sign1 m.protected m.unprotected m.signature s None
 
 -- The signature of the message is over the challenge, and `R` holds for the parts that keys receive then.
 abbrev pub IsOver : List ℕ → Sign1View → (SealView → Type 0) → Type 0

@@ -125,13 +125,13 @@ fn verify_message<C: Ciphers>(
         Ok(structure) => structure,
         Err(error) => return Err(NotPossessed::Message(error)),
     };
-    let sealed = Sealed {
-        form: Form::Sign1,
-        protected: &message.protected,
-        unprotected: &message.unprotected,
-        proof: &message.signature,
-        structure: &structure,
-    };
+    let sealed = Sealed::new(
+        Form::Sign1,
+        &message.protected,
+        &message.unprotected,
+        &message.signature,
+        &structure,
+    );
     verify_sealed(key, ciphers, &sealed)
 }
 

@@ -85,7 +85,10 @@ layer_number (at.Message e) = status_number (refusal_status (answers.Cose e))
 layer_number at.Headers = 30
 layer_number (at.Algorithm n) = 16
 layer_number at.Critical = 17
+layer_number at.Recipients = 12
 layer_number at.NoPayload = 12
+layer_number at.NoSignature = 12
+layer_number at.TooManySignatures = 16
 layer_number (at.Keys v) = 19
 
 -- The number of a reason against a token.

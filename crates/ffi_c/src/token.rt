@@ -225,7 +225,10 @@ fn layer_number(error: LayerError<LayerView>) -> i32
         LayerError::Headers => COSET_HEADERS,
         LayerError::Algorithm(_) => COSET_NOT_ALLOWED,
         LayerError::Critical => COSET_CRITICAL,
+        LayerError::Recipients => COSET_ABSENT,
         LayerError::NoPayload => COSET_ABSENT,
+        LayerError::NoSignature => COSET_ABSENT,
+        LayerError::TooManySignatures => COSET_NOT_ALLOWED,
         LayerError::Keys(_) => COSET_LAYER,
     }
 }

@@ -49,6 +49,7 @@ layer_with p = record {
   unprotected = empty_header;
   proof = p.proof;
   structure = [];
+  recipient = None;
 }
 
 -- The nonce by which the key fits such a layer, or `None` if it doesn't fit.

@@ -7,7 +7,7 @@ use Rattle.coset.specs.Shape.{both}
 use Rattle.cwt_keys.specs.Keys.{KeysView, Name}
 use Rattle.cwt_keys.specs.Sealed.{SealView}
 use Rattle.cwt_keys.specs.declared.form.Form.{Form}
-use Rattle.cwt_keys.specs.declared.form.Form.TheVariants.{Sign1, Mac0, Encrypt0}
+use Rattle.cwt_keys.specs.declared.form.Form.TheVariants.{Sign1, Mac0, Encrypt0, Sign, Mac, Encrypt}
 use Rattle.ffi_token.specs.declared.layer.Waiting.{Waiting}
 use Rattle.ffi_token.specs.declared.layer.Waiting.TheVariants.{Layer, OutOfMemory}
 use Rattle.ffi_token.specs.declared.opened.Opened.{Opened}
@@ -19,6 +19,9 @@ abbrev pub form_number : Form → ℕ
 form_number Sign1 = 1
 form_number Mac0 = 3
 form_number Encrypt0 = 5
+form_number Sign = 2
+form_number Mac = 4
+form_number Encrypt = 6
 
 -- n bytes of b from this offset, if there are that many.
 abbrev pub slice_at : List ℕ → ℕ → ℕ → Option (List ℕ)

@@ -105,6 +105,7 @@ policy_with r = record {
   required = filter_map claim_of r.required;
   critical = map parameter_named r.critical;
   untagged_form = r.untagged_form;
+  accept_lists = false;
   authenticated_by = r.authenticated_by;
   require_exp = r.require_exp;
   refuse_future_iat = r.refuse_future_iat;

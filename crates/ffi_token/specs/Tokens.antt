@@ -36,7 +36,10 @@ apart_at index (at.Message e) = refused_at index (at.Message e)
 apart_at index at.Headers = refused_at index at.Headers
 apart_at index (at.Algorithm n) = refused_at index (at.Algorithm n)
 apart_at index at.Critical = refused_at index at.Critical
+apart_at index at.Recipients = refused_at index at.Recipients
 apart_at index at.NoPayload = refused_at index at.NoPayload
+apart_at index at.NoSignature = refused_at index at.NoSignature
+apart_at index at.TooManySignatures = refused_at index at.TooManySignatures
 
 abbrev pub apart : TokenError Waiting → aparts.Apart
 apart (token.Layer index e) = apart_at index e

@@ -69,13 +69,7 @@ fn nonce_for(alloc: Global, key: &CoseKey, parts: &Parts<'_>) -> Result<Option<V
         header: header_of(alloc, parts)?,
     };
     let unprotected = Header::new(alloc);
-    let sealed = Sealed {
-        form: parts.form,
-        protected: &protected,
-        unprotected: &unprotected,
-        proof: parts.proof,
-        structure: &[],
-    };
+    let sealed = Sealed::new(parts.form, &protected, &unprotected, parts.proof, &[]);
     match fits(key, &sealed) {
         Some(nonce) => Ok(Some(Vec::from_slice(alloc, nonce.as_slice())?)),
         None => Ok(None),

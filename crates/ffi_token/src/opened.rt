@@ -74,6 +74,9 @@ pub fn form_number(form: Form) -> u32
         Form::Sign1 => 1,
         Form::Mac0 => 3,
         Form::Encrypt0 => 5,
+        Form::Sign => 2,
+        Form::Mac => 4,
+        Form::Encrypt => 6,
     }
 }
 

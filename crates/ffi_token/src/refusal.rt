@@ -41,7 +41,10 @@ fn apart_at(index: usize, error: LayerError<Waiting>) -> Apart
         LayerError::Headers => LayerError::Headers,
         LayerError::Algorithm(number) => LayerError::Algorithm(number),
         LayerError::Critical => LayerError::Critical,
+        LayerError::Recipients => LayerError::Recipients,
         LayerError::NoPayload => LayerError::NoPayload,
+        LayerError::NoSignature => LayerError::NoSignature,
+        LayerError::TooManySignatures => LayerError::TooManySignatures,
     };
     Apart::Refused(TokenError::Layer(index, refused))
 }

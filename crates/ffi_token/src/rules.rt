@@ -35,7 +35,8 @@ pub struct Rules<'a> {
     pub types: &'a [Text<'a>],
     /// True if the audience isn't checked. There are then no `audiences`.
     pub any_audience: bool,
-    /// The form of an outermost layer without a tag.
+    /// The form of an outermost layer without a tag. Layers under a tag have no list of signatures
+    /// or recipients.
     pub untagged_form: Form,
     /// The layers that authenticate the sender. A token must have at least one of them.
     pub authenticated_by: Authentication,
@@ -178,6 +179,7 @@ impl<'a> Rules<'a> {
             required: &lists.required,
             critical: &lists.critical,
             untagged_form: self.untagged_form,
+            accept_lists: false,
             authenticated_by: self.authenticated_by,
             require_exp: self.require_exp,
             refuse_future_iat: self.refuse_future_iat,

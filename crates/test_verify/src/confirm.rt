@@ -3,8 +3,10 @@
 //!
 //! `confirm LAYERS CLAIMS` prints the confirmation of a token.
 //!
-//! - LAYERS are the forms of the layers, from the outermost in, separated by commas: `sign`, `mac`
-//!   or `enc`. After a form may follow `:`, the protected header, `:` and the unprotected header.
+//! - LAYERS are the forms of the layers, from the outermost in, separated by commas: `sign`, `mac`,
+//!   `enc`, or with a list `signs`, `macs`, `encs`. After a form may follow `:`, the protected
+//!   header, `:` and the unprotected header. After a last `:` may follow the unprotected header of
+//!   the signature or the recipient.
 //! - CLAIMS are the claims in hexadecimal.
 //!
 //! The output is `none`, or the kind of the confirmation (`key`, `encrypt`, `encrypt0` or `kid`)

@@ -12,6 +12,9 @@ pub fn read(word: &str) -> Result<Form> {
         "sign" => Ok(Form::Sign1),
         "mac" => Ok(Form::Mac0),
         "enc" => Ok(Form::Encrypt0),
+        "signs" => Ok(Form::Sign),
+        "macs" => Ok(Form::Mac),
+        "encs" => Ok(Form::Encrypt),
         _ => Err(CoseError::UnexpectedItem("word", "form")),
     }
 }
@@ -22,5 +25,8 @@ pub fn spelled(form: Form) -> &'static str {
         Form::Sign1 => "sign",
         Form::Mac0 => "mac",
         Form::Encrypt0 => "enc",
+        Form::Sign => "signs",
+        Form::Mac => "macs",
+        Form::Encrypt => "encs",
     }
 }

@@ -2,22 +2,27 @@
 //!
 //! `verify ANSWERS NOW POLICY TOKEN` asks keys whose answers the line gives.
 //!
-//! - ANSWERS has one answer for each layer, separated by commas: `yes`, `no`, or a plaintext in
-//!   hexadecimal. After `@` follows the name of the issuer, if it has one.
+//! - ANSWERS has one answer for each question, separated by commas: `yes`, `no`, or a plaintext in
+//!   hexadecimal. After `@` follows the name of the issuer, if it has one. A question is a layer, or
+//!   a signature of a list.
 //! - NOW is a moment in seconds.
 //! - POLICY has the changes of the strict policy, separated by commas, or is `strict`:
 //!   - `algs=` and numbers, `need=` and numbers of claims, `types=` and names, `crit=` and labels
 //!     in hexadecimal are lists. Their elements are separated by `|`.
 //!   - `aud=absent`, `aud=any`, or `aud=` and a list of names.
-//!   - `plain=` and `sign`, `mac` or `enc`, the form of a layer without a tag.
+//!   - `plain=` and `sign`, `mac`, `enc`, `signs`, `macs` or `encs`, the form of a layer without a
+//!     tag. The last three are the forms with a list.
 //!   - `by=` and `sign`, `mac` (a signature too) or `any`, the layers that authenticate.
-//!   - `forever` accepts tokens that don't expire, `later` those that were issued later than now.
+//!   - `forever` accepts tokens that don't expire, `later` those that were issued later than now,
+//!     and `lists` the forms with a list.
 //!   - `age=` and `leeway=` are spans in seconds.
 //! - TOKEN is hexadecimal, or `-` for no bytes.
 //!
 //! The output for a token that is accepted has `ok` and the encoded claims. Then follow the names
 //! of the audience, the other claims as an array of labels and values, and the issuer, as `@` and
 //! its name. Each layer has its form, the protected bytes, the unprotected header and the issuer.
+//! After `/by/` follow the headers and bytes of the accepted signature, after `/for/` the headers of
+//! the recipient.
 //! `-` stands for nothing. For any other token the output has both texts of the error. At last
 //! follow the number of questions that the keys got, and each proof and structure.
 //!
@@ -32,7 +37,8 @@
 //! algorithm and the nonce, and then the arguments of all calls.
 //!
 //! `fits KEY FORM PROTECTED UNPROTECTED LEN` prints the nonce by which a key fits a layer with a
-//! proof of that many bytes, or `no`. FORM is `sign`, `mac` or `enc`, and both headers are maps.
+//! proof of that many bytes, or `no`. FORM is as after `plain=`, and both headers are maps. After
+//! LEN may follow the unprotected header of a recipient.
 //!
 //! `keys KEYSET` prints the keys of a set that can be read.
 
@@ -160,12 +166,17 @@ pub fn fit(alloc: Global, words: &Words<'_>) -> Result<String> {
     };
     let unprotected: Header = words.value(alloc, 4)?;
     let proof = zeros(alloc, index(words.word(5))?)?;
-    let sealed = Sealed {
-        form: forms::read(words.word(2))?,
-        protected: &protected,
-        unprotected: &unprotected,
-        proof: &proof,
-        structure: &[],
+    let recipient: Option<Header> = if words.word(6).is_empty() {
+        None
+    } else {
+        Some(words.value(alloc, 6)?)
+    };
+    let form = forms::read(words.word(2))?;
+    let sealed = match &recipient {
+        Some(recipient) => {
+            Sealed::for_recipient(form, &protected, &unprotected, &proof, &[], recipient)
+        }
+        None => Sealed::new(form, &protected, &unprotected, &proof, &[]),
     };
     mark::begin(alloc);
     let answer = fits(&key, &sealed);

@@ -2,12 +2,31 @@
 
 use crate::forms;
 use coset::cwt::ClaimsSet;
-use coset::{Header, ProtectedHeader, Result};
-use cwt_verify::{VerifiedLayer, VerifiedToken};
+use coset::{CoseRecipient, CoseSignature, Header, ProtectedHeader, Result};
+use cwt_verify::{Form, Part, VerifiedLayer, VerifiedToken};
 use std::alloc::Global;
 use test_lines::spelled::read;
 
-/// Returns the layer that a word describes: its form, and its headers if it has some.
+/// Returns the accepted part of a layer of this form, with this unprotected header.
+fn part(alloc: Global, form: Form, unprotected: Header) -> Part {
+    match form {
+        Form::Sign1 | Form::Mac0 | Form::Encrypt0 => Part::Whole,
+        Form::Sign => Part::Signature(CoseSignature {
+            protected: ProtectedHeader::new(alloc),
+            unprotected,
+            signature: Vec::new(alloc),
+        }),
+        Form::Mac | Form::Encrypt => Part::Recipient(CoseRecipient {
+            protected: ProtectedHeader::new(alloc),
+            unprotected,
+            ciphertext: None,
+            recipients: Vec::new(alloc),
+        }),
+    }
+}
+
+/// Returns the layer that a word describes: its form, its headers if it has some, and the
+/// unprotected header of its accepted part.
 ///
 /// # Errors
 /// - A fault in the word.
@@ -18,11 +37,15 @@ fn layer<'k>(alloc: Global, word: &'k str) -> Result<VerifiedLayer<'k>> {
     let form = forms::read(parts.next().unwrap_or(""))?;
     let mut protected = Header::new(alloc);
     let mut unprotected = Header::new(alloc);
+    let mut inner = Header::new(alloc);
     if let Some(map) = parts.next() {
         protected = read(alloc, map)?;
     }
     if let Some(map) = parts.next() {
         unprotected = read(alloc, map)?;
+    }
+    if let Some(map) = parts.next() {
+        inner = read(alloc, map)?;
     }
     Ok(VerifiedLayer {
         form,
@@ -31,6 +54,7 @@ fn layer<'k>(alloc: Global, word: &'k str) -> Result<VerifiedLayer<'k>> {
             header: protected,
         },
         unprotected,
+        part: part(alloc, form, inner),
         issuer,
     })
 }

@@ -25,6 +25,7 @@ pub struct Changes<'a> {
     required: Vec<CwtClaimName>,
     critical: Vec<RegisteredLabelWithPrivate<HeaderParameter>>,
     untagged_form: Form,
+    accept_lists: bool,
     authenticated_by: Authentication,
     require_exp: bool,
     refuse_future_iat: bool,
@@ -96,6 +97,7 @@ impl<'a> Changes<'a> {
             required: Vec::new(alloc),
             critical: Vec::new(alloc),
             untagged_form: Form::Sign1,
+            accept_lists: false,
             authenticated_by: Authentication::SignatureOrMac,
             require_exp: true,
             refuse_future_iat: true,
@@ -162,6 +164,7 @@ impl<'a> Changes<'a> {
             "strict" => {}
             "forever" => self.require_exp = false,
             "later" => self.refuse_future_iat = false,
+            "lists" => self.accept_lists = true,
             _ => return Err(CoseError::UnexpectedItem("word", "field of a policy")),
         }
         Ok(())
@@ -193,6 +196,7 @@ impl<'a> Changes<'a> {
             required: &self.required,
             critical: &self.critical,
             untagged_form: self.untagged_form,
+            accept_lists: self.accept_lists,
             authenticated_by: self.authenticated_by,
             require_exp: self.require_exp,
             refuse_future_iat: self.refuse_future_iat,

@@ -2,8 +2,8 @@
 
 use crate::forms;
 use coset::cbor::value::Value;
-use coset::{AsCborValue, CborSerializable, Label, Result};
-use cwt_verify::{TokenError, VerifiedLayer, VerifiedToken};
+use coset::{AsCborValue, CborSerializable, Header, Label, ProtectedHeader, Result};
+use cwt_verify::{Part, TokenError, VerifiedLayer, VerifiedToken};
 use std::alloc::Global;
 use std::fmt::{Debug, Display};
 use test_lines::tell::{self, hexadecimal};
@@ -53,7 +53,41 @@ fn spelled_others(alloc: Global, others: Vec<(Label, Value)>) -> Result<String> 
     hexadecimal(alloc, &Value::Array(elements).to_vec(alloc)?)
 }
 
-/// Returns the layer's form, its protected bytes, its unprotected header and its issuer.
+/// Returns the protected bytes and the unprotected header.
+///
+/// # Errors
+/// `OutOfMemory` if an allocation fails.
+fn headers(alloc: Global, protected: &ProtectedHeader, unprotected: Header) -> Result<String> {
+    let protected = match &protected.original_data {
+        Some(bytes) => hexadecimal(alloc, bytes)?,
+        None => String::from_str(alloc, "none")?,
+    };
+    let unprotected = hexadecimal(alloc, &unprotected.to_vec(alloc)?)?;
+    Ok(format!(in alloc; "{protected}/{unprotected}")?)
+}
+
+/// Returns the part that was accepted: `/by/` and the headers and bytes of a signature, `/for/` and
+/// the headers of a recipient, or nothing for a whole layer.
+///
+/// # Errors
+/// `OutOfMemory` if an allocation fails.
+fn spelled_part(alloc: Global, part: Part) -> Result<String> {
+    match part {
+        Part::Whole => Ok(String::new(alloc)),
+        Part::Signature(by) => {
+            let bytes = hexadecimal(alloc, &by.signature)?;
+            let headers = headers(alloc, &by.protected, by.unprotected)?;
+            Ok(format!(in alloc; "/by/{headers}/{bytes}")?)
+        }
+        Part::Recipient(to) => {
+            let headers = headers(alloc, &to.protected, to.unprotected)?;
+            Ok(format!(in alloc; "/for/{headers}")?)
+        }
+    }
+}
+
+/// Returns the layer's form, its protected bytes, its unprotected header, its issuer, and the part
+/// that was accepted.
 ///
 /// # Errors
 /// `OutOfMemory` if an allocation fails.
@@ -62,16 +96,14 @@ fn spelled_layer(alloc: Global, layer: VerifiedLayer<'_>) -> Result<String> {
         form,
         protected,
         unprotected,
+        part,
         issuer,
     } = layer;
     let issuer = spelled_issuer(alloc, issuer)?;
-    let protected = match &protected.original_data {
-        Some(bytes) => hexadecimal(alloc, bytes)?,
-        None => String::from_str(alloc, "none")?,
-    };
-    let unprotected = hexadecimal(alloc, &unprotected.to_vec(alloc)?)?;
+    let headers = headers(alloc, &protected, unprotected)?;
+    let part = spelled_part(alloc, part)?;
     let form = forms::spelled(form);
-    Ok(format!(in alloc; " {form}/{protected}/{unprotected}/{issuer}")?)
+    Ok(format!(in alloc; " {form}/{headers}/{issuer}{part}")?)
 }
 
 /// Returns the parts of a token that was accepted.

@@ -1,8 +1,8 @@
-use Rattle.std.proofs.Common.{◌≡◌, ◌∙◌, ◌++◌, ◌∷◌, [], ap, arith, length, map, nat_eq, subst, sym}
+use Rattle.std.proofs.Common.{◌≡◌, ◌∙◌, ◌++◌, ◌∷◌, [], ap, arith, length, map, subst, sym}
 use Rattle.std.proofs.lemmas.List.{length-map, map-append}
-use Rattle.cwt_verify.specs.Opening.{seen, verified_view}
+use Rattle.cwt_verify.specs.Opening.{verified_view}
 use Rattle.cwt_verify.specs.Policy.{policy_view}
-use Rattle.cwt_verify.specs.Walk.{IsOpened, RefusesLayer, is_outside, verified_views, vouched, voucher_view}
+use Rattle.cwt_verify.specs.Walk.{IsOpened, RefusesLayer, verified_views, vouched, voucher_view}
 use Rattle.cwt_verify.proofs.Walking.{outside-count}
 use Rattle.cwt_verify.proofs.layers.open_next.Goals as goal
 

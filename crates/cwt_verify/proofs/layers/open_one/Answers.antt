@@ -1,14 +1,22 @@
-use Rattle.std.proofs.Common.{◌∙◌, ap, sym}
-use Rattle.coset.specs.Views.{header_view}
-use Rattle.cwt_verify.specs.Headers.{contradict}
-use Rattle.cwt_verify.specs.Layers.{form_of, layer_view, protected_of, unprotected_of}
-use Rattle.cwt_verify.specs.Policy.{allows, policy_view, understands}
-use Rattle.cwt_verify.specs.Walk.{IsAdmitted}
-use Rattle.cwt_verify.proofs.Reading.{HaveStructures, opened}
+use Rattle.std.proofs.Common.{Err, subst}
+use Rattle.cwt_verify.specs.Admission.{ChecksHeaders, IsAdmitted}
+use Rattle.cwt_verify.specs.Layers.{layer_view}
+use Rattle.cwt_verify.specs.Policy.{policy_view}
+use Rattle.cwt_verify.specs.Walk.{OpensOne}
+use Rattle.cwt_verify.proofs.Reading.{HaveStructures, opened, passed_on, turned_away}
 use Rattle.cwt_verify.proofs.layers.open_one.Goals as goal
 
 pub returns-in-Err : goal.returns-in-Err
 returns-in-Err g c = λ n. (c.in-Err.ensures.read n, c.in-Err.ensures.refused n)
+
+pub returns-in_err-check_headers : goal.returns-in_err-check_headers
+returns-in_err-check_headers g c =
+    let k = g.K.Keys.view c.args.keys.now in
+    let p = policy_view c.args.policy.now in
+    let e = c.in_err-check_headers.field-0.0 in
+    passed_on (OpensOne k p c.args.outermost c.args.bytes.now) c.from_residual.result e c.from_residual.ensures.1
+    (turned_away k p c.args.outermost c.args.bytes.now (layer_view c.in-Ok.layer) e c.in-Ok.ensures.read
+    (subst (λ h. ChecksHeaders p h (Err e)) c.headers.ensures c.in_err-check_headers.ensures))
 
 pub returns : goal.returns
 returns g c =
@@ -19,13 +27,9 @@ returns g c =
       sign1 = c.signed_when_read.ensures.plain;
       mac0 = c.structure_when_read.ensures.mac0;
       encrypt0 = c.structure_when_read.ensures.encrypt0;
+      sign = c.each_signed_when_read.ensures.plain;
+      mac = c.structures_when_read.ensures.mac;
+      encrypt = c.structures_when_read.ensures.encrypt;
     } in
-    let is_admitted : IsAdmitted p l = (
-      sym (c.in-Ok-contradict.ensures.answer ∙ (ap (λ h. contradict h (header_view c.unprotected.result.now)) c.protected.ensures
-          ∙ ap (contradict (protected_of l).header) c.unprotected.ensures)) ∙ c.if-are_torn.false,
-      sym (c.allows.ensures ∙ (ap (λ f. allows p f (header_view c.protected-2.result.now)) c.form.ensures
-          ∙ ap (allows p (form_of l)) c.protected-2.ensures)) ∙ c.if-not-allows.false,
-      sym (c.understands.ensures ∙ (ap (λ h. understands p h (header_view c.unprotected-2.result.now)) c.protected-3.ensures
-          ∙ ap (understands p (protected_of l).header) c.unprotected-2.ensures)) ∙ c.if-not-understands.false,
-    ) in
-    opened k p laws c.args.outermost c.args.bytes.now l c.open.result c.in-Ok.ensures.read is_admitted c.open.ensures
+    opened k p laws c.args.outermost c.args.bytes.now l c.open.result c.in-Ok.ensures.read
+    (subst (IsAdmitted p) c.headers.ensures c.in_ok-check_headers.ensures) c.open.ensures

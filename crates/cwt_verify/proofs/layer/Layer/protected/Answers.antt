@@ -15,3 +15,15 @@ returns-in-Mac0 c =
 pub returns-in-Encrypt0 : goal.returns-in-Encrypt0
 returns-in-Encrypt0 c =
     sym (protected_opened c.in-Encrypt0.message.protected) ∙ sym (ap (λ (l : Layer). (protected_of (layer_view l)).header) c.in-Encrypt0.is)
+
+pub returns-in-Sign : goal.returns-in-Sign
+returns-in-Sign c =
+    sym (protected_opened c.in-Sign.message.protected) ∙ sym (ap (λ (l : Layer). (protected_of (layer_view l)).header) c.in-Sign.is)
+
+pub returns-in-Mac : goal.returns-in-Mac
+returns-in-Mac c =
+    sym (protected_opened c.in-Mac.message.protected) ∙ sym (ap (λ (l : Layer). (protected_of (layer_view l)).header) c.in-Mac.is)
+
+pub returns-in-Encrypt : goal.returns-in-Encrypt
+returns-in-Encrypt c =
+    sym (protected_opened c.in-Encrypt.message.protected) ∙ sym (ap (λ (l : Layer). (protected_of (layer_view l)).header) c.in-Encrypt.is)

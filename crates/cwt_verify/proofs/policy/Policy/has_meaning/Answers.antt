@@ -2,7 +2,7 @@ use Rattle.std.proofs.Common.{◌∙◌, ◌||◌, Bool, ap, sym}
 use Rattle.std.specs.Ordering.{is_eq}
 use Rattle.coset.specs.LabelData.{registered_cmp}
 use Rattle.coset.specs.Views.{critical_view}
-use Rattle.cwt_verify.specs.Policy.{is_known, is_one_of, policy_view}
+use Rattle.cwt_verify.specs.Policy.{is_one_of, policy_view}
 use Rattle.cwt_verify.proofs.Opened.{any-map}
 use Rattle.cwt_verify.proofs.policy.Policy.has_meaning.Goals as goal
 

@@ -1,0 +1,37 @@
+use Rattle.std.proofs.Common.{◌≡◌, ◌∙◌, ℕ, [], None, Some, Vec, ap, option_map, refl, subst, sym}
+use Rattle.std.specs.Global.{Global}
+use Rattle.coset.specs.Calls.{IsStructure}
+use Rattle.coset.specs.Sign1.{sign1_structure, sign1_view}
+use Rattle.cwt_keys.specs.Keys.{name_view}
+use Rattle.cwt_keys.specs.Sealed.{seal_view}
+use Rattle.cwt_keys.specs.declared.form.Form.TheVariants.{Sign1}
+use Rattle.cwt_verify.proofs.Receiving.{signed_accepted, signed_refused, same_parts}
+use Rattle.cwt_verify.proofs.layer.open_signed.Goals as goal
+
+pub returns-in-Ok-verify : goal.returns-in-Ok-verify
+returns-in-Ok-verify g c = λ policy.
+    let k = g.K.Keys.view c.args.keys.now in
+    let m = sign1_view c.args.message in
+    let b = c.in-Some.content.items in
+    let t = c.in-Ok.structure.items in
+    let x = seal_view c.new-sealed.result in
+    let carried : m.payload ≡ Some b = ap (option_map (λ (v : Vec ℕ Global). v.items)) (sym c.take.ensures.value ∙ c.in-Some.is) in
+    let asked = same_parts Sign1 m.protected m.unprotected None None x _ _ m.signature t c.new-sealed.ensures c.deref-2.ensures.value
+    c.deref-3.ensures.value refl in (
+      signed_accepted k policy m b t x (name_view c.in-Ok-verify.issuer) carried (subst (λ q. IsStructure
+          (sign1_structure m [] q) t) c.deref.ensures.value c.in-Ok.ensures) asked c.in-Ok-verify.ensures.accepted,
+      refl,
+    )
+
+pub returns : goal.returns
+returns g c = λ policy.
+    let k = g.K.Keys.view c.args.keys.now in
+    let m = sign1_view c.args.message in
+    let b = c.in-Some.content.items in
+    let t = c.in-Ok.structure.items in
+    let x = seal_view c.new-sealed.result in
+    let carried : m.payload ≡ Some b = ap (option_map (λ (v : Vec ℕ Global). v.items)) (sym c.take.ensures.value ∙ c.in-Some.is) in
+    let asked = same_parts Sign1 m.protected m.unprotected None None x _ _ m.signature t c.new-sealed.ensures c.deref-2.ensures.value
+    c.deref-3.ensures.value refl in
+    signed_refused k policy m b t x c.in-Err-verify.error carried (subst (λ q. IsStructure
+    (sign1_structure m [] q) t) c.deref.ensures.value c.in-Ok.ensures) asked c.in-Err-verify.ensures.refused
