@@ -69,8 +69,9 @@ enum {
   COSET_ABSENT = 12,       /* the bytes don't have the requested part. Or items of the kind, or the bytes that something
                               is added to, have no place for an argument */
   COSET_MISUSE = 13,       /* a number has no meaning: it names no kind, part, map, form, order or countersignature,
-                              or a kind that the call doesn't take. Or a payload is given as detached although the
-                              message carries one, or although the flag is 0. Or a length is above PTRDIFF_MAX */
+                              or a kind that the call doesn't take. Or a payload or ciphertext is given as detached
+                              although the message carries one, or although the flag is 0. Or a length is above
+                              PTRDIFF_MAX */
   COSET_TYPE = 14,         /* the value is there, but isn't a string, or isn't an integer in the range of int64_t. From
                               a call that sets a span also: a string is in chunks */
   COSET_EMPTY = 15,        /* the counted list is empty: verifying each of its signatures would verify none */
@@ -205,7 +206,7 @@ COSET_CALL(6)
 coset_status coset_label_int(uint32_t kind, const uint8_t *in, size_t in_len, uint32_t map, int64_t label, int64_t *value);
 
 /* Sets *span to the place of an integer label's value in `in`, as received. Unless the status is COSET_OK, *span is
- * zeros. Also: COSET_ABSENT; COSET_TYPE if the byte string of the protected header is in chunks. */
+ * zeros. Also: COSET_ABSENT; COSET_TYPE if the label is in a protected header whose byte string is in chunks. */
 COSET_CALL(6)
 coset_status coset_label_span(uint32_t kind, const uint8_t *in, size_t in_len, uint32_t map, int64_t label, coset_span *span);
 
@@ -254,8 +255,8 @@ coset_status coset_key_of(const uint8_t *in, size_t in_len, const uint8_t *key_i
 /* Writes the structure that is signed (for a COSET_SIGN by the signer at index), authenticated, or goes with the
  * ciphertext: Sig_structure, MAC_structure or Enc_structure. If has_detached is 0, its payload is the one that the
  * message carries, and detached_len must be 0. Else its payload is detached, and the message must carry none. The
- * status is COSET_MISUSE if there are two. Enc_structure has no payload. Also: COSET_SHORT; COSET_ABSENT if there is no
- * payload, no signer at index, or no structure for the kind. */
+ * status is COSET_MISUSE if there are two. Enc_structure has no payload, but the same holds for the ciphertext. Also:
+ * COSET_SHORT; COSET_ABSENT if there is no payload, no signer at index, or no structure for the kind. */
 COSET_CALL(12)
 coset_status coset_structure(uint32_t kind, const uint8_t *in, size_t in_len, size_t index, const uint8_t *external_aad,
                              size_t external_aad_len, uint32_t has_detached, const uint8_t *detached, size_t detached_len,

@@ -173,17 +173,13 @@ static inline coset_status coset_in_either(uint32_t kind, const uint8_t *in, siz
   return COSET_OK;
 }
 
-/* Sets the lengths of both IVs, and that of the only ciphertext, carried by the COSET_ENCRYPT0 or detached in the policy.
- * Returns COSET_OK, COSET_ABSENT if there is no ciphertext, or COSET_MISUSE if there are two. */
+/* Sets the lengths of both IVs, and that of the ciphertext, carried by the COSET_ENCRYPT0 or detached in the policy.
+ * Returns COSET_OK, or COSET_ABSENT if there is no ciphertext. */
 static inline coset_status coset_lengths(uint32_t kind, const uint8_t *in, size_t in_len, const coset_policy *policy,
                                          coset_question *question) {
   coset_status status = coset_part(kind, in, in_len, COSET_CIPHERTEXT, NULL, 0, &question->proof_len);
-  if (status == COSET_ABSENT && policy->has_detached) {
-    question->proof_len = policy->detached_len;
-  } else {
-    if (status && status != COSET_SHORT) return status;
-    if (policy->has_detached) return COSET_MISUSE;
-  }
+  if (status == COSET_ABSENT && policy->has_detached) status = COSET_OK, question->proof_len = policy->detached_len;
+  if (status && status != COSET_SHORT) return status;
   status = coset_in_either(kind, in, in_len, 5, NULL, 0, &question->iv_len, &question->iv_map);
   if (status && status != COSET_SHORT) return status;
   status = coset_in_either(kind, in, in_len, 6, NULL, 0, &question->partial_iv_len, &question->partial_iv_map);

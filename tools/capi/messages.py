@@ -28,7 +28,7 @@ def critical_told(headers, known):
 def message_told(kind, item, index, tagged, aad, detached, known):
     """Returns the right status and results of `coset_message` for a message (RFC 8152, sections 3.1, 4.4, 5.3 and 6.3)."""
     is_encrypted, protected, carried = kind.startswith("encrypt"), bytes_at(item, 0), bytes_at(item, 2)
-    if not is_encrypted and detached is not None and carried is not None:
+    if detached is not None and carried is not None:
         return MISUSE, None
     signers = item[1][3][1] if kind == "sign" else [item]
     index = index if kind == "sign" else 0
@@ -99,8 +99,8 @@ def safe_calls(kind, number, data, item, words, status, told, detached):
     if kind in ("mac", "encrypt"):
         return
     carried, crypted = bytes_at(item, 2), kind == "encrypt0"
-    if status == OK and crypted and (carried is None) == (detached is None):
-        status, told = ABSENT if detached is None else MISUSE, None
+    if status == OK and crypted and carried is None and detached is None:
+        status, told = ABSENT, None
     if told is None:
         yield ("safe", number, data, words[:4] + ["-7", words[4], b"", b"", b""], status, None)
         return

@@ -55,9 +55,10 @@ def label_span(kind, data, which, label):
     if which < 3:
         at, end = list(children(data, at))[which - 1]
     if which == 1:
+        content = decode(data, at)[0][1]
         if data[at] & 31 == 31:
-            return TYPE, None
-        at = end - len(decode(data, at)[0][1])
+            return TYPE if content and ("int", label) in decode(content)[0][1][::2] else ABSENT, None
+        at = end - len(content)
         if at == end:
             return ABSENT, None
     places = list(children(data, at))

@@ -68,7 +68,7 @@ def of_signer(kind, data, item, index, aad, either, structure):
     """Yields the calls for one structure of a row's message: from the message, and from its parts."""
     is_encrypted, number, content = kind in ("encrypt0", "encrypt"), number_of(kind) + either, bytes_at(item, 2)
     for has in (0, 1):
-        found = structure if is_encrypted or (content is None) == bool(has) else None
+        found = structure if (content is None) == bool(has) or is_encrypted and not has else None
         yield ("structure", number, data, [index, aad, has, b""], OK if found is not None else MISUSE if has else ABSENT, found)
     signer = bytes_at(item[1][3][1][index], 0) if kind == "sign" else b""
     content = b"" if is_encrypted else content or b""

@@ -453,8 +453,8 @@ pub enum Error {
     /// The bytes don't have the requested part. Or items of the kind, or the bytes that something
     /// is added to, have no place for an argument.
     Absent,
-    /// A payload is given as detached although the message carries one, or the call doesn't take
-    /// the kind.
+    /// A payload or ciphertext is given as detached although the message carries one, or the call
+    /// doesn't take the kind.
     Misuse,
     /// The value is there, but isn't a string, or isn't an integer in the range of `i64`. From a
     /// call that returns a place also: a string is in chunks.
@@ -1219,9 +1219,8 @@ pub fn decrypt(
         carried => Some(carried?),
     };
     let ciphertext = match (&carried, policy.detached) {
-        (Some(_), Some(_)) => return Err(Error::Misuse),
+        (_, Some(detached)) => detached,
         (Some(carried), None) => carried,
-        (None, Some(detached)) => detached,
         (None, None) => return Err(Error::Absent),
     };
     let ((iv, iv_map), (partial_iv, partial_iv_map)) = (in_either(kind, bytes, 5)?, in_either(kind, bytes, 6)?);

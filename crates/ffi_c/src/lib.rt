@@ -13,7 +13,7 @@ ghost use Rattle.ffi_query.specs.declared.kind.Kind.TheVariants.{Recipient};
 ghost use Rattle.ffi_query.specs.Results.{Answers, ReturnsNumber, ReturnsOr};
 ghost use Rattle.ffi_query.specs.Labels.{HasNoNumber, HasNoString, IsNumberOf, IsStringOf, IsValueOf};
 ghost use Rattle.ffi_query.specs.Parts.{HasNoCount, IsMember, IsPart, IsPositiveCount};
-ghost use Rattle.ffi_query.specs.Structures.{HasNoStructure, IsRecipientStructure, IsStructure};
+ghost use Rattle.ffi_query.specs.Structures.{HasNoStructure, IsRecipientStructure, IsStructureOnce};
 ghost use Rattle.coset.specs.LabelData.{number, text_label};
 ghost use Rattle.ffi_c.specs.Numbers.{bytes_if, content_query, kind_of, map_query, part_query};
 ghost use Rattle.ffi_c.specs.Replies.{IsMisuse, Replies, RepliesCheck, RepliesValue};
@@ -222,7 +222,7 @@ pub extern "C" fn coset_structure(
     ensures { let d = bytes_if has_detached detached.now in
         MatchOption (content_query kind has_detached detached.now)
         (IsMisuse result len.new 0 × (out.new ≡ out.old))
-        (λ k. Replies (ReturnsOr k input.now (IsStructure k index external_aad.now d)
+        (λ k. Replies (ReturnsOr k input.now (IsStructureOnce k index external_aad.now d)
         (HasNoStructure k index external_aad.now d) out.old out.new) result len.new) }
 {
     let query = within(content_query(kind, has_detached, detached), input, out);

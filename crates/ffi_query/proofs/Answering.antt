@@ -31,6 +31,14 @@ answered_or bytes_of k b old new P Q v (Ok (Some x)) (Err (Cose e)) none i f m w
 answered_or bytes_of k b old new P Q v (Ok None) r none i f m w = subst (ReturnsOr k b P Q old new) (sym w.0) (v, i, none f, w.1)
 answered_or bytes_of k b old new P Q v (Err e) r none i f m w = subst (ReturnsOr k b P Q old new) (sym w.0) (memory_refuses k b e m, w.1)
 
+-- The text that was found has property P, and a fact Once holds besides.
+pub found_once :
+    {T : Type 0} (bytes_of : T → List ℕ) (Once : Type 0) (P : List ℕ → Type 0) (found : Result (Option T) CoseError) → Once
+    → IfOk found (Finds bytes_of P) → IfOk found (Finds bytes_of (λ t. Once × P t))
+found_once bytes_of Once P (Ok (Some x)) once h = (once, h)
+found_once bytes_of Once P (Ok None) once h = λ t p. h t p.1
+found_once bytes_of Once P (Err e) once h = h
+
 -- A call that refuses only because there is no text.
 pub answered :
     {T : Type 0} (bytes_of : T → List ℕ) (k : kinds.Kind) (b old new : List ℕ) (P : Item → List ℕ → Type 0) (v : Item) (found : Result (Option T) CoseError)

@@ -26,10 +26,10 @@ use Rattle.ffi_query.specs.Critical.{IsCriticalIn, IsCriticalOf}
 use Rattle.ffi_query.specs.Labels.{IsProtected, IsUnderIn, unprotected_value, value_under}
 use Rattle.ffi_query.specs.Borrowed.{AreTexts, HasNoCritical, IsAttached, IsEmptyIn, IsSigned, KnowsAlgorithm, KnowsKeyId, Says, structure_by}
 use Rattle.ffi_query.specs.Located.{AreLocated, located_item}
-use Rattle.ffi_query.specs.Parts.{has_headers, place_of}
+use Rattle.ffi_query.specs.Parts.{content_part, has_headers, place_of}
 use Rattle.ffi_query.specs.Places.{bytes_in, element, string_in}
 use Rattle.ffi_query.specs.Structures.{IsStructure, content_at, content_in, content_structure, encryption_structure, structure_of_one, structure_of_two}
-use Rattle.ffi_query.specs.View.{HasAlgorithm, IsAlgorithm, IsContent, IsKeyId, alg_label, bearer, content_part, kind_of_bearer, proof_at, proof_in}
+use Rattle.ffi_query.specs.View.{HasAlgorithm, IsAlgorithm, IsContent, IsKeyId, alg_label, bearer, kind_of_bearer, proof_at, proof_in}
 
 none_is : {A : Type 0} {x : A} → None ≡ Some x → ⊥
 none_is p = some-none refl (sym p)

@@ -10,3 +10,4 @@ pub mod Naming
 pub mod Lending
 pub mod Spanning
 pub mod Placing
+pub mod Missing

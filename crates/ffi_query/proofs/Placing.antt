@@ -13,7 +13,7 @@ use Rattle.ffi_query.specs.declared.located.Located.{Located}
 use Rattle.ffi_query.specs.declared.refusal.Refusal as refusals
 use Rattle.ffi_query.specs.declared.refusal.Refusal.TheVariants.{WrongType}
 use Rattle.ffi_query.specs.Results.{Finds}
-use Rattle.ffi_query.specs.Elements.{HasNoValueAt, IsItemAt, IsProtectedInChunks}
+use Rattle.ffi_query.specs.Elements.{IsInChunks, IsItemAt, IsProtectedInChunks}
 use Rattle.ffi_query.specs.Labels.{IsProtected, IsUnder}
 use Rattle.ffi_query.specs.Located.{IsLocated, located_item}
 use Rattle.ffi_query.specs.Parts.{has_headers}
@@ -40,17 +40,17 @@ module _ (b : List ℕ) (k : kinds.Kind) where
       (l : LabelView) (v : Item) (r : Result (Option Located) refusals.Refusal) → has_headers k ≡ true
       → MatchResult r (λ o. Finds located_item (IsProtected l (bytes_in 0 v)) o × IfSome o (IsLocated b))
       (λ e. (e ≡ WrongType) × IsProtectedInChunks b v)
-      → MatchResult r (λ o. Finds located_item (IsUnder k of.Protected l v) o × IfSome o (IsLocated b)) (HasNoValueAt b k of.Protected l v)
+      → MatchResult r (λ o. Finds located_item (IsUnder k of.Protected l v) o × IfSome o (IsLocated b)) (IsInChunks b of.Protected v)
   in_protected l v (Ok (Some x)) has h = ((has, h.0), h.1)
   in_protected l v (Ok None) has h = (λ w u. h.0 w u.1, h.1)
-  in_protected l v (Err e) has h = subst (HasNoValueAt b k of.Protected l v) (sym h.0) (refl, h.1)
+  in_protected l v (Err e) has h = (h.0, refl, h.1)
 
   -- The value under a label, if the map that is searched is the protected header.
   pub under_protected :
       (m : maps.Map) (l : LabelView) (v : Item) (r : Result (Option Located) refusals.Refusal) → m ≡ of.Protected → has_headers k ≡ true
       → MatchResult r (λ o. Finds located_item (IsProtected l (bytes_in 0 v)) o × IfSome o (IsLocated b))
       (λ e. (e ≡ WrongType) × IsProtectedInChunks b v)
-      → MatchResult r (λ o. Finds located_item (IsUnder k m l v) o × IfSome o (IsLocated b)) (HasNoValueAt b k m l v)
+      → MatchResult r (λ o. Finds located_item (IsUnder k m l v) o × IfSome o (IsLocated b)) (IsInChunks b m v)
   under_protected m l v r is has h =
-      subst (λ x. MatchResult r (λ o. Finds located_item (IsUnder k x l v) o × IfSome o (IsLocated b)) (HasNoValueAt b k x l v)) (sym is)
+      subst (λ x. MatchResult r (λ o. Finds located_item (IsUnder k x l v) o × IfSome o (IsLocated b)) (IsInChunks b x v)) (sym is)
       (in_protected l v r has h)

@@ -1,6 +1,6 @@
 -- Texts that are given by their places.
 use Rattle.std.proofs.Common.{◌≡◌, ◌∙◌, ◌++◌, ◌-◌, ◌+◌, ℕ, ℤ, List, [], length}
-use Rattle.std.proofs.Common.{Option, Result, Ok, Err, true, ap, sym, subst, refl, arith}
+use Rattle.std.proofs.Common.{Option, Result, Ok, Err, true, false, ap, sym, subst, refl, arith}
 use Rattle.std.proofs.lemmas.List.{append-nil, append_assoc, length-append}
 use Rattle.std.specs.Prelude.{if◌then◌else◌}
 use Rattle.coset.specs.Item.{Item}
@@ -16,6 +16,7 @@ use Rattle.ffi_query.specs.Kinds.{TellsTagOf, tag_of}
 use Rattle.ffi_query.specs.Borrowed.{IsBorrowed, IsBorrowedOf, Says}
 use Rattle.ffi_query.specs.Located.{AreLocated}
 use Rattle.ffi_query.specs.Spans.{AreBorrowedSpans, IsAt, IsMessageSpans, IsStart, copied, copied_spans}
+use Rattle.ffi_query.specs.Structures.{is_given_twice}
 use Rattle.ffi_query.specs.View.{IsMessageView}
 use Rattle.ffi_query.proofs.EachKind.{memory_refuses}
 
@@ -41,15 +42,16 @@ module _
     -- Borrowed texts, by their places.
     lent_is :
         (v : Item) (x : declared.Borrowed) (m : MessageSpans) → IsBorrowed k i aad d ns b v x → TellsTagOf (tag_of k) b x.view.is_tagged
-        → AreBorrowedSpans b x m
+        → is_given_twice k d v ≡ false → AreBorrowedSpans b x m
         → IsMessageSpans k i aad d ns b v m (x.structure.front.items ++ x.structure.end.now)
-    lent_is v x m l tagged spans =
+    lent_is v x m l tagged once spans =
         let t = x.structure.front.items ++ x.structure.end.now in
         let says : Says k i aad d ns v m.view t x.proof.bytes.now x.content.bytes.now x.key_id.bytes.now =
         subst (λ n. Says k i aad d ns v n t x.proof.bytes.now x.content.bytes.now x.key_id.bytes.now) (sym spans.view) l.says in record {
           text = says.text;
           view = says.view;
           is_tagged = subst (λ n. TellsTagOf (tag_of k) b n.is_tagged) (sym spans.view) tagged;
+          is_once = once;
           structure = at_front t says.view.signed says.is_signed;
           proof = in_input b t x.proof.bytes.now says.view.proof m.proof spans.proof.0 says.is_proof (spans.proof.1 l.proof_in_b);
           content = in_input b t x.content.bytes.now says.view.content m.content spans.content.0 says.is_content (spans.content.1 l.content_in_b);
@@ -63,9 +65,9 @@ module _
         → ReturnsWith k b (IsMessageSpans k i aad d ns b) Q old new r
     lent_answered x m (Ok n) l spans w =
         let t = x.structure.front.items ++ x.structure.end.now in
-        (l.item, l.is_item, (t, subst (λ y. IsMessageSpans k i aad d ns b l.item y t) (sym w.0) (lent_is l.item x m l.lent l.is_tagged spans), w.1))
+        (l.item, l.is_item, (t, subst (λ y. IsMessageSpans k i aad d ns b l.item y t) (sym w.0) (lent_is l.item x m l.lent l.is_tagged l.is_once spans), w.1))
     lent_answered x m (Err (Short n)) l spans w =
-        (l.item, l.is_item, (m, (x.structure.front.items ++ x.structure.end.now, lent_is l.item x m l.lent l.is_tagged spans, w)))
+        (l.item, l.is_item, (m, (x.structure.front.items ++ x.structure.end.now, lent_is l.item x m l.lent l.is_tagged l.is_once spans, w)))
     lent_answered x m (Err (Cose e)) l spans w = (memory_refuses k b e w.0, w.1)
     lent_answered x m (Err Absent) l spans w = absurd w
     lent_answered x m (Err WrongType) l spans w = absurd w
@@ -90,6 +92,7 @@ module _
           text = t;
           view = view;
           is_tagged = h.1;
+          is_once = h.2;
           structure = record { before = []; behind = p ++ (c ++ u); parts = view.is_text; offset = refl };
           proof = record { before = s; behind = c ++ u; parts = view.is_text; offset = view.structure_len };
           content = record {

@@ -79,7 +79,7 @@ module _
         let says = l.lent.says in
         let texts = ap₂ (λ s t. s ++ t) says.is_signed
         (ap₂ (λ s t. s ++ t) says.is_proof (ap₂ (λ s t. s ++ t) says.is_content says.is_key_id)) in
-        (subst (IsViewOf k i aad d ns l.item x.view) (says.view.is_text ∙ texts) says.view, l.is_tagged)
+        (subst (IsViewOf k i aad d ns l.item x.view) (says.view.is_text ∙ texts) says.view, l.is_tagged, l.is_once)
 
     pub lent_viewed :
         (r : Result MessageView refusals.Refusal) → IsBorrowedOf k i aad d ns b x → PutsTexts x.view (borrowed_text x) old new r

@@ -1,5 +1,5 @@
 -- The parts borrowed from the input b to verify or decrypt a message.
-use Rattle.std.specs.Prelude.{◌≡◌, ◌⊎◌, ◌++◌, ℕ, ℤ, List, [], Option, Some, None, Bool, IfSome, codes, ⊤, if◌then◌else◌}
+use Rattle.std.specs.Prelude.{◌≡◌, ◌⊎◌, ◌++◌, ℕ, ℤ, List, [], Option, Some, None, Bool, false, IfSome, codes, ⊤, if◌then◌else◌}
 use Rattle.std.specs.Option.{option_copied}
 use Rattle.coset.specs.Results.{IsOnlyItem}
 use Rattle.coset.specs.Grammar.{IsItem}
@@ -25,7 +25,7 @@ use Rattle.ffi_query.specs.Kinds.{IsItemOf, TellsTagOf, tag_of}
 use Rattle.ffi_query.specs.Labels.{IsNumber, IsProtected, unprotected_value}
 use Rattle.ffi_query.specs.Located.{IsLocated, IsTextIn, located_item}
 use Rattle.ffi_query.specs.Places.{bytes_in, element}
-use Rattle.ffi_query.specs.Structures.{content_at, structure_of_one, structure_of_two}
+use Rattle.ffi_query.specs.Structures.{content_at, is_given_twice, structure_of_one, structure_of_two}
 use Rattle.ffi_query.specs.View.{IsViewOf, alg_label, kid_label, proof_in}
 
 -- `Some`: the bytes are exactly this item. `None`: they are no item.
@@ -130,12 +130,14 @@ pub record IsBorrowed (k : kinds.Kind) (i : ℕ) (aad : List ℕ) (d : Option (L
   pub content_in_b : IsTextIn b x.content
   pub key_id_in_b : IsTextIn b x.key_id
 
--- The bytes b are an item of kind k. x has the item's view, which says whether it is under the message's tag.
+-- The bytes b are an item of kind k. x has the item's view, which says whether it is under the message's tag. The content
+-- isn't given twice.
 pub record IsBorrowedOf (k : kinds.Kind) (i : ℕ) (aad : List ℕ) (d : Option (List ℕ)) (ns : List ℤ) (b : List ℕ) (x : declared.Borrowed) : Type 0 where
   pub item : Item
   pub is_item : IsItemOf k b item
   pub lent : IsBorrowed k i aad d ns b item x
   pub is_tagged : TellsTagOf (tag_of k) b x.view.is_tagged
+  pub is_once : is_given_twice k d item ≡ false
 
 -- The four texts, one after another.
 abbrev pub borrowed_text : declared.Borrowed → List ℕ

@@ -1,5 +1,6 @@
 -- The places in the input b of array elements, map pairs, values and string contents.
 use Rattle.std.specs.Prelude.{◌≡◌, ◌<◌, ℕ, ℤ, List, drop, length, Some, None, false, true, Result, Ok, Err}
+use Rattle.coset.specs.CoseError.TheVariants.{OutOfMemory}
 use Rattle.coset.specs.Results.{IsByteFault}
 use Rattle.coset.specs.Grammar.{IsItem}
 use Rattle.coset.specs.Item.{Item}
@@ -53,11 +54,23 @@ pub record IsProtectedInChunks (b : List ℕ) (v : Item) : Type 0 where
   pub place : (n : ℕ) × IsAt b n bytes
   pub in_chunks : opens_chunks false bytes ≡ true
 
--- The reason why the value has no place. `Absent`: there is no value. `WrongType`: it is looked up in a protected
--- header whose byte string is in chunks.
+-- The refusal of a search in the map m, which is a protected header whose byte string is in chunks.
+abbrev pub IsInChunks : List ℕ → maps.Map → Item → refusals.Refusal → Type 0
+IsInChunks b m v r = (r ≡ WrongType) × (m ≡ of.Protected) × IsProtectedInChunks b v
+
+-- The refusal of a value that has no place. `WrongType`: there is a value. `Absent`: there is none. `Cose`: the error is
+-- `OutOfMemory`.
+abbrev pub IsMissedIn : kinds.Kind → maps.Map → LabelView → Item → refusals.Refusal → Type 0
+IsMissedIn k m l v WrongType = (w : Item) × IsUnder k m l v w
+IsMissedIn k m l v Absent = (w : Item) → IsUnder k m l v w → ⊥
+IsMissedIn k m l v (Cose e) = e ≡ OutOfMemory
+IsMissedIn k m l v r = ⊥
+
+-- The reason why the value has no place. `Absent`: there is no value. `WrongType`: it is in a protected header whose byte
+-- string is in chunks.
 abbrev pub HasNoValueAt : List ℕ → kinds.Kind → maps.Map → LabelView → Item → refusals.Refusal → Type 0
 HasNoValueAt b k m l v Absent = (w : Item) → IsUnder k m l v w → ⊥
-HasNoValueAt b k m l v WrongType = (m ≡ of.Protected) × IsProtectedInChunks b v
+HasNoValueAt b k m l v WrongType = ((m ≡ of.Protected) × IsProtectedInChunks b v) × ((w : Item) × IsUnder k m l v w)
 HasNoValueAt b k m l v r = ⊥
 
 -- p is the place of the content of the string v.

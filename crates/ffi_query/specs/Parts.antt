@@ -51,6 +51,12 @@ place_of Payload k = payload_place k
 place_of Ciphertext k = ciphertext_place k
 place_of Proof k = proof_place k
 
+-- The part that is the content of a message.
+abbrev pub content_part : kinds.Kind → parts.Part
+content_part (Encrypt0 f) = Ciphertext
+content_part (Encrypt f) = Ciphertext
+content_part k = Payload
+
 -- t is the content of this part of the item v, of kind k.
 abbrev pub IsPart : kinds.Kind → parts.Part → Item → List ℕ → Type 0
 IsPart k p v t = option_and_then (λ n. bytes_in n v) (place_of p k) ≡ Some t

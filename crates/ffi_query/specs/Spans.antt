@@ -9,6 +9,7 @@ use Rattle.ffi_query.specs.declared.spans.Start.{Start}
 use Rattle.ffi_query.specs.declared.view.MessageView.{MessageView}
 use Rattle.ffi_query.specs.Kinds.{TellsTagOf, tag_of}
 use Rattle.ffi_query.specs.Located.{IsTextIn}
+use Rattle.ffi_query.specs.Structures.{is_given_twice}
 use Rattle.ffi_query.specs.View.{IsViewOf}
 
 -- b has the bytes s at the offset `at`.
@@ -23,12 +24,14 @@ abbrev pub IsStart : List ℕ → List ℕ → Start → List ℕ → Type 0
 IsStart b t p s = IsAt (if p.is_input then b else t) p.at s
 
 -- The result of `message_spans` for the bytes b, which are the message v of kind k. The view is that of `message_view`.
--- t begins with what is signed, authenticated, or goes with the ciphertext. The other texts are at the places in m.
+-- t begins with what is signed, authenticated, or goes with the ciphertext. The other texts are at the places in m. The
+-- content isn't given twice.
 pub record IsMessageSpans (k : kinds.Kind) (i : ℕ) (aad : List ℕ) (d : Option (List ℕ)) (ns : List ℤ) (b : List ℕ) (v : Item) (m : MessageSpans)
     (t : List ℕ) : Type 0 where
   pub text : List ℕ
   pub view : IsViewOf k i aad d ns v m.view text
   pub is_tagged : TellsTagOf (tag_of k) b m.view.is_tagged
+  pub is_once : is_given_twice k d v ≡ false
   pub structure : IsAt t 0 view.signed
   pub proof : IsStart b t m.proof view.proof
   pub content : IsStart b t m.content view.content

@@ -9,7 +9,7 @@ use Rattle.ffi_query.specs.declared.kind.Kind.TheVariants.{Sign1, Sign, Mac0, Ma
 use Rattle.ffi_query.specs.declared.refusal.Refusal as refusals
 use Rattle.ffi_query.specs.declared.refusal.Refusal.TheVariants.{Absent, Misuse}
 use Rattle.ffi_query.specs.Results.{IsEncodingOf}
-use Rattle.ffi_query.specs.Parts.{payload_place}
+use Rattle.ffi_query.specs.Parts.{content_part, place_of}
 use Rattle.ffi_query.specs.Places.{bytes_in, element, member_at}
 
 -- The content given as detached, if the payload's place is nil.
@@ -85,11 +85,15 @@ abbrev pub is_given_at : Option ℕ → Option (List ℕ) → Item → Bool
 is_given_at o None v = false
 is_given_at o (Some d) v = is_attached o v
 
--- A payload is given as detached, and the item v carries one too.
+-- A payload or ciphertext is given as detached, and the item v carries one too.
 abbrev pub is_given_twice : kinds.Kind → Option (List ℕ) → Item → Bool
-is_given_twice k d v = is_given_at (payload_place k) d v
+is_given_twice k d v = is_given_at (place_of (content_part k) k) d v
 
--- The reason why the item v has no structure. `Misuse`: a payload is given, and the item carries another. `Absent`: no
+-- t is the structure of the item v, and the content isn't given twice.
+abbrev pub IsStructureOnce : kinds.Kind → ℕ → List ℕ → Option (List ℕ) → Item → List ℕ → Type 0
+IsStructureOnce k i aad d v t = (is_given_twice k d v ≡ false) × IsStructure k i aad d v t
+
+-- The reason why the item v has no structure. `Misuse`: a content is given, and the item carries another. `Absent`: no
 -- such structure exists.
 abbrev pub HasNoStructure : kinds.Kind → ℕ → List ℕ → Option (List ℕ) → Item → refusals.Refusal → Type 0
 HasNoStructure k i aad d v Misuse = is_given_twice k d v ≡ true

@@ -3,11 +3,10 @@ use Rattle.std.specs.Prelude.{◌≡◌, ◌⊎◌, ℕ, ℤ, pos, List, [], ◌
 use Rattle.coset.specs.Item.{Item}
 use Rattle.coset.specs.LabelData.{LabelView, number}
 use Rattle.ffi_query.specs.declared.kind.Kind as kinds
-use Rattle.ffi_query.specs.declared.kind.Kind.TheVariants.{Sign, Encrypt0, Encrypt, Signature}
+use Rattle.ffi_query.specs.declared.kind.Kind.TheVariants.{Sign, Signature}
 use Rattle.ffi_query.specs.declared.label.Map as maps
 use Rattle.ffi_query.specs.declared.label.Map.TheVariants as of
-use Rattle.ffi_query.specs.declared.part.Part as parts
-use Rattle.ffi_query.specs.declared.part.Part.TheVariants.{Payload, Ciphertext, Proof}
+use Rattle.ffi_query.specs.declared.part.Part.TheVariants.{Proof}
 use Rattle.ffi_query.specs.declared.refusal.Refusal as refusals
 use Rattle.ffi_query.specs.declared.refusal.Refusal.TheVariants.{Absent, Misuse}
 use Rattle.ffi_query.specs.declared.view.Algorithm as algorithms
@@ -18,7 +17,7 @@ use Rattle.ffi_query.specs.declared.view.MessageView.{MessageView}
 use Rattle.ffi_query.specs.Critical.{IsCriticalOf}
 use Rattle.ffi_query.specs.Kinds.{TellsTagOf, tag_of}
 use Rattle.ffi_query.specs.Labels.{IsNumber, IsNumberOf, IsStringOf, IsUnder}
-use Rattle.ffi_query.specs.Parts.{IsPart, place_of}
+use Rattle.ffi_query.specs.Parts.{IsPart, content_part, place_of}
 use Rattle.ffi_query.specs.Places.{bytes_in, member_at}
 use Rattle.ffi_query.specs.Structures.{IsStructure, is_given_twice}
 
@@ -69,12 +68,6 @@ proof_at (Some n) v = bytes_in n v
 abbrev pub proof_in : kinds.Kind → Item → Option (List ℕ)
 proof_in k v = proof_at (place_of Proof k) v
 
--- The part that is the message's content.
-abbrev pub content_part : kinds.Kind → parts.Part
-content_part (Encrypt0 f) = Ciphertext
-content_part (Encrypt f) = Ciphertext
-content_part k = Payload
-
 -- t is the content that the item v carries, or empty if it carries none.
 abbrev pub IsContent : kinds.Kind → Item → List ℕ → Type 0
 IsContent k v t = IsPart k (content_part k) v t ⊎ (((s : List ℕ) → IsPart k (content_part k) v s → ⊥) × (t ≡ []))
@@ -108,12 +101,12 @@ pub record IsViewOf (k : kinds.Kind) (i : ℕ) (aad : List ℕ) (d : Option (Lis
   pub len : n.len ≡ length t
 
 -- The result of `message_view` for the bytes b, which are the message v of kind k. It is the view, which says whether
--- the bytes are under the message's tag (section 2, table 1), and the texts.
+-- the bytes are under the message's tag (section 2, table 1), and the texts. The content isn't given twice.
 abbrev pub IsMessageView :
     kinds.Kind → ℕ → List ℕ → Option (List ℕ) → List ℤ → List ℕ → Item → MessageView → List ℕ → Type 0
-IsMessageView k i aad d ns b v n t = IsViewOf k i aad d ns v n t × TellsTagOf (tag_of k) b n.is_tagged
+IsMessageView k i aad d ns b v n t = IsViewOf k i aad d ns v n t × TellsTagOf (tag_of k) b n.is_tagged × (is_given_twice k d v ≡ false)
 
--- The reason why there is no view. `Misuse`: a payload is given, and the message carries another. `Absent`: the message
+-- The reason why there is no view. `Misuse`: a content is given, and the message carries another. `Absent`: the message
 -- has no structure, no such signer, or no signature or tag.
 abbrev pub HasNoView : kinds.Kind → ℕ → List ℕ → Option (List ℕ) → List ℤ → Item → refusals.Refusal → Type 0
 HasNoView k i aad d ns v Misuse = is_given_twice k d v ≡ true

@@ -25,6 +25,7 @@ use crate::kind::Kind;
 use crate::located::{Elements, Located, Text, bytes_located, next_located};
 use crate::named::{Named, named_in, nothing_named};
 use crate::part::Part;
+use crate::structure::is_given_twice;
 use crate::view::{Algorithm, KeyIdPlace, MessageView};
 use coset::Result;
 use coset::cbor::de::Pull;
@@ -462,6 +463,9 @@ pub(crate) fn find_borrowed<'a>(
         (option_copied detached.entry) ns b)) }
     ensures memory { IfErr result (λ e. e ≡ OutOfMemory) }
 {
+    if is_given_twice(kind, detached, found.item.item) {
+        return Ok(None);
+    }
     let Some(texts) = texts_of(kind, found, detached) else {
         return Ok(None);
     };

@@ -3,11 +3,12 @@
 
 ghost use Rattle.std.specs.Prelude.{◌≡◌, List, ℕ, IfSome, MatchResult, length, option_map};
 ghost use Rattle.coset.specs.LabelData.{number};
+ghost use Rattle.coset.specs.Pulls.{pull_item};
 ghost use Rattle.ffi_query.specs.Results.{ReturnsNumber, Finds};
 ghost use Rattle.ffi_query.specs.declared.kind.Kind.TheVariants.{Any};
 ghost use Rattle.ffi_query.specs.declared.refusal.Refusal.TheVariants.{WrongType};
-ghost use Rattle.ffi_query.specs.Elements.{ReturnsItem, ArePairAt, HasNoContent, HasNoInteger, HasNoMember, HasNoPair, HasNoValueAt, IsItemAt, IsMemberAt, IsProtectedInChunks, IsStringAt, IsValueAt};
-ghost use Rattle.ffi_query.specs.Labels.{IsNumber, IsProtected, IsUnder, unprotected_value};
+ghost use Rattle.ffi_query.specs.Elements.{ReturnsItem, ArePairAt, HasNoContent, HasNoInteger, HasNoMember, HasNoPair, HasNoValueAt, IsInChunks, IsItemAt, IsMemberAt, IsMissedIn, IsProtectedInChunks, IsStringAt, IsValueAt};
+ghost use Rattle.ffi_query.specs.Labels.{IsNumber, IsProtected, IsUnder, label_view, unprotected_value};
 ghost use Rattle.ffi_query.specs.Located.{IsLocated, IsTextIn, located_item};
 ghost use Rattle.ffi_query.specs.Places.{bytes_in};
 ghost use Rattle.ffi_query.specs.Spans.{IsAt};
@@ -16,7 +17,7 @@ use crate::borrowed::{map_located, number_of};
 use crate::found::whole_of;
 use crate::item::{item_located, item_of};
 use crate::kind::Kind;
-use crate::label::Map;
+use crate::label::{Label, Map, find_value};
 use crate::located::{
     Located, Text, after, bytes_located, element_located, member_located, opens_chunks,
     pair_located, string_located, value_located,
@@ -125,7 +126,7 @@ fn label_located(
     ensures { (b : List ℕ) → IsLocated b item.entry → MatchResult result
         (λ o. Finds located_item (IsUnder kind map (number label) (located_item item.entry)) o
         × IfSome o (IsLocated b))
-        (λ r. HasNoValueAt b kind map (number label) (located_item item.entry) r) }
+        (IsInChunks b map (located_item item.entry)) }
 {
     match map {
         Map::Item => Ok(value_located(item, label)),
@@ -146,13 +147,32 @@ fn label_located(
     }
 }
 
+/// Returns the reason why a value has no place in a protected header whose byte string is in chunks.
+/// It is `WrongType` if the header has the label, `Absent` if not, or `Cose` with `OutOfMemory` if
+/// an allocation fails.
+fn refused_in_chunks(
+    alloc: Global,
+    kind: Kind,
+    item: Pull<'_>,
+    map: Map,
+    label: Label<'_>,
+) -> Refusal
+    ensures { IsMissedIn kind map (label_view label.entry) (pull_item item.entry) result }
+{
+    match find_value(alloc, kind, item, map, label) {
+        Ok(Some(_)) => Refusal::WrongType,
+        Ok(None) => Refusal::Absent,
+        Err(error) => Refusal::Cose(error),
+    }
+}
+
 /// Returns the place of the value under an integer label, as received. `map` says which map of the
 /// item is searched.
 ///
 /// # Errors
 /// - `Absent` if the item has no such map, or the map has no such label.
-/// - `WrongType` if the map is a protected header whose byte string has indefinite length, so that
-///   it is in chunks.
+/// - `WrongType` if the label is in a protected header whose byte string has indefinite length, so
+///   that it is in chunks.
 /// - `Cose` with an error of [`check`](crate::check).
 pub fn value_span(
     alloc: Global,
@@ -171,7 +191,7 @@ pub fn value_span(
     match label_located(kind, item, map, label) {
         Ok(Some(value)) => Ok(span_of(value, bytes)),
         Ok(None) => Err(Refusal::Absent),
-        Err(refusal) => Err(refusal),
+        Err(_) => Err(refused_in_chunks(alloc, kind, item.item, map, Label::Number(label))),
     }
 }
 

@@ -74,7 +74,7 @@ fn put_view(lent: &Borrowed<'_>, out: &mut [u8]) -> Result<MessageView, Refusal>
 ///
 /// If `detached` is `None`, the payload that is signed or authenticated is the one that the message
 /// carries. Else the payload is `detached`, the message must carry `nil`, and the third text is
-/// empty. Encrypted messages ignore `detached`.
+/// empty. The same holds for the ciphertext of an encrypted message. But that may also be absent.
 ///
 /// The message only names its key and its algorithm. Use a key that you trust, and an algorithm
 /// that you allow for it. `known` are the critical labels that you understand. Refuse a message
@@ -82,7 +82,7 @@ fn put_view(lent: &Borrowed<'_>, out: &mut [u8]) -> Result<MessageView, Refusal>
 ///
 /// # Errors
 /// - `Short` with the total length of the four texts, if `out` is too small.
-/// - `Misuse` if the message carries a payload and `detached` gives another.
+/// - `Misuse` if the message carries a payload or ciphertext and `detached` gives another.
 /// - `Absent` if items of the kind have no structure, or if a [`Kind::Sign`] has no signer at
 ///   `index`.
 /// - `Absent` if the message carries no payload and `detached` is `None`.

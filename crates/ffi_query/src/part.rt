@@ -6,7 +6,7 @@ ghost use Rattle.coset.specs.Item.{items_count};
 ghost use Rattle.coset.specs.Elements.{items_left};
 ghost use Rattle.coset.specs.Pulls.{pull_item};
 ghost use Rattle.ffi_query.specs.Results.{Answers, ReturnsNumber, Finds};
-ghost use Rattle.ffi_query.specs.Parts.{HasNoCount, IsMember, IsPart, IsPositiveCount, has_headers, place_of};
+ghost use Rattle.ffi_query.specs.Parts.{HasNoCount, IsMember, IsPart, IsPositiveCount, content_part, has_headers, place_of};
 
 use crate::item::{bytes_in, encoding, item_of, member_at};
 use crate::kind::Kind;
@@ -62,6 +62,16 @@ impl Kind {
                 _ => None,
             },
         }
+    }
+}
+
+/// Returns the part that is the content of a message of this kind.
+pub(crate) fn content_part(kind: Kind) -> Part
+    ensures { result ≡ content_part kind }
+{
+    match kind {
+        Kind::Encrypt0(_) | Kind::Encrypt(_) => Part::Ciphertext,
+        _ => Part::Payload,
     }
 }
 

@@ -10,11 +10,11 @@ ghost use Rattle.coset.specs.Shortest.{IsShortest};
 ghost use Rattle.coset.specs.Structure.{structure};
 ghost use Rattle.ffi_query.specs.Results.{Answers, ReturnsOr, Finds, IsEncodingOf};
 ghost use Rattle.ffi_query.specs.Places.{element};
-ghost use Rattle.ffi_query.specs.Structures.{HasNoStructure, IsRecipientStructure, IsStructure, content_at, content_in, content_structure, encryption_structure, is_attached, is_filled, is_given_at, is_given_twice, signer_in, signer_structure, structure_of_one, structure_of_three, structure_of_two};
+ghost use Rattle.ffi_query.specs.Structures.{HasNoStructure, IsRecipientStructure, IsStructure, IsStructureOnce, content_at, content_in, content_structure, encryption_structure, is_attached, is_filled, is_given_at, is_given_twice, signer_in, signer_structure, structure_of_one, structure_of_three, structure_of_two};
 
 use crate::item::{bytes_in, element, item_of, member_at};
 use crate::kind::Kind;
-use crate::part::Part;
+use crate::part::content_part;
 use crate::refusal::Refusal;
 use crate::written::write_found;
 use coset::Result;
@@ -333,12 +333,12 @@ pub(crate) fn is_given_at(place: Option<usize>, detached: Option<&[u8]>, item: P
     }
 }
 
-/// Returns true if `detached` is given, and the item carries a payload too.
+/// Returns true if `detached` is given, and the item carries a payload or ciphertext too.
 pub(crate) fn is_given_twice(kind: Kind, detached: Option<&[u8]>, item: Pull<'_>) -> bool
     ensures { result
         ≡ is_given_twice kind (option_copied detached.entry) (pull_item item.entry) }
 {
-    is_given_at(kind.place_of(Part::Payload), detached, item)
+    is_given_at(kind.place_of(content_part(kind)), detached, item)
 }
 
 /// Writes the structure of a message to the front of `out`, and returns its length.
@@ -352,11 +352,11 @@ pub(crate) fn is_given_twice(kind: Kind, detached: Option<&[u8]>, item: Pull<'_>
 ///
 /// If `detached` is `None`, the payload that is signed or authenticated is the one that the message
 /// carries. Else the payload is `detached`, and the message must carry `nil`. An `Enc_structure`
-/// has no payload, so encrypted messages ignore `detached`.
+/// has no payload. But the message must carry no ciphertext either if `detached` is given.
 ///
 /// # Errors
 /// - `Short` with the length needed, if `out` is too small.
-/// - `Misuse` if the message carries a payload and `detached` gives another.
+/// - `Misuse` if the message carries a payload or ciphertext and `detached` gives another.
 /// - `Absent` if items of the kind have no structure, or if a [`Kind::Sign`] has no signer at
 ///   `index`.
 /// - `Absent` if the message carries no payload and `detached` is `None`.
@@ -373,7 +373,7 @@ pub fn structure_of(
     out: &mut [u8],
 ) -> Result<usize, Refusal>
     ensures { let d = option_copied detached.entry in
-        ReturnsOr kind bytes.now (IsStructure kind index external_aad.now d)
+        ReturnsOr kind bytes.now (IsStructureOnce kind index external_aad.now d)
         (HasNoStructure kind index external_aad.now d) out.old out.new result }
 {
     let item = match item_of(alloc, kind, bytes) {

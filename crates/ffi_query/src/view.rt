@@ -7,14 +7,14 @@ ghost use Rattle.coset.specs.Pulls.{pull_item};
 ghost use Rattle.coset.specs.View.{value_item};
 ghost use Rattle.ffi_query.specs.Results.{ReturnsWith, FindsWith, PutsWith};
 ghost use Rattle.ffi_query.specs.Found.{IsFound};
-ghost use Rattle.ffi_query.specs.View.{HasAlgorithm, HasNoView, IsAlgorithm, IsContent, IsKeyId, IsMessageView, IsViewOf, bearer, content_part, kind_of_bearer, proof_in};
+ghost use Rattle.ffi_query.specs.View.{HasAlgorithm, HasNoView, IsAlgorithm, IsContent, IsKeyId, IsMessageView, IsViewOf, bearer, kind_of_bearer, proof_in};
 
 use crate::critical::critical_of;
 use crate::found::Found;
 use crate::item::{bytes_in, member_at};
 use crate::kind::Kind;
 use crate::label::{Label, Map, find_string, find_value, number_in};
-use crate::part::{Part, find_part};
+use crate::part::{Part, content_part, find_part};
 use crate::refusal::Refusal;
 use crate::structure::{find_structure, is_given_twice};
 use crate::written::put;
@@ -174,16 +174,6 @@ fn find_proof(alloc: Global, kind: Kind, item: Pull<'_>) -> Result<Option<Vec<u8
     match kind.place_of(Part::Proof) {
         Some(place) => bytes_in(alloc, item, place),
         None => Ok(Some(Vec::new(alloc))),
-    }
-}
-
-/// Returns the part that is the content of a message of this kind.
-fn content_part(kind: Kind) -> Part
-    ensures { result ≡ content_part kind }
-{
-    match kind {
-        Kind::Encrypt0(_) | Kind::Encrypt(_) => Part::Ciphertext,
-        _ => Part::Payload,
     }
 }
 

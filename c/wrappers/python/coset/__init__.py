@@ -117,7 +117,7 @@ class WrongType(TypeError):
 
 class Misuse(TypeError):
     """A number names no kind, part, map, order or countersignature, or a kind that the call doesn't take. Or a payload
-    is given as detached although the message carries one."""
+    or ciphertext is given as detached although the message carries one."""
 
 
 class Refused(Exception):
@@ -780,14 +780,10 @@ def decrypt(kind, data, algorithms, decrypt, critical=(), external_aad=b"", deta
     if _kind(kind) & 0xFF != ENCRYPT0:
         raise Misuse("a kind of another call")
     data, own = _bytes(data)[0], None if detached is None else _bytes(detached)[0]
-    found = message(kind, data, 0, critical, external_aad)
-    carried = _found(part, kind, data, CIPHERTEXT)
-    if carried is not None and own is not None:
-        raise Misuse("a ciphertext that the message carries and that is given too")
-    if carried is None and own is None:
-        raise Absent("the ciphertext is detached")
+    found = message(kind, data, 0, critical, external_aad, own)
+    ciphertext = part(kind, data, CIPHERTEXT) if own is None else own
     (iv, iv_map), (partial_iv, partial_iv_map) = _in_either(kind, data, 5), _in_either(kind, data, 6)
-    question = _asked(found, algorithms, own if carried is None else carried)
+    question = _asked(found, algorithms, ciphertext)
     plain = decrypt(question._replace(iv=iv, partial_iv=partial_iv, iv_map=iv_map, partial_iv_map=partial_iv_map))
     if plain is None:
         raise Refused("the ciphertext is refused")

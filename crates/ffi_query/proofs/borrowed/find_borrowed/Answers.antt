@@ -29,4 +29,5 @@ returns-clause-lent c =
         key_id_in_b = texts.key_id_in_b;
       };
       is_tagged = f.is_tagged;
+      is_once = sym c.is_given_twice.ensures ∙ c.if-is_given_twice.false;
     }

@@ -23,7 +23,7 @@ returns-in-Ok-Some c =
     let says = rw c.in-Ok-Some.field-0-is at c.in-Ok-Some.ensures.copies in
     let tag = rw c.in-Ok-Some.field-0-is at c.in-Ok-Some.ensures.tag in
     viewed k b c.args.out.now c.put_copies.new.out (IsMessageView k i aad d ns b) (HasNoView k i aad d ns) v t.view t.text.items c.put_copies.result
-    f.is_item (says, subst (TellsTagOf (tag_of k) b) (sym tag) f.is_tagged) c.put_copies.ensures
+    f.is_item (says, subst (TellsTagOf (tag_of k) b) (sym tag) f.is_tagged, sym c.is_given_twice.ensures ∙ c.if-is_given_twice.false) c.put_copies.ensures
 
 pub returns-in-Ok-None : goal.returns-in-Ok-None
 returns-in-Ok-None c =
