@@ -6,7 +6,7 @@
  *
  * Each call is repeated: with just enough room, with one byte less, with each allocation refused in turn, and with each length
  * above PTRDIFF_MAX in turn. The same seed makes the same calls. A fault is printed with the call's arguments, and the status
- * is 1.
+ * is 1. The last line has a digest of all results, which is the same for each target (tools/capi/targets.py).
  *
  * With FUZZ defined, libFuzzer calls this program (tools/fuzz): the first 24 bytes choose the call and its numbers. */
 #define _GNU_SOURCE
@@ -17,8 +17,27 @@
 #include <stdio.h>
 #include <stdlib.h>
 #include <string.h>
-#include <sys/mman.h>
 #include <unistd.h>
+#ifndef _WIN32
+#include <sys/mman.h>
+#else
+#include <windows.h>
+
+/* What this program needs of POSIX. A signal ends the program without a report. */
+enum { PROT_NONE, PROT_READ, PROT_WRITE, MAP_PRIVATE, MAP_ANONYMOUS };
+#define MAP_FAILED NULL
+#define flockfile(file) (void)(file)
+
+static void *mmap(void *at, size_t n, int protection, int flags, int file, int offset) {
+  (void)protection, (void)flags, (void)file, (void)offset;
+  return VirtualAlloc(at, n, MEM_RESERVE | MEM_COMMIT, PAGE_NOACCESS);
+}
+
+static int mprotect(void *at, size_t n, int protection) {
+  DWORD was;
+  return (void)protection, !VirtualProtect(at, n, PAGE_READWRITE, &was);
+}
+#endif
 
 enum { WORDS = 26, ROOM = 1 << 18, PAGE = 4096, CANARY = 64, THREADS = 8, CHOICES = 24, LARGEST = 1 << 14 };
 
@@ -56,7 +75,7 @@ static uint64_t seed;
 static _Thread_local struct place places[WORDS];
 static _Thread_local union word words[WORDS];
 static _Thread_local const struct function *now;
-static _Thread_local uint64_t state, calls, refused, accepted, lengths;
+static _Thread_local uint64_t state, calls, refused, accepted, lengths, digest;
 static _Thread_local struct {
   uint64_t count;
   const struct row *rows[64];
@@ -374,6 +393,16 @@ static void look(int32_t status, size_t len) {
   if (live) fail("a block isn't freed");
 }
 
+/* Adds the results of a call to the digest. */
+static void digest_results(int32_t status, size_t len) {
+  for (int i = 0; now->classes[i]; i++) {
+    const struct place *p = &places[i];
+    size_t n = strchr("lav", now->classes[i]) ? p->n : now->classes[i] == 'o' && is_answer(status) ? len : 0;
+    for (size_t k = 0; k < n; k++) digest = (digest ^ p->at[k]) * 0x100000001b3;
+  }
+  digest = (digest ^ (uint64_t)status) * 0x100000001b3;
+}
+
 /* Makes the call with room for `cap` bytes of a result, and checks all places. Sets `*len` to the length that it returns. */
 static int32_t made(size_t cap, size_t *len) {
   struct place *out = of('o'), *length = of('l');
@@ -393,6 +422,7 @@ static int32_t made(size_t cap, size_t *len) {
   *len = 0;
   if (length) memcpy(len, length->at, sizeof *len);
   look(status, *len);
+  digest_results(status, *len);
   return status;
 }
 
@@ -451,7 +481,27 @@ int LLVMFuzzerTestOneInput(const uint8_t *data, size_t size) {
 
 #else
 
+#ifdef _WIN32
+
+static void catch_signals(void) {}
+static void catch_on_other_stack(void) {}
+
+#else
+
 static void caught(int signal) { fail(signal == SIGSEGV || signal == SIGBUS ? "touches other memory" : "ends by a signal"); }
+
+static void catch_signals(void) {
+  struct sigaction action = {.sa_handler = caught, .sa_flags = SA_ONSTACK};
+  for (int i = 0; i < 5; i++) sigaction((int[]){SIGSEGV, SIGBUS, SIGILL, SIGTRAP, SIGABRT}[i], &action, NULL);
+}
+
+/* Each thread calls this, since a signal may mean that its own stack is full. */
+static void catch_on_other_stack(void) {
+  stack_t other = {.ss_sp = malloc(1 << 16), .ss_size = 1 << 16};
+  sigaltstack(&other, NULL);
+}
+
+#endif
 
 static void read_rows(const char *path) {
   static char line[1 << 17];
@@ -471,25 +521,24 @@ static void read_rows(const char *path) {
 
 struct share {
   pthread_t thread;
-  uint64_t number, wanted, calls, refused, accepted, lengths;
+  uint64_t number, wanted, calls, refused, accepted, lengths, digest;
 };
 
 static void *work(void *of_thread) {
   struct share *share = of_thread;
-  stack_t other = {.ss_sp = malloc(1 << 16), .ss_size = 1 << 16};
-  sigaltstack(&other, NULL);
+  catch_on_other_stack();
   make_places();
   state = (seed + share->number) * 0x9e3779b97f4a7c15 + 1;
   while (calls < share->wanted) choose(NULL, 0), attack();
   share->calls = calls, share->refused = refused, share->accepted = accepted, share->lengths = lengths;
+  share->digest = digest;
   return NULL;
 }
 
 int main(int count, char **word) {
   if (count != 4) return 2;
   struct share shares[THREADS] = {0}, sum = {0};
-  struct sigaction action = {.sa_handler = caught, .sa_flags = SA_ONSTACK};
-  for (int i = 0; i < 5; i++) sigaction((int[]){SIGSEGV, SIGBUS, SIGILL, SIGTRAP, SIGABRT}[i], &action, NULL);
+  catch_signals();
   read_rows(word[1]);
   seed = strtoull(word[2], NULL, 10);
   for (uint64_t i = 0; i < THREADS; i++) {
@@ -499,10 +548,11 @@ int main(int count, char **word) {
   for (int i = 0; i < THREADS; i++) {
     pthread_join(shares[i].thread, NULL);
     sum.calls += shares[i].calls, sum.refused += shares[i].refused, sum.accepted += shares[i].accepted, sum.lengths += shares[i].lengths;
+    sum.digest ^= shares[i].digest;
   }
   printf("attacked by %" PRIu64 " calls of %zu functions in %d threads (seed %" PRIu64 "): answers %" PRIu64 ", memory refused %" PRIu64
-         ", lengths refused %" PRIu64 "\n",
-         sum.calls, sizeof functions / sizeof *functions, THREADS, seed, sum.accepted, sum.refused, sum.lengths);
+         ", lengths refused %" PRIu64 ", digest %016" PRIx64 "\n",
+         sum.calls, sizeof functions / sizeof *functions, THREADS, seed, sum.accepted, sum.refused, sum.lengths, sum.digest);
   return 0;
 }
 

@@ -120,12 +120,14 @@ def prepared(folder):
     return left
 
 
-def attack(folder, objects, calls):
-    """Attacks the library of these object files with about `calls` calls. Returns whether no fault was found, and a report."""
+def attack(folder, objects, calls, compiler="cc", runner=()):
+    """Attacks the library of these object files with about `calls` calls. Returns whether no fault was found, and a report.
+
+    The compiler is that of the object files, and the runner is the command that runs their programs."""
     left = prepared(folder)
-    flags = ["-std=c11", "-O2", "-Wall", "-Wextra", "-Werror", f"-I{HERE}/c/include", f"-I{folder}"]
-    run(["cc", *flags, "-o", "attack", f"{HERE}/tools/attack.c", *objects, "-lpthread"], cwd=folder)
-    command = [f"{folder}/attack", f"{folder}/rows", str(SEED), str(calls)]
+    flags = ["-std=c11", "-O2", "-Wall", "-Wextra", "-Werror", "-D__USE_MINGW_ANSI_STDIO", f"-I{HERE}/c/include", f"-I{folder}"]
+    run([compiler, *flags, *(["-static"] if runner else []), "-o", "attack.exe", f"{HERE}/tools/attack.c", *objects, "-lpthread"], cwd=folder)
+    command = [*runner, f"{folder}/attack.exe", f"{folder}/rows", str(SEED), str(calls)]
     ran = subprocess.run(command, capture_output=True, text=True, check=False)
     told = ran.stdout.strip() or f"the attack says nothing: {ran.stderr.strip()[-500:]}"
     more = [f"not attacked: {', '.join(left)}"] if left else []

@@ -35,8 +35,8 @@ def run(command, **more):
 # ---- the static library
 
 
-def built_over(folder):
-    """Proves and builds the static library over the libraries of this checkout, and returns its path."""
+def over(to):
+    """Returns the command that proves the static library over the libraries of this checkout, and builds it as `to`."""
     kit = os.path.dirname(run(["rt", "doc"]).strip())
     every, own = common.below("ffi_c")[:-1], common.named()["ffi_c"]
     rlib = lambda name: os.path.join(HERE, "crates", name, "out", "rlib")
@@ -44,9 +44,13 @@ def built_over(folder):
              "--links", "ffi_c=", "--extern", f"std={kit}/rlibs/std.rlib", "-L", f"dependency={kit}/rlibs"]
     words += [word for name in own for word in ("--extern", f"{name}={rlib(name)}/{name}.rlib")]
     words += [word for name in every for word in ("-L", f"dependency={rlib(name)}")]
-    words += ["--antt-project", f"{kit}/rattle/logic/antt-project.json", "--logic-built", f"{kit}/logic_built",
-              "--toolchain", f"{kit}/toolchain", "--backend", "llvm", "-o", f"{folder}/libcoset_c.a"]
-    run(words, cwd=os.path.join(HERE, "crates", "ffi_c"))
+    return words + ["--antt-project", f"{kit}/rattle/logic/antt-project.json", "--logic-built", f"{kit}/logic_built",
+              "--toolchain", f"{kit}/toolchain", "--backend", "llvm", "-o", to]
+
+
+def built_over(folder):
+    """Proves and builds the static library over the libraries of this checkout, and returns its path."""
+    run(over(f"{folder}/libcoset_c.a"), cwd=os.path.join(HERE, "crates", "ffi_c"))
     return f"{folder}/libcoset_c.a"
 
 
@@ -55,6 +59,29 @@ def archive(is_quick):
     if is_quick:
         return common.unproved("ffi_c", "libcoset_c_unproved.a", unproved)
     return common.proved("ffi_c", os.path.join(HERE, "crates", "ffi_c", "out", "libcoset_c.a"), ["rt", "lib"])
+
+
+def module(is_quick):
+    """Returns the path of the library's LLVM IR, which is built with the library if a source is newer."""
+    if is_quick:
+        text = f"{common.QUICK}/ffi_c.ll"
+        if not os.path.exists(text) and os.path.exists(f"{common.QUICK}/libcoset_c_unproved.a"):
+            # Both files are made together.
+            os.remove(f"{common.QUICK}/libcoset_c_unproved.a")
+        archive(True)
+        return text
+    crate = os.path.join(HERE, "crates", "ffi_c")
+    if not common.is_fresh(f"{crate}/out/module.ll", "ffi_c"):
+        archive(False)
+        with tempfile.TemporaryDirectory() as folder:
+            common.module(crate, f"{folder}/module.bc", over(f"{folder}/libcoset_c.a"), b"coset_check")
+            read_as_text(f"{folder}/module.bc", f"{crate}/out/module.ll")
+    return f"{crate}/out/module.ll"
+
+
+def read_as_text(module_, to):
+    """Writes the text of a module of LLVM IR."""
+    common.clang("-Xclang", "-disable-llvm-passes", "-S", "-emit-llvm", module_, "-o", to)
 
 
 def calling_main():
@@ -91,7 +118,7 @@ def unproved(to):
         with open(f"{source}/main.rt", "a", encoding="utf-8") as file:
             file.write(calling_main())
         common.module(f"{folder}/crates/ffi_c", f"{folder}/module.bc")
-        common.clang("-Xclang", "-disable-llvm-passes", "-S", "-emit-llvm", f"{folder}/module.bc", "-o", f"{folder}/module.ll")
+        read_as_text(f"{folder}/module.bc", f"{folder}/module.ll")
         with open(f"{folder}/module.ll", encoding="utf-8") as file:
             text = exported(file.read())
         with open(f"{folder}/module.ll", "w", encoding="utf-8") as file:
@@ -111,15 +138,32 @@ def compiled(folder, source, to, *defines):
     return to
 
 
-def joined(folder, below, *objects):
+def exports(folder):
+    """Writes the names of the functions of coset.h into the folder, for objcopy and for a linker of Windows. Returns them."""
+    declared = re.findall(r"\b(coset_\w+)\(", names.header())
+    for name, first in (("exports", []), ("exports.def", ["EXPORTS"])):
+        with open(os.path.join(folder, name), "w", encoding="utf-8") as file:
+            file.write("\n".join(first + declared) + "\n")
+    return declared
+
+
+def joined(folder, below, *objects, tools=""):
     """Makes libcoset.a in the folder's folder `below`, of the object file coset.o. In that, only the exports are global.
 
-    Returns the name of that object file."""
+    `tools` precedes the names of the binutils. Returns the name of that object file."""
     one = f"{below}/coset.o"
-    run(["ld", "-r", "-o", one, *objects], cwd=folder)
-    run(["objcopy", "--keep-global-symbols=exports", one], cwd=folder)
-    run(["ar", "rcsD", f"{below}/libcoset.a", one], cwd=folder)
+    run([f"{tools}ld", "-r", "-o", one, *objects], cwd=folder)
+    run([f"{tools}objcopy", "--keep-global-symbols=exports", one], cwd=folder)
+    run([f"{tools}ar", "rcsD", f"{below}/libcoset.a", one], cwd=folder)
     return one
+
+
+def shared(folder, one, compiler="cc"):
+    """Makes libcoset.so of that object file."""
+    with open(os.path.join(folder, "symbols"), "w", encoding="utf-8") as file:
+        file.write(interface.script())
+    how = f"-Wl,-z,relro,-z,now,-soname,{interface.soname()},--version-script=symbols"
+    run([compiler, "-shared", "-o", "libcoset.so", one, how], cwd=folder)
 
 
 def build(folder, library, is_quick, check):
@@ -129,15 +173,10 @@ def build(folder, library, is_quick, check):
     there = os.listdir(folder)
     run(["ar", "x", library], cwd=folder)
     objects = sorted(set(os.listdir(folder)) - set(there))
-    declared = re.findall(r"\b(coset_\w+)\(", names.header())
-    with open(os.path.join(folder, "exports"), "w", encoding="utf-8") as file:
-        file.write("\n".join(declared) + "\n")
+    declared = exports(folder)
     text = compiled(folder, "text", "text.o", *(["-DCOSET_UNPROVED"] if is_quick else []))
     one = joined(folder, ".", *objects, compiled(folder, "heap", "heap.o"), text)
-    with open(os.path.join(folder, "symbols"), "w", encoding="utf-8") as file:
-        file.write(interface.script())
-    how = f"-Wl,-z,relro,-z,now,-soname,{interface.soname()},--version-script=symbols"
-    run(["cc", "-shared", "-o", "libcoset.so", one, how], cwd=folder)
+    shared(folder, one)
     symbols = map(str.split, run(["nm", "-g", "--defined-only", "libcoset.a"], cwd=folder).splitlines())
     given = {words[2] for words in symbols if len(words) == 3}
     check(given == set(declared), f"libcoset.a gives {given}")

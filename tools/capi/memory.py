@@ -75,8 +75,8 @@ def under_valgrind(program, lines, check):
     return len(lines)
 
 
-def wiped(folder, check):
-    """Checks that no freed block contains a key that the library was given."""
-    run(["cc", *FLAGS, "-Wl,--wrap=free", "-o", "wiped", f"{HERE}/c/wrappers/c/wiped.c", "libcoset.a"], cwd=folder)
-    ran = subprocess.run([f"{folder}/wiped"], capture_output=True, text=True)
+def wiped(folder, check, compiler="cc", runner=()):
+    """Checks that no freed block contains a key that the library was given. The runner is the command that runs the program."""
+    run([compiler, *FLAGS, "-Wl,--wrap=free", "-o", "wiped.exe", f"{HERE}/c/wrappers/c/wiped.c", "libcoset.a"], cwd=folder)
+    ran = subprocess.run([*runner, f"{folder}/wiped.exe"], capture_output=True, text=True)
     check(ran.returncode == 0, f"a freed block holds a key: {ran.stdout.strip()}")

@@ -11,13 +11,13 @@ import sys
 import tempfile
 
 from capi import (accepting, attack, calling, depths, examples, install, interface, items, limits, memory, messages, misuses,
-                  openers, openssl, rows, rust, shapes, tokens, trying)
-from capi.building import HERE, WRAPPERS, build_callers, own_heap, run
+                  openers, openssl, rows, rust, shapes, targets, tokens, trying)
+from capi.building import HERE, WRAPPERS, archive, build, build_callers, own_heap, run
 from capi.vectors import token
 from cbor import decode
 from sources import read
 
-ATTACKS = 2_000_000
+ATTACKS, TARGET_ATTACKS = 2_000_000, 200_000
 # The calls about tokens that are made again with refused allocations.
 TOKENS = ("token ", "open ", "fits ")
 
@@ -25,6 +25,8 @@ TOKENS = ("token ", "open ", "fits ")
 def kept(given, folder, objects, wrong):
     """Leaves the library in the folder of --keep. Returns the paths of its files."""
     os.makedirs(given.keep, exist_ok=True)
+    if given.target:
+        return [*targets.kept(given.target, folder, given.keep), *wrong]
     name = "coset_unproved" if given.quick else "coset"
     if given.own_heap:
         own_heap(folder, objects, wrong.check)
@@ -41,8 +43,8 @@ def kept(given, folder, objects, wrong):
 
 def installed(given, folder, _, wrong):
     """Installs the library below the folder of --install."""
-    below = os.environ.get("DESTDIR", "")
-    return [*install.install(folder, given.install, given.quick, below, given.libdir or "lib"), *wrong]
+    below, is_unproved = os.environ.get("DESTDIR", ""), given.quick or bool(given.target)
+    return [*install.install(folder, given.install, is_unproved, below, given.libdir or "lib"), *wrong]
 
 
 def attacked(given, folder, objects, wrong):
@@ -67,7 +69,23 @@ def measured(_, folder, objects, wrong):
     return [*lines, *wrong]
 
 
+def tested(given, folder, _, wrong):
+    """Makes the calls with the library for a target, and with that of x86-64 Linux."""
+    with tempfile.TemporaryDirectory() as here:
+        objects = build(here, archive(given.quick), given.quick, wrong.check)
+        lines = [line for call in every_call(wrong.check)[1] for line, _ in calling.lines_of(*call)]
+        told = targets.tried(given.target, folder, (here, objects), lines, TARGET_ATTACKS, wrong.check)
+    return [*told, *(text[:1000] for text in wrong[:20])]
+
+
 # ---- all calls
+
+
+def every_call(check):
+    """Returns the calls that are made in each language, and all calls from C."""
+    calls = [*rows.calls(check), *examples.calls(check), *messages.sealed_calls(), *items.calls(), *tokens.calls()]
+    of_tokens = [*tokens.calls_from_c(check), *openers.calls(), *shapes.calls()]
+    return calls, [*calls, *of_tokens, *misuses.calls(), *depths.calls(calls)]
 
 
 def of_library(given, folder, objects, wrong):
@@ -133,9 +151,7 @@ def called(given, folder, objects, wrong):
     """Makes all calls. Returns the first faults, and a line with the numbers of calls."""
     build_callers(folder, objects)
     rust.build_calls(folder)
-    calls = [*rows.calls(wrong.check), *examples.calls(wrong.check), *messages.sealed_calls(), *items.calls(), *tokens.calls()]
-    of_tokens = [*tokens.calls_from_c(wrong.check), *openers.calls(), *shapes.calls()]
-    every = [*calls, *of_tokens, *misuses.calls(), *depths.calls(calls)]
+    calls, every = every_call(wrong.check)
     lines, wanted = calling.from_c(f"{folder}/calls_c", every, wrong.check)
     calling.lengths(f"{folder}/calls_c", wrong.check)
     told = [f"calls {len(calls)}", f"from C {len(lines)}"]
@@ -147,7 +163,7 @@ def called(given, folder, objects, wrong):
 
 
 # Each way by the option that chooses it.
-WAYS = {"keep": kept, "install": installed, "attack": attacked, "time": timed, "limits": measured}
+WAYS = {"keep": kept, "install": installed, "test": tested, "attack": attacked, "time": timed, "limits": measured}
 
 
 def chosen(given):

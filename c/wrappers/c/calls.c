@@ -241,7 +241,7 @@ static int32_t safe(char **word, uint32_t number, struct bytes in, uint8_t *out,
   int64_t algorithms[64], known[64];
   const coset_policy policy = {algorithms, integers(word[8], algorithms, 64), known,       integers(word[9], known, 64), aad.at,
                                aad.len,    (uint32_t)strtoul(word[6], NULL, 0), detached.at, detached.len};
-  const size_t index = strtoul(word[4], NULL, 0);
+  const size_t index = strtoull(word[4], NULL, 0);
   const uint8_t *payload = out;
   int32_t status = -2;
   switch (number & 0xff) {
@@ -343,7 +343,7 @@ static int32_t spans(char **word, uint32_t kind, struct bytes in, uint8_t *out, 
   int64_t known[64];
   coset_message_spans_view view;
   memset(&view, 0x77, sizeof view);
-  int32_t status = coset_message_spans(kind, in.at, in.len, strtoul(word[4], NULL, 0), aad.at, aad.len,
+  int32_t status = coset_message_spans(kind, in.at, in.len, strtoull(word[4], NULL, 0), aad.at, aad.len,
                                        (uint32_t)strtoul(word[6], NULL, 0), detached.at, detached.len, known,
                                        integers(word[8], known, 64), out, cap, len, &view);
   free(aad.at), free(detached.at);
@@ -479,7 +479,7 @@ int main(void) {
     }
     uint32_t kind = (uint32_t)strtoul(word[1], NULL, 0), w4 = (uint32_t)strtoul(word[4], NULL, 0);
     struct bytes in = spelled(word[2]), aad = {NULL, 0}, extra = {NULL, 0};
-    size_t cap = strtoul(word[3], NULL, 0), len = 77, room = (cap >> 26 ? 0 : cap) + 8; /* some calls have no buffer */
+    size_t cap = strtoull(word[3], NULL, 0), len = 77, room = (cap >> 26 ? 0 : cap) + 8; /* some calls have no buffer */
     int64_t value = 77, label = strtoll(word[5], NULL, 0), known[64];
     uint8_t *out = malloc(room);
     coset_sign1_view view = {77, 77, 77, 77, 77, 77, 77, 77, 77};
@@ -509,7 +509,7 @@ int main(void) {
     }
     if (!strcmp(call, "member_span") || !strcmp(call, "pair_spans") || !strcmp(call, "label_span") || !strcmp(call, "string_span") ||
         !strcmp(call, "item_span")) {
-      located(*call, kind, in, strtoul(word[3], NULL, 0), strtoll(word[4], NULL, 0));
+      located(*call, kind, in, strtoull(word[3], NULL, 0), strtoll(word[4], NULL, 0));
       free(in.at), free(out);
       if (live) return fprintf(stderr, "%ld blocks are left\n", live), 1;
       continue;
@@ -518,9 +518,9 @@ int main(void) {
     if (!strcmp(call, "check")) status = coset_check(kind, in.at, in.len, &len);
     if (!strcmp(call, "count")) status = coset_count(kind, in.at, in.len, &len);
     if (!strcmp(call, "part")) status = coset_part(kind, in.at, in.len, w4, out, cap, &len);
-    if (!strcmp(call, "member")) status = coset_member(kind, in.at, in.len, strtoul(word[4], NULL, 0), out, cap, &len);
-    if (!strcmp(call, "label_at")) status = coset_label_at(kind, in.at, in.len, strtoul(word[4], NULL, 0), out, cap, &len);
-    if (!strcmp(call, "value_at")) status = coset_value_at(kind, in.at, in.len, strtoul(word[4], NULL, 0), out, cap, &len);
+    if (!strcmp(call, "member")) status = coset_member(kind, in.at, in.len, strtoull(word[4], NULL, 0), out, cap, &len);
+    if (!strcmp(call, "label_at")) status = coset_label_at(kind, in.at, in.len, strtoull(word[4], NULL, 0), out, cap, &len);
+    if (!strcmp(call, "value_at")) status = coset_value_at(kind, in.at, in.len, strtoull(word[4], NULL, 0), out, cap, &len);
     if (!strcmp(call, "key_of")) {
       extra = spelled(word[4]);
       status = coset_key_of(in.at, in.len, extra.at, extra.len, out, cap, &len);
@@ -536,7 +536,7 @@ int main(void) {
     }
     if (!strcmp(call, "structure")) {
       aad = spelled(word[5]), extra = spelled(word[7]);
-      status = coset_structure(kind, in.at, in.len, strtoul(word[4], NULL, 0), aad.at, aad.len,
+      status = coset_structure(kind, in.at, in.len, strtoull(word[4], NULL, 0), aad.at, aad.len,
                                (uint32_t)strtoul(word[6], NULL, 0), extra.at, extra.len, out, cap, &len);
     }
     if (!strcmp(call, "verified")) {
@@ -557,7 +557,7 @@ int main(void) {
     }
     if (!strcmp(call, "message")) {
       aad = spelled(word[5]), extra = spelled(word[7]);
-      status = coset_message(kind, in.at, in.len, strtoul(word[4], NULL, 0), aad.at, aad.len, (uint32_t)strtoul(word[6], NULL, 0),
+      status = coset_message(kind, in.at, in.len, strtoull(word[4], NULL, 0), aad.at, aad.len, (uint32_t)strtoul(word[6], NULL, 0),
                              extra.at, extra.len, known, integers(word[8], known, 64), out, cap, &len, &message);
     }
     uint32_t flags = 0;
