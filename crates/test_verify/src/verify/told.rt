@@ -75,12 +75,14 @@ fn spelled_part(alloc: Global, part: Part) -> Result<String> {
     match part {
         Part::Whole => Ok(String::new(alloc)),
         Part::Signature(by) => {
+            let unprotected = by.unprotected;
             let bytes = hexadecimal(alloc, &by.signature)?;
-            let headers = headers(alloc, &by.protected, by.unprotected)?;
+            let headers = headers(alloc, &by.protected, unprotected)?;
             Ok(format!(in alloc; "/by/{headers}/{bytes}")?)
         }
         Part::Recipient(to) => {
-            let headers = headers(alloc, &to.protected, to.unprotected)?;
+            let unprotected = to.unprotected;
+            let headers = headers(alloc, &to.protected, unprotected)?;
             Ok(format!(in alloc; "/for/{headers}")?)
         }
     }
