@@ -17,7 +17,7 @@ ghost use Rattle.ffi_query.specs.Found.{IsFound};
 ghost use Rattle.ffi_query.specs.Borrowed.{AreHeaders, AreNamed, AreTexts, HasNoCritical, IsBehindThree, IsAttached, IsEmptyIn, IsBorrowedOf, IsMapOf, KnowsAlgorithm, KnowsKeyId, structure_by};
 ghost use Rattle.ffi_query.specs.Located.{AreElementsIn, IsLocated, IsTextIn, elements_left, located_item};
 ghost use Rattle.ffi_query.specs.Places.{bytes_in, element};
-ghost use Rattle.ffi_query.specs.Structures.{content_at, structure_of_one, structure_of_two};
+ghost use Rattle.ffi_query.specs.Structures.{content_at, is_given_twice, structure_of_one, structure_of_two};
 ghost use Rattle.ffi_query.specs.View.{IsAlgorithm, proof_in};
 
 use crate::found::Found;
@@ -446,12 +446,12 @@ fn lengths_of(structure: &Structure<'_>, texts: &Texts<'_>) -> Option<(usize, us
     Some((structure_len, len))
 }
 
-/// Returns everything that verifying or decrypting the item takes, if it can be borrowed from the
-/// input.
+/// Returns the texts of a message whose content is either carried or detached, as parts of the
+/// input. It is `None` if one isn't a part of it.
 ///
 /// # Errors
 /// `OutOfMemory` if an allocation fails.
-pub(crate) fn find_borrowed<'a>(
+fn borrowed_once<'a>(
     alloc: Global,
     kind: Kind,
     found: &Found<'a>,
@@ -459,13 +459,11 @@ pub(crate) fn find_borrowed<'a>(
     detached: Option<&'a [u8]>,
 ) -> Result<Option<Borrowed<'a>>>
     ensures lent { (b : List ℕ) (i : ℕ) (ns : List ℤ) → IsFound kind b found.now
+        → is_given_twice kind (option_copied detached.entry) (located_item found.now.item) ≡ false
         → IfOk result (λ o. IfSome o (IsBorrowedOf kind i external_aad.now
         (option_copied detached.entry) ns b)) }
     ensures memory { IfErr result (λ e. e ≡ OutOfMemory) }
 {
-    if is_given_twice(kind, detached, found.item.item) {
-        return Ok(None);
-    }
     let Some(texts) = texts_of(kind, found, detached) else {
         return Ok(None);
     };
@@ -496,4 +494,27 @@ pub(crate) fn find_borrowed<'a>(
         content: texts.content,
         key_id: texts.key_id.text,
     }))
+}
+
+/// Returns everything that verifying or decrypting the item takes, if it can be borrowed from the
+/// input.
+///
+/// # Errors
+/// `OutOfMemory` if an allocation fails.
+pub(crate) fn find_borrowed<'a>(
+    alloc: Global,
+    kind: Kind,
+    found: &Found<'a>,
+    external_aad: &[u8],
+    detached: Option<&'a [u8]>,
+) -> Result<Option<Borrowed<'a>>>
+    ensures lent { (b : List ℕ) (i : ℕ) (ns : List ℤ) → IsFound kind b found.now
+        → IfOk result (λ o. IfSome o (IsBorrowedOf kind i external_aad.now
+        (option_copied detached.entry) ns b)) }
+    ensures memory { IfErr result (λ e. e ≡ OutOfMemory) }
+{
+    if is_given_twice(kind, detached, found.item.item) {
+        return Ok(None);
+    }
+    borrowed_once(alloc, kind, found, external_aad, detached)
 }
