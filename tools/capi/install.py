@@ -4,6 +4,7 @@
     LIBDIR                      libcoset.a and libcoset.so, coset.pc for pkg-config, and the files of CMake
     share/coset/python          the source of a package for pip, without the library: `pip install PREFIX/share/coset/python`
     share/coset/rust            a crate for Cargo: coset-rattle = { path = "PREFIX/share/coset/rust" }
+    share/coset/js              a package for npm, if the tools for its module are there (tools/capi/wasm.py)
     share/doc/coset             docs/C.md and the license
     share/coset/installed.txt   the paths of all these files, from PREFIX
 
@@ -105,7 +106,7 @@ def libdir_in(prefix, libdir):
     return found
 
 
-def install(library, prefix, quick, below="", libdir="lib"):
+def install(library, prefix, quick, below="", libdir="lib", more=()):
     """Installs the library (libcoset.a and libcoset.so of a folder) for a prefix. Returns the messages to print.
 
     `below` precedes the paths during the installation, as in the build of a package. Files of an earlier installation that
@@ -117,6 +118,7 @@ def install(library, prefix, quick, below="", libdir="lib"):
     copy = lambda name: lambda new: shutil.copy(f"{library}/{name}", new)
     puts |= {f"{libdir}/libcoset.a": copy("libcoset.a"), f"{libdir}/{interface.file_name()}": copy("libcoset.so")}
     puts |= {f"{libdir}/{name}": link(interface.file_name()) for name in (interface.soname(), "libcoset.so")}
+    puts |= dict(more)
     puts[LIST] = write("".join(f"{path}\n" for path in sorted({*puts, LIST})))
     before = set(listed(root))
     for path, put in puts.items():
