@@ -9,11 +9,12 @@ from cbor import decode, encode
 from sources import read
 
 # A verifier or an issuer, with everything after it.
-FUNCTION = r"^(?:int32_t|coset_status|pub fn|def|export function|export async function) (?:verified|issued|accepted)\([^)]*\)[^;\n]*\n[\s\S]*"
+FUNCTION = r"^(?:int32_t|coset_status|pub fn|def|export function|export async function|func) (?:verified|issued|accepted)\([^)]*\)[^;\n]*\n[\s\S]*"
 SHOWN = ("c/verify.c", "rust/verify.rs", "python/verify.py", "c/issue.c", "rust/issue.rs", "python/issue.py", "rust/accept.rs",
-         "python/accept.py", "js/verify.mjs", "js/issue.mjs")
+         "python/accept.py", "js/verify.mjs", "js/issue.mjs", "go/calls/verify.go",
+         "go/calls/issue.go")
 # Programs that the page shows as a whole.
-PROGRAMS = {"c/accept.c": r"^#include[\s\S]*", "js/accept.mjs": r"^import[\s\S]*"}
+PROGRAMS = {"c/accept.c": r"^#include[\s\S]*", "js/accept.mjs": r"^import[\s\S]*", "go/calls/accept.go": r"^import[\s\S]*"}
 
 
 def compare_page(check):

@@ -30,7 +30,7 @@ STRUCTS = (("View", "coset_sign1_view", None), ("Message", "coset_message_view",
 
 # The structs by their names in the wrapper for JavaScript.
 IN_JAVASCRIPT = {"Span": "SPAN", "Pair": "PAIR", "Spans": "SPANS", "Rules": "RULES", "Opened": "OPENED", "Layer": "LAYER"}
-# The calls that message_spans takes the place of in JavaScript.
+# The calls that message_spans takes the place of in JavaScript and Go.
 COPYING = {"coset_sign1", "coset_message"}
 
 
@@ -148,8 +148,20 @@ def compare_javascript(check):
     check(heads(script) == heads(types), f"the functions in coset.d.ts aren't those of coset.mjs: {heads(script)} {heads(types)}")
     called = {f"coset_{name}" for name in re.findall(r'\b(?:call|written|writing|spans|int)\("(\w+)"', script)}
     called |= {f"coset_{name}" for name in re.findall(r"\.coset_(\w+)\(", script)}
-    functions = set(re.findall(r"\b(coset_\w+)\(", header()))
+    functions = header_functions()
     check(functions - COPYING == called, f"JavaScript doesn't call the header's functions: {functions - COPYING ^ called}")
+
+
+def header_functions():
+    return set(re.findall(r"\b(coset_\w+)\(", header()))
+
+
+def compare_go(check):
+    """Checks that Go's package has each constant and each function of the header. cgo compares their types when it is built."""
+    package = read("c", "wrappers", "go", "coset", "coset.go")
+    there = set(re.findall(r"\bC\.(coset_\w+)\(", package)) | set(re.findall(r"\bC\.(COSET_\w+)", package))
+    wanted = header_functions() - COPYING | {name for name, _ in re.findall(CONSTANT, header())}
+    check(wanted <= there, f"Go's package hasn't the header's names: {wanted - there}")
 
 
 def compare_structs(sources, check):
@@ -180,4 +192,5 @@ def compare(check):
     compare_functions(sources, check)
     compare_python(check)
     compare_javascript(check)
+    compare_go(check)
     compare_structs(sources, check)

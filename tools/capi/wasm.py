@@ -136,12 +136,12 @@ def by_npm(folder, quick, data, payload, check):
 # ---- Calls
 
 
-def with_web_crypto():
-    """Yields the calls of `accepted` with the ciphers of WebCrypto: the token of RFC 8392, appendix A.3, and each byte of its signature
+def with_own_ciphers(word):
+    """Yields the calls of `accepted` with ciphers of the language: the token of RFC 8392, appendix A.3, and each byte of its signature
     changed."""
     data, message = token()[0], decode(token()[0])[0][2][1]
     keys = [bytes.fromhex(row[1]) for row, _ in named("rfc8392-a.2")]
-    words = [accepting.NBF, accepting.AS, bytes([0x80 + len(keys)]) + b"".join(keys), "webcrypto"]
+    words = [accepting.NBF, accepting.AS, bytes([0x80 + len(keys)]) + b"".join(keys), word]
     yield ("accepted", 0, data, words, OK, accepting.accepted())
     start = data.index(message[3][1])
     for place in range(start, start + len(message[3][1])):
@@ -220,7 +220,7 @@ def tried(given, caller, calls, wrong):
     lacks = lacking() or (None if shutil.which("node") else "there is no node for JavaScript")
     if lacks:
         return [lacks]
-    size, calls, data = os.path.getsize(module(given.quick)), [*calls, *accepting.calls(), *with_web_crypto()], token()[0]
+    size, calls, data = os.path.getsize(module(given.quick)), [*calls, *accepting.calls(), *with_own_ciphers("webcrypto")], token()[0]
     wrong.check(size < LARGEST, f"coset.wasm has {size} bytes")
     with tempfile.TemporaryDirectory() as folder:
         laid_out(f"{folder}/page", given.quick)

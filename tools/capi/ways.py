@@ -10,7 +10,7 @@ import subprocess
 import sys
 import tempfile
 
-from capi import (accepting, attack, calling, depths, examples, install, interface, items, limits, memory, messages, misuses,
+from capi import (accepting, attack, calling, depths, examples, golang, install, interface, items, limits, memory, messages, misuses,
                   openers, openssl, rows, rust, shapes, targets, tokens, trying, wasm)
 from capi.building import HERE, WRAPPERS, archive, build, build_callers, own_heap, run
 from capi.vectors import token
@@ -161,6 +161,7 @@ def called(given, folder, objects, wrong):
     told += with_memory(given, folder, lines, wanted, wrong)
     told += by_wrappers(given, folder, calls, wrong)
     told += wasm.tried(given, f"{folder}/calls_c", calls, wrong)
+    told += golang.tried(given, folder, calls, wrong)
     return [*(text[:1000] for text in wrong[:20]), ", ".join([*told, f"wrong {len(wrong)}"])]
 
 
