@@ -58,7 +58,7 @@ def archive(is_quick):
     """Returns the path of the static library, which is built first if a source is newer."""
     if is_quick:
         return common.unproved("ffi_c", "libcoset_c_unproved.a", unproved)
-    return common.proved("ffi_c", os.path.join(HERE, "crates", "ffi_c", "out", "libcoset_c.a"), ["rt", "lib"])
+    return common.proved("ffi_c", os.path.join(HERE, "crates", "ffi_c", "out", "libffi_c.a"), ["rt", "lib"])
 
 
 def module(is_quick):
