@@ -12,6 +12,8 @@ from capi import interface, names
 HERE = common.HERE
 WRAPPERS = f"{HERE}/c/wrappers"
 FLAGS = ["-std=c11", "-O2", "-Wall", "-Wextra", "-Werror", "-fPIC", f"-I{HERE}/c/include"]
+# The LLVM IR of the proved library.
+OF_PROVED = f"{HERE}/crates/ffi_c/out/module.ll"
 # The tools with which the library is put together.
 TOOLS = ("cc", "ar", "ld", "objcopy")
 # The arguments with which a program calls an export, by type.
@@ -49,9 +51,13 @@ def over(to):
 
 
 def built_over(folder):
-    """Proves and builds the static library over the libraries of this checkout, and returns its path."""
-    run(over(f"{folder}/libcoset_c.a"), cwd=os.path.join(HERE, "crates", "ffi_c"))
-    return f"{folder}/libcoset_c.a"
+    """Proves and builds the static library over the libraries of this checkout, and returns its path. Leaves its LLVM IR for
+    `module`."""
+    made = f"{folder}/libcoset_c.a"
+    write_module(made)
+    if not os.path.exists(made):
+        sys.exit("ffi_c isn't built")
+    return made
 
 
 def archive(is_quick):
@@ -70,13 +76,20 @@ def module(is_quick):
             os.remove(f"{common.QUICK}/libcoset_c_unproved.a")
         archive(True)
         return text
-    crate = os.path.join(HERE, "crates", "ffi_c")
-    if not common.is_fresh(f"{crate}/out/module.ll", "ffi_c"):
+    if not common.is_fresh(OF_PROVED, "ffi_c"):
         archive(False)
         with tempfile.TemporaryDirectory() as folder:
-            common.module(crate, f"{folder}/module.bc", over(f"{folder}/libcoset_c.a"), b"coset_check")
-            read_as_text(f"{folder}/module.bc", f"{crate}/out/module.ll")
-    return f"{crate}/out/module.ll"
+            write_module(f"{folder}/libcoset_c.a")
+    return OF_PROVED
+
+
+def write_module(library):
+    """Proves and builds the static library over the libraries of this checkout, and writes its LLVM IR."""
+    with tempfile.TemporaryDirectory() as folder:
+        common.module(f"{HERE}/crates/ffi_c", f"{folder}/module.bc", over(library), b"coset_check")
+        os.makedirs(os.path.dirname(OF_PROVED), exist_ok=True)
+        read_as_text(f"{folder}/module.bc", f"{folder}/module.ll")
+        shutil.move(f"{folder}/module.ll", OF_PROVED)
 
 
 def read_as_text(module_, to):

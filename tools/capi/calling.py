@@ -144,7 +144,7 @@ def lengths(program, check):
     check(told == [f"{MISUSE} {MISUSE} {MISUSE} {MISUSE} 1"], f"a length above PTRDIFF_MAX: {told}")
 
 
-# ---- from Rust and Python
+# ---- through the wrappers
 
 
 # The statuses against a layer of a token. The others are against the whole token. A wrapper reports an answer of the wrong type as
@@ -153,7 +153,7 @@ OF_LAYER = (*range(3, 14), NOT_ALLOWED, CRITICAL, REFUSED, HEADERS)
 
 
 def refusal_told(status, refused):
-    """Returns the right output of calls.rs and calls.py for a token that is refused. It has the reason, the index of the refused
+    """Returns the right output of a wrapper for a token that is refused. It has the reason, the index of the refused
     layer, and the number of the refused algorithm or of the missing claim."""
     index, algorithm, claim = refused.words
     number = {NOT_ALLOWED: algorithm if algorithm != "0" else "-", MISSING: claim}.get(status, "-")
@@ -161,7 +161,7 @@ def refusal_told(status, refused):
 
 
 def told_by_wrapper(status, answer):
-    """Returns the right output of calls.rs and calls.py."""
+    """Returns the right output of a wrapper."""
     if status == -1:
         return "ok no"
     if isinstance(answer, Refused):
@@ -174,12 +174,21 @@ def told_by_wrapper(status, answer):
     return " ".join(["ok", spelled, *map(str, answer.view if isinstance(answer, Told) else [])])
 
 
-def from_wrapper(name, command, calls, check, **more):
-    """Makes the calls through a wrapper."""
-    lines = [line(call, number, data, words, 0) for call, number, data, words, _, _ in calls]
-    for (*_, status, answer), asked, got in zip(calls, lines, answers(command, lines, check, **more)):
+def lines_for_wrapper(calls):
+    return [line(call, number, data, words, 0) for call, number, data, words, _, _ in calls]
+
+
+def compare(name, calls, lines, told, check):
+    """Compares a wrapper's results with the right ones."""
+    for (*_, status, answer), asked, got in zip(calls, lines, told):
         want = told_by_wrapper(status, answer)
         check(got.strip() == want.strip(), f"{name}: {asked}: {got} and not {want}")
+
+
+def from_wrapper(name, command, calls, check, **more):
+    """Makes the calls through a wrapper."""
+    lines = lines_for_wrapper(calls)
+    compare(name, calls, lines, answers(command, lines, check, **more), check)
 
 
 def texts(is_quick, callers, check):

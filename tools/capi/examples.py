@@ -9,19 +9,20 @@ from cbor import decode, encode
 from sources import read
 
 # A verifier or an issuer, with everything after it.
-FUNCTION = r"^(?:int32_t|coset_status|pub fn|def) (?:verified|issued|accepted)\([^)]*\)[^;\n]*\n[\s\S]*"
+FUNCTION = r"^(?:int32_t|coset_status|pub fn|def|export function|export async function|func) (?:verified|issued|accepted)\([^)]*\)[^;\n]*\n[\s\S]*"
 SHOWN = ("c/verify.c", "rust/verify.rs", "python/verify.py", "c/issue.c", "rust/issue.rs", "python/issue.py", "rust/accept.rs",
-         "python/accept.py")
-# A program that the page shows as a whole.
-PROGRAM = r"^#include[\s\S]*"
+         "python/accept.py", "js/verify.mjs", "js/issue.mjs", "go/calls/verify.go",
+         "go/calls/issue.go")
+# Programs that the page shows as a whole.
+PROGRAMS = {"c/accept.c": r"^#include[\s\S]*", "js/accept.mjs": r"^import[\s\S]*", "go/calls/accept.go": r"^import[\s\S]*"}
 
 
 def compare_page(check):
     """Checks that the page shows the verifiers, the issuers and the program for web tokens as they are."""
     page = read("docs", "C.md")
-    for path in (*SHOWN, "c/accept.c"):
+    for path in (*SHOWN, *PROGRAMS):
         text = read("c", "wrappers", *path.split("/"))
-        parts = re.findall(PROGRAM if path == "c/accept.c" else FUNCTION, text, re.M)
+        parts = re.findall(PROGRAMS.get(path, FUNCTION), text, re.M)
         check(len(parts) == 1 and parts[0].strip() in page, f"docs/C.md doesn't show what c/wrappers/{path} has")
 
 

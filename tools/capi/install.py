@@ -4,6 +4,8 @@
     LIBDIR                      libcoset.a and libcoset.so, coset.pc for pkg-config, and the files of CMake
     share/coset/python          the source of a package for pip, without the library: `pip install PREFIX/share/coset/python`
     share/coset/rust            a crate for Cargo: coset-rattle = { path = "PREFIX/share/coset/rust" }
+    share/coset/go              a package for Go, by cgo and pkg-config
+    share/coset/js              a package for npm, if the tools for its module are there (tools/capi/wasm.py)
     share/doc/coset             docs/C.md and the license
     share/coset/installed.txt   the paths of all these files, from PREFIX
 
@@ -54,6 +56,7 @@ def texts(found):
     made |= {f"{python}/coset/py.typed": "", f"{python}/LICENSE": read("LICENSE")}
     made |= {f"{rust}/{name}": fill(f"rust/{name}") for name in ("Cargo.toml", "build.rs")}
     made |= {f"{rust}/src/lib.rs": read("c/wrappers/rust/coset.rs"), f"{rust}/LICENSE": read("LICENSE")}
+    made |= {f"share/coset/go/{name}": read(f"c/wrappers/go/coset/{name}") for name in ("coset.go", "go.mod")}
     return made | {"share/doc/coset/C.md": read("docs/C.md"), "share/doc/coset/LICENSE": read("LICENSE")}
 
 
@@ -105,7 +108,7 @@ def libdir_in(prefix, libdir):
     return found
 
 
-def install(library, prefix, quick, below="", libdir="lib"):
+def install(library, prefix, quick, below="", libdir="lib", more=()):
     """Installs the library (libcoset.a and libcoset.so of a folder) for a prefix. Returns the messages to print.
 
     `below` precedes the paths during the installation, as in the build of a package. Files of an earlier installation that
@@ -117,6 +120,7 @@ def install(library, prefix, quick, below="", libdir="lib"):
     copy = lambda name: lambda new: shutil.copy(f"{library}/{name}", new)
     puts |= {f"{libdir}/libcoset.a": copy("libcoset.a"), f"{libdir}/{interface.file_name()}": copy("libcoset.so")}
     puts |= {f"{libdir}/{name}": link(interface.file_name()) for name in (interface.soname(), "libcoset.so")}
+    puts |= dict(more)
     puts[LIST] = write("".join(f"{path}\n" for path in sorted({*puts, LIST})))
     before = set(listed(root))
     for path, put in puts.items():

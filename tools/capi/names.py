@@ -1,4 +1,4 @@
-"""The names, arguments and constants of the interface, which the header, the exports and the two wrappers must share."""
+"""The names, arguments and constants of the interface, which the header, the exports and the wrappers must share."""
 import re
 
 from sources import read
@@ -26,6 +26,12 @@ POINTERS = {"*const u8": "const uint8_t *", "*mut u8": "uint8_t *", "*mut usize"
 STRUCTS = (("View", "coset_sign1_view", None), ("Message", "coset_message_view", None), ("Span", "coset_span", "_Span"),
            ("Pair", "coset_pair", "_Pair"), ("Spans", "coset_message_spans_view", "_Spans"), ("Rules", "coset_rules", "_Rules"),
            ("Opened", "coset_opened", "_Opened"), ("Layer", "coset_layer", "_Layer"))
+
+
+# The structs by their names in the wrapper for JavaScript.
+IN_JAVASCRIPT = {"Span": "SPAN", "Pair": "PAIR", "Spans": "SPANS", "Rules": "RULES", "Opened": "OPENED", "Layer": "LAYER"}
+# The calls that message_spans takes the place of in JavaScript and Go.
+COPYING = {"coset_sign1", "coset_message"}
 
 
 # ---- what each of them has
@@ -113,6 +119,51 @@ def compare_python(check):
             check(number == int(first, 0) + place, f"the Python wrapper's {name}")
 
 
+def javascript():
+    return read("c", "wrappers", "js", "coset.mjs")
+
+
+def numbers_in(script, mark):
+    """Returns the numbers that a script or its types export, with statuses and major types. `mark` precedes a number."""
+    lines = "\n".join(re.findall(r"^export const ([^;(]*);", script, re.M))
+    listed = "".join(re.search(rf"export const {name}\b[^{{]*\{{(.*?)\}}", script, re.S)[1] for name in ("Status", "MajorType"))
+    numbers = dict(re.findall(rf"\b([A-Z][A-Z0-9_]*){mark} (-?\w+)", lines))
+    return {name: int(it, 0) for name, it in {**numbers, **dict(re.findall(r"(\w+): (\d+)", listed))}.items()}
+
+
+def heads(script):
+    """Returns the functions that a script or its types export, each with the names of its parameters."""
+    found = re.findall(r"^export (?:async )?function (\w+)\((.*)\)(?:: .*;| \{)$", script, re.M)
+    names = lambda text: re.findall(r"(\w+)\??(?=,|$| =)", re.sub(r": [^,]*", "", text))
+    return {name: names(text) for name, text in found}
+
+
+def compare_javascript(check):
+    """Compares the wrapper for JavaScript with the header, and its types with the wrapper."""
+    script, types = javascript(), read("c", "packaging", "js", "coset.d.ts")
+    constants = re.findall(CONSTANT, header() + re.sub("enum {\n  COSET_FALSE.*?}", "", read("c", "include", "coset_items.h"), flags=re.S))
+    declared, there = {n.removeprefix("COSET_"): int(v, 0) for n, v in constants}, numbers_in(script, " =")
+    check({n: there.get(n) for n in declared} == declared, f"JavaScript's constants aren't the header's: {there}")
+    check(there == numbers_in(types, ":"), "the constants in coset.d.ts aren't those of coset.mjs")
+    check(heads(script) == heads(types), f"the functions in coset.d.ts aren't those of coset.mjs: {heads(script)} {heads(types)}")
+    called = {f"coset_{name}" for name in re.findall(r'\b(?:call|written|writing|spans|int)\("(\w+)"', script)}
+    called |= {f"coset_{name}" for name in re.findall(r"\.coset_(\w+)\(", script)}
+    functions = header_functions()
+    check(functions - COPYING == called, f"JavaScript doesn't call the header's functions: {functions - COPYING ^ called}")
+
+
+def header_functions():
+    return set(re.findall(r"\b(coset_\w+)\(", header()))
+
+
+def compare_go(check):
+    """Checks that Go's package has each constant and each function of the header. cgo compares their types when it is built."""
+    package = read("c", "wrappers", "go", "coset", "coset.go")
+    there = set(re.findall(r"\bC\.(coset_\w+)\(", package)) | set(re.findall(r"\bC\.(COSET_\w+)", package))
+    wanted = header_functions() - COPYING | {name for name, _ in re.findall(CONSTANT, header())}
+    check(wanted <= there, f"Go's package hasn't the header's names: {wanted - there}")
+
+
 def compare_structs(sources, check):
     """Compares the fields of the header's structs with those of the sources and of the wrappers."""
     sources += read("crates", "ffi_token", "src", "opened.rt") + read("crates", "ffi_query", "src", "elements.rt")
@@ -127,6 +178,8 @@ def compare_structs(sources, check):
         if in_python:
             before = rf"class {in_python}\(.*?_fields_ = \["
             there["Python wrapper"] = fields_in(r'\("(\w+)", ctypes\.c_(\w+)\)', before, python)
+        if struct in IN_JAVASCRIPT:
+            there["wrapper for JavaScript"] = fields_in(r'(\w+): "(\w+)"', rf"const {IN_JAVASCRIPT[struct]} = struct\(\{{", javascript())
         for name, found in there.items():
             found = [(field, types.get(type_, type_)) for field, type_ in found]
             check(fields == found, f"the {name}'s {struct}: {found} and not {fields}")
@@ -138,4 +191,6 @@ def compare(check):
     compare_constants(sources, check)
     compare_functions(sources, check)
     compare_python(check)
+    compare_javascript(check)
+    compare_go(check)
     compare_structs(sources, check)

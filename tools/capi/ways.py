@@ -10,8 +10,8 @@ import subprocess
 import sys
 import tempfile
 
-from capi import (accepting, attack, calling, depths, examples, install, interface, items, limits, memory, messages, misuses,
-                  openers, openssl, rows, rust, shapes, targets, tokens, trying)
+from capi import (accepting, attack, calling, depths, examples, golang, install, interface, items, limits, memory, messages, misuses,
+                  openers, openssl, rows, rust, shapes, targets, tokens, trying, wasm)
 from capi.building import HERE, WRAPPERS, archive, build, build_callers, own_heap, run
 from capi.vectors import token
 from cbor import decode
@@ -44,7 +44,8 @@ def kept(given, folder, objects, wrong):
 def installed(given, folder, _, wrong):
     """Installs the library below the folder of --install."""
     below, is_unproved = os.environ.get("DESTDIR", ""), given.quick or bool(given.target)
-    return [*install.install(folder, given.install, is_unproved, below, given.libdir or "lib"), *wrong]
+    more, lacks = ({}, []) if given.target else wasm.installed(given.quick)
+    return [*install.install(folder, given.install, is_unproved, below, given.libdir or "lib", more), *lacks, *wrong]
 
 
 def attacked(given, folder, objects, wrong):
@@ -159,6 +160,8 @@ def called(given, folder, objects, wrong):
     told += of_library(given, folder, objects, wrong)
     told += with_memory(given, folder, lines, wanted, wrong)
     told += by_wrappers(given, folder, calls, wrong)
+    told += wasm.tried(given, f"{folder}/calls_c", calls, wrong)
+    told += golang.tried(given, folder, calls, wrong)
     return [*(text[:1000] for text in wrong[:20]), ", ".join([*told, f"wrong {len(wrong)}"])]
 
 

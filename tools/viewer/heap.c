@@ -1,6 +1,8 @@
-/* What the viewer's module asks of a C library, where there is none: a heap that gives blocks of powers of two and takes memory as
- * it needs it; the two shifts and the product of 128 bits that the compiler calls; and what a program's `main` and a check at run
- * time call in a build without a proof, which isn't told here: the module then stops. */
+/* The part of a C library that a WebAssembly module needs. It has a heap whose blocks are powers of two, and which grows the memory. It
+ * has the two shifts and the product of 128 bits that the compiler calls. And it has the calls of a program's `main` and of a check at
+ * run time in a build without a proof, which print nothing: the module then stops.
+ *
+ * With COSET_BLOCKS defined, the functions of c/wrappers/c/heap.c are the library's heap, over malloc and free of this file. */
 typedef unsigned long size;
 typedef unsigned char byte;
 
@@ -15,13 +17,17 @@ static int power_of(size n) {
   return power;
 }
 
+/* Grows the memory by so many pages, and returns true if that is possible. If the module is lowered to a 32-bit memory, the result of a
+ * refusal is -1 of 32 bits. */
+static int grows(size pages) { return (unsigned)__builtin_wasm_memory_grow(0, pages) != -1u; }
+
 /* Whether so many bytes more are there from the top on: memory grows by half, or else by what is needed. */
 static int has_room(size n) {
   if (!top) top = (byte *)(((size)&__heap_base + HEAD - 1) & -(size)HEAD), end = (byte *)(__builtin_wasm_memory_size(0) * PAGE);
   if (n <= (size)(end - top)) return 1;
   size needed = (n - (size)(end - top) + PAGE - 1) / PAGE, half = (size)end / PAGE / 2;
-  if (needed < half && __builtin_wasm_memory_grow(0, half) != -(size)1) return end += half * PAGE, 1;
-  return __builtin_wasm_memory_grow(0, needed) != -(size)1 ? (end += needed * PAGE, 1) : 0;
+  if (needed < half && grows(half)) return end += half * PAGE, 1;
+  return grows(needed) ? (end += needed * PAGE, 1) : 0;
 }
 
 void *malloc(size n) {
@@ -42,6 +48,7 @@ void free(void *at) {
   *(byte **)at = freed[power], freed[power] = block;
 }
 
+#ifndef COSET_BLOCKS
 struct tried {
   size ok;
   void *at;
@@ -61,6 +68,7 @@ struct tried rattle_realloc(void *at, size kept, size n, size align) {
 }
 
 void rattle_dealloc(void *at) { free(at); }
+#endif
 
 typedef union {
   __int128 all;

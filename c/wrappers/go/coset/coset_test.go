@@ -1,0 +1,179 @@
+package coset
+
+import (
+	"bytes"
+	"errors"
+	"fmt"
+	"runtime"
+	"sync"
+	"testing"
+	"time"
+)
+
+// must returns the bytes, because the call succeeds.
+func must(t *testing.T) func(data []byte, err error) []byte {
+	return func(data []byte, err error) []byte {
+		t.Helper()
+		if err != nil {
+			t.Fatal(err)
+		}
+		return data
+	}
+}
+
+func message(t *testing.T, payload string) []byte {
+	header := must(t)(PutInt(Header, nil, 1, ES256))
+	return must(t)(Make(Sign1+Tagged, header, nil, []byte(payload), make([]byte, 64)))
+}
+
+// token returns a token of two layers, an encrypted one around a signed one. Its ciphertext is the plaintext itself.
+func token(t *testing.T, id byte) []byte {
+	claims := must(t)(PutAll(Claims, nil, []Pair{{1, "as"}, {3, "here"}, {4, int64(2000)}, {7, []byte{id}}}))
+	inner := must(t)(Make(Sign1+Tagged, must(t)(PutInt(Header, nil, 1, ES256)), nil, claims, make([]byte, 64)))
+	iv := must(t)(PutBytes(Header, nil, 5, make([]byte, 12)))
+	return must(t)(Make(Encrypt0+Tagged, must(t)(PutInt(Header, nil, 1, A128GCM)), iv, inner, nil))
+}
+
+var policy = TokenPolicy{Algorithms: []int64{ES256, A128GCM}, Audience: []string{"", "here"}, Types: nil, Now: time.Unix(1000, 0)}
+
+// says accepts each layer, while other goroutines and the garbage collector run.
+var says = OpenerFunc(func(layer *Layer) (*Opened, error) {
+	runtime.Gosched()
+	opened := Opened{Issuer: "as"}
+	if layer.Form == Encrypt0 {
+		opened.Plaintext = append([]byte{}, layer.Proof...)
+	}
+	return &opened, nil
+})
+
+func TestManyGoroutines(t *testing.T) {
+	var group sync.WaitGroup
+	over := make(chan bool)
+	go func() {
+		for {
+			select {
+			case <-over:
+				return
+			default:
+				runtime.GC()
+			}
+		}
+	}()
+	for i := 0; i < 16; i++ {
+		group.Add(1)
+		go func(id byte) {
+			defer group.Done()
+			sealed, plain := token(t, id), fmt.Sprint("payload ", id)
+			signed := message(t, plain)
+			for n := 0; n < 50; n++ {
+				found, err := VerifyToken(sealed, says, policy)
+				if err != nil {
+					t.Error(err)
+					return
+				}
+				claim, err := LabelBytes(Claims, found.Claims, InItem, 7)
+				if err != nil || !bytes.Equal(claim, []byte{id}) || found.Issuer != "as" || len(found.Layers) != 2 {
+					t.Errorf("%d: %x, %v, %v", id, claim, found, err)
+				}
+				yes := VerifierFunc(func(q *Question) bool { return bytes.Contains(q.Input, []byte(plain)) })
+				payload, err := Verify(Sign1+Either, signed, []int64{ES256}, yes, Options{})
+				if err != nil || string(payload) != plain {
+					t.Errorf("%d: %q, %v", id, payload, err)
+				}
+			}
+		}(byte(i))
+	}
+	group.Wait()
+	close(over)
+}
+
+func TestInputThatChangesMeanwhile(t *testing.T) {
+	signed := message(t, "good")
+	payload, err := Verify(Sign1+Either, signed, []int64{ES256}, VerifierFunc(func(q *Question) bool {
+		for _, it := range [][]byte{signed, q.Input, q.Proof} {
+			copy(it, make([]byte, len(it)))
+		}
+		return true
+	}), Options{})
+	if err != nil || string(payload) != "good" {
+		t.Errorf("%q, %v", payload, err)
+	}
+	header, content := must(t)(PutInt(Header, nil, 1, ES256)), []byte("good")
+	detached := must(t)(Make(Sign1, header, nil, nil, make([]byte, 64)))
+	payload, err = Verify(Sign1, detached, []int64{ES256}, VerifierFunc(func(*Question) bool {
+		copy(content, "evil")
+		return true
+	}), Options{Detached: content})
+	if err != nil || string(payload) != "good" {
+		t.Errorf("%q, %v", payload, err)
+	}
+	sealed := token(t, 1)
+	found, err := VerifyToken(sealed, OpenerFunc(func(layer *Layer) (*Opened, error) {
+		opened, err := says(layer)
+		copy(sealed, make([]byte, len(sealed)))
+		copy(layer.Input, make([]byte, len(layer.Input)))
+		return opened, err
+	}), policy)
+	if err != nil || found.Issuer != "as" {
+		t.Error(err)
+	}
+}
+
+func TestRefusals(t *testing.T) {
+	signed, own := message(t, "x"), errors.New("own")
+	yes, no := VerifierFunc(func(*Question) bool { return true }), VerifierFunc(func(*Question) bool { return false })
+	calls := map[Status]func() error{
+		ErrRefused:    func() error { _, err := Verify(Sign1+Either, signed, []int64{ES256}, no, Options{}); return err },
+		ErrNotAllowed: func() error { _, err := Verify(Sign1+Either, signed, nil, yes, Options{}); return err },
+		ErrMisuse:     func() error { _, err := Verify(Sign1+Either, signed, []int64{ES256}, nil, Options{}); return err },
+		ErrExtraneous: func() error { return Check(Header, []byte{0xa0, 0}) },
+		ErrEmpty:      func() error { _, err := Count(KeySet, []byte{0x80}); return err },
+		ErrAbsent:     func() error { _, err := LabelInt(Header, []byte{0xa0}, InItem, 1); return err },
+		ErrType:       func() error { _, err := LabelInt(Claims, []byte{0xa1, 1, 0x60}, InItem, 1); return err },
+		ErrAudience: func() error {
+			claims := must(t)(PutAll(Claims, nil, []Pair{{1, "as"}, {3, "there"}, {4, 2000}}))
+			other := must(t)(Make(Sign1, must(t)(PutInt(Header, nil, 1, ES256)), nil, claims, make([]byte, 64)))
+			_, err := VerifyToken(other, says, policy)
+			return err
+		},
+	}
+	for want, call := range calls {
+		if err := call(); !errors.Is(err, want) {
+			t.Errorf("%v and not %v", err, want)
+		}
+	}
+	var fault *Fault
+	if err := Check(Header, []byte{0xa0, 0}); !errors.As(err, &fault) || fault.Offset != 1 { // the first byte after the item
+		t.Errorf("%v", err)
+	}
+	for _, wrong := range []*Opened{{Issuer: "as"}, {Plaintext: []byte{}, Issuer: "\xff"}} {
+		_, err := VerifyToken(token(t, 1), OpenerFunc(func(*Layer) (*Opened, error) { return wrong, nil }), policy)
+		if err == nil || len(wrong.Plaintext) == 0 && wrong.Plaintext == nil && err != ErrMisuse {
+			t.Errorf("%v", err)
+		}
+	}
+	if _, err := VerifyToken(token(t, 1), OpenerFunc(func(*Layer) (*Opened, error) { return nil, own }), policy); err != own {
+		t.Errorf("%v", err)
+	}
+	_, err := VerifyToken(token(t, 1), OpenerFunc(func(*Layer) (*Opened, error) { return nil, nil }), policy)
+	var refused *InvalidToken
+	if !errors.As(err, &refused) || refused.Reason != ErrRefused || refused.Layer != 0 {
+		t.Errorf("%v", err)
+	}
+}
+
+func TestFractionsOfSeconds(t *testing.T) {
+	claims := must(t)(PutAll(Claims, nil, []Pair{{1, "as"}, {3, "here"}, {4, 2000}, {5, 1000}}))
+	sealed := must(t)(Make(Sign1, must(t)(PutInt(Header, nil, 1, ES256)), nil, claims, make([]byte, 64)))
+	half := int64(500_000_000)
+	for now, want := range map[time.Time]error{
+		time.Unix(999, half): ErrNotYetValid, time.Unix(1000, 0): nil, time.Unix(1000, half): nil, time.Unix(1999, 0): nil,
+		time.Unix(1999, half): ErrExpired, time.Unix(2000, 0): ErrExpired, {}: ErrExpired, // the clock is later
+	} {
+		p := policy
+		p.Now = now
+		if _, err := VerifyToken(sealed, says, p); err != want && !errors.Is(err, want) {
+			t.Errorf("%v: %v and not %v", now, err, want)
+		}
+	}
+}

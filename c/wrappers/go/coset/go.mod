@@ -1,0 +1,3 @@
+module coset
+
+go 1.18

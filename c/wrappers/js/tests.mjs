@@ -1,0 +1,308 @@
+/** Tests of the package for JavaScript (tools/c): promises that interleave, input that changes meanwhile, and answers and arguments
+ * that aren't what they should be. The expected values follow from the calls' comments, or are parts of what the test made. */
+import assert from "node:assert/strict";
+import { readFileSync } from "node:fs";
+import * as coset from "coset-rattle";
+
+const { SIGN1, MAC0, ENCRYPT0, CLAIMS, HEADER, KEY, KEY_SET, ITEM, TAGGED, EITHER, IN_ITEM, PAYLOAD } = coset;
+const NONE = new Uint8Array(), ENCODER = new TextEncoder();
+const ES256 = coset.put(HEADER, NONE, 1, coset.ES256);
+
+/** Returns the first of the errors that the function throws, or its promise. */
+async function thrown(make) {
+  try {
+    await make();
+  } catch (error) {
+    return error;
+  }
+  return assert.fail("nothing is thrown");
+}
+
+function signed(payload, kind = SIGN1 + TAGGED) {
+  return coset.make(kind, ES256, NONE, { content: ENCODER.encode(payload), proof: new Uint8Array(64) });
+}
+
+function text(bytes) {
+  return new TextDecoder().decode(bytes);
+}
+
+/** A promise that is kept from outside. */
+function later() {
+  let keep;
+  const promise = new Promise(done => { keep = done; });
+  return { promise, keep };
+}
+
+function claims(id, more = []) {
+  return coset.putAll(CLAIMS, NONE, [[1, "as"], [4, 2000], [7, Uint8Array.of(id)], ...more]);
+}
+
+/** Returns a token of two layers: an encrypted one around a signed one. Its ciphertext is the plaintext itself. */
+function nested(id) {
+  const inner = coset.make(SIGN1 + TAGGED, ES256, NONE, { content: claims(id), proof: new Uint8Array(64) });
+  const header = coset.put(HEADER, NONE, 1, coset.A128GCM);
+  return coset.make(ENCRYPT0 + TAGGED, header, coset.put(HEADER, NONE, 5, new Uint8Array(12)), { content: inner });
+}
+
+const POLICY = { algorithms: [coset.ES256, coset.A128GCM], now: 1000 };
+
+const tests = {
+  async "verifications that interleave return each its own payload"() {
+    const waits = Array.from({ length: 20 }, later), asked = [];
+    const found = waits.map(({ promise }, i) => coset.verify(SIGN1 + EITHER, signed(`payload ${i}`), { algorithms: [-7] }, async question => {
+      asked.push(text(question.input).includes(`payload ${i}`));
+      await promise;
+      coset.check(SIGN1 + EITHER, signed("another")); // a call of the module in between
+      return i % 3 !== 0;
+    }));
+    waits.reverse().forEach(({ keep }) => keep());
+    const ended = await Promise.allSettled(found);
+    assert.deepEqual(asked, Array(20).fill(true));
+    ended.forEach((it, i) => i % 3 === 0 ? assert.ok(it.reason instanceof coset.Refused) : assert.equal(text(it.value), `payload ${i}`));
+  },
+
+  async "tokens that interleave return each their own claims"() {
+    const waits = Array.from({ length: 12 }, later);
+    const found = waits.map(({ promise }, i) => coset.verifyToken(nested(i), async layer => {
+      await promise;
+      await null;
+      return [layer.form === ENCRYPT0 ? layer.proof : true, "as"];
+    }, POLICY));
+    waits.reverse().forEach(({ keep }) => keep());
+    const tokens = await Promise.all(found);
+    tokens.forEach((token, i) => {
+      assert.deepEqual([...coset.labelBytes(CLAIMS, token.claims, IN_ITEM, 7)], [i]);
+      assert.deepEqual(token.layers.map(it => [it.form, it.issuer]), [[ENCRYPT0, "as"], [SIGN1, "as"]]);
+    });
+  },
+
+  async "input that changes meanwhile doesn't change what is verified"() {
+    const message = signed("good"), wait = later();
+    const found = coset.verify(SIGN1 + EITHER, message, { algorithms: [-7] }, async question => {
+      await wait.promise;
+      question.input.fill(0);
+      question.proof.fill(0);
+      return true;
+    });
+    message.set(ENCODER.encode("evil"), Buffer.from(message).indexOf("good"));
+    wait.keep();
+    assert.equal(text(await found), "good");
+    assert.equal(text(coset.part(SIGN1 + EITHER, message, PAYLOAD)), "evil");
+  },
+
+  async "a detached payload that changes meanwhile is returned as it was"() {
+    const message = coset.make(SIGN1, ES256, NONE, { proof: new Uint8Array(64) }), payload = ENCODER.encode("good"), wait = later();
+    const found = coset.verify(SIGN1, message, { algorithms: [-7], detached: payload }, async () => (await wait.promise, true));
+    payload.fill(0);
+    wait.keep();
+    assert.equal(text(await found), "good");
+  },
+
+  async "a token and a plaintext that change meanwhile are verified as they were"() {
+    const token = nested(1), wait = later();
+    let plaintext;
+    const found = coset.verifyToken(token, async layer => {
+      if (plaintext) plaintext.fill(0);
+      await wait.promise;
+      layer.input.fill(0);
+      if (layer.form === ENCRYPT0) plaintext = layer.proof;
+      return [layer.form === ENCRYPT0 ? plaintext : true, "as"];
+    }, POLICY);
+    token.fill(0);
+    wait.keep();
+    assert.deepEqual([...coset.labelBytes(CLAIMS, (await found).claims, IN_ITEM, 7)], [1]);
+  },
+
+  async "a ciphertext and a plaintext that change meanwhile"() {
+    const message = coset.make(ENCRYPT0, coset.put(HEADER, NONE, 1, 1), NONE, { content: ENCODER.encode("cipher") });
+    const plain = ENCODER.encode("plain"), wait = later();
+    const found = coset.decrypt(ENCRYPT0, message, { algorithms: [1] }, async question => (await wait.promise, text(question.proof) === "cipher" && plain));
+    message.fill(0);
+    wait.keep();
+    const held = await found;
+    plain.fill(0);
+    assert.equal(text(held), "plain");
+    for (const no of [null, undefined, false]) assert.equal((await thrown(() => coset.decrypt(ENCRYPT0, coset.make(ENCRYPT0, coset.put(HEADER, NONE, 1, 1), NONE, { content: plain }), { algorithms: [1] }, () => no))).reason, "REFUSED");
+  },
+
+  async "a text label takes each value"() {
+    const item = coset.put(coset.ITEM, NONE, "a", new coset.Float(1.5));
+    assert.deepEqual(item, Uint8Array.of(0xa1, 0x61, 0x61, 0xf9, 0x3e, 0)); // RFC 8949, appendix A: 1.5 is f93e00
+    assert.equal(coset.floatValue(coset.label(coset.ITEM, item, IN_ITEM, "a")), 1.5);
+    assert.ok(await thrown(() => coset.put(coset.ITEM, NONE, "a", 1.5)) instanceof coset.Misuse);
+  },
+
+  async "only true is a yes"() {
+    for (const answer of [1, "true", {}, [true], new Boolean(true), () => true, null, undefined, false, Promise.resolve(1), new Uint8Array(1)]) {
+      const error = await thrown(() => coset.verify(SIGN1 + EITHER, signed("x"), { algorithms: [-7] }, () => answer));
+      assert.equal(error.reason, "REFUSED");
+    }
+    assert.equal(text(await coset.verify(SIGN1 + EITHER, signed("x"), { algorithms: [-7] }, () => Promise.resolve(true))), "x");
+  },
+
+  async "an error of the caller's function is thrown"() {
+    const own = new Error("own");
+    assert.equal(await thrown(() => coset.verify(SIGN1 + EITHER, signed("x"), { algorithms: [-7] }, () => { throw own; })), own);
+    assert.equal(await thrown(() => coset.verifyToken(nested(1), () => Promise.reject(own), POLICY)), own);
+  },
+
+  async "answers for layers of the wrong type"() {
+    const mac = coset.make(MAC0 + TAGGED, coset.put(HEADER, NONE, 1, 5), NONE, { content: claims(1), proof: new Uint8Array(32) });
+    for (const answer of [1, "true", {}, new Uint8Array(1), [true], [true, "as", 1], [true, ""], [true, 1]]) {
+      assert.equal((await thrown(() => coset.verifyToken(mac, () => answer, { algorithms: [5], now: 1000 }))).reason, "MISUSE");
+    }
+    for (const answer of [true, 1, "plain"]) assert.equal((await thrown(() => coset.verifyToken(nested(1), () => answer, POLICY))).reason, "MISUSE");
+    for (const answer of [null, undefined, false, [false, "as"]]) {
+      const error = await thrown(() => coset.verifyToken(mac, () => answer, { algorithms: [5], now: 1000 }));
+      assert.deepEqual([error.name, error.reason, error.layer], ["InvalidToken", "REFUSED", 0]);
+      assert.equal(error.message, "layer 0 of the token is refused: the signature, the tag or the ciphertext is refused");
+    }
+  },
+
+  async "options that don't exist, and arguments of other types"() {
+    const message = signed("x");
+    const misused = [
+      () => coset.verify(SIGN1 + EITHER, message, { algorithms: [-7], external_aad: NONE }, () => true),
+      () => coset.verifyToken(nested(1), () => true, { ...POLICY, audiences: ["x"] }),
+      () => coset.verifyToken(nested(1), () => true, { ...POLICY, audience: "x" }),
+      () => coset.verifyToken(nested(1), () => true, { ...POLICY, leeway: 0.5 }),
+      () => coset.verifyToken(nested(1), () => true, { ...POLICY, leeway: -1 }),
+      () => coset.verifyToken(nested(1), () => true, { ...POLICY, maxAge: 0 }),
+      () => coset.verifyToken(nested(1), () => true, { ...POLICY, anyAudience: 1 }),
+      () => coset.verifyToken(nested(1), () => true, { ...POLICY, now: new Date() }),
+      () => coset.verifyToken(nested(1), () => true, { ...POLICY, now: NaN }),
+      () => coset.verifyToken(nested(1), true, POLICY),
+      () => coset.verify(SIGN1 + EITHER, message, { algorithms: -7 }, () => true),
+      () => coset.verify(SIGN1 + EITHER, message, { algorithms: [-7] }),
+      () => coset.verify(ENCRYPT0, message, { algorithms: [-7] }, () => true),
+      () => coset.structure(SIGN1 + EITHER, message, { detached: NONE }),
+      () => coset.structure(SIGN1 + EITHER, message, null),
+      () => coset.check(0, message),
+      () => coset.check("1", message),
+      () => coset.check(SIGN1 + 2 ** 32, message),
+      () => coset.check(SIGN1, "84"),
+      () => coset.check(SIGN1, [0x84]),
+      () => coset.check(SIGN1, null),
+      () => coset.part(SIGN1 + EITHER, message, 9),
+      () => coset.member(KEY_SET, message, -1),
+      () => coset.member(KEY_SET, message, 0.5),
+      () => coset.put(HEADER, NONE, 1, true),
+      () => coset.put(HEADER, NONE, 1, 0.5),
+      () => coset.put(HEADER, NONE, 2 ** 53, 1),
+      () => coset.put(HEADER, NONE, 1n << 63n, 1),
+      () => coset.put(CLAIMS, NONE, 1, "\ud800"),
+      () => coset.putAll(CLAIMS, NONE, { 1: "a" }),
+      () => coset.putAll(CLAIMS, NONE, [[true, "a"]]),
+    ];
+    for (const make of misused) assert.ok(await thrown(make) instanceof coset.Misuse, String(make));
+  },
+
+  async "bytes come in views and buffers"() {
+    const held = new Uint8Array(20);
+    held.set([0xa1, 1, 0x26], 5);
+    const shared = new Uint8Array(new SharedArrayBuffer(3));
+    shared.set([0xa1, 1, 0x26]);
+    const forms = [held.subarray(5, 8), new DataView(held.buffer, 5, 3), held.slice(5, 8).buffer, Buffer.from(held.subarray(5, 8)), shared, shared.buffer];
+    for (const form of forms) assert.equal(coset.labelInt(HEADER, form, IN_ITEM, 1), -7);
+  },
+
+  async "integers are numbers if they are exact"() {
+    for (const [number, found] of [[2 ** 53 - 1, 2 ** 53 - 1], [1n << 53n, 1n << 53n], [-(1n << 63n), -(1n << 63n)], [5n, 5]]) {
+      const item = coset.put(CLAIMS, NONE, 4, number);
+      assert.equal(coset.labelInt(CLAIMS, item, IN_ITEM, 4), found);
+    }
+  },
+
+  async "texts keep a byte order mark"() {
+    const token = coset.make(SIGN1 + TAGGED, ES256, NONE, { content: coset.putAll(CLAIMS, NONE, new Map([[1, "\ufeffas"], [4, 2000]])), proof: new Uint8Array(64) });
+    assert.equal((await coset.verifyToken(token, () => [true, "\ufeffas"], POLICY)).issuer, "\ufeffas");
+    assert.equal((await thrown(() => coset.verifyToken(token, () => [true, "as"], POLICY))).reason, "ISSUER");
+  },
+
+  async "a token is valid at fractions between its first and its last second"() {
+    const token = coset.make(SIGN1 + TAGGED, ES256, NONE, { content: claims(1, [[5, 1000]]), proof: new Uint8Array(64) });
+    const reason = async now => coset.verifyToken(token, () => [true, "as"], { ...POLICY, now }).then(() => "OK", error => error.reason);
+    const told = await Promise.all([999.9, 1000, 1000.5, 1999, 1999.1, 2000, 1500n].map(reason));
+    assert.deepEqual(told, ["NOT_YET_VALID", "OK", "OK", "OK", "EXPIRED", "EXPIRED", "OK"]);
+    assert.equal(await reason(null), "EXPIRED"); // the clock is later
+  },
+
+  async "faults have their offset, and refusals their number"() {
+    const fault = await thrown(() => coset.check(HEADER, Uint8Array.of(0xa0, 0)));
+    assert.deepEqual([fault.name, fault.reason, fault.offset], ["Fault", "EXTRANEOUS", 1]); // the first byte after the item
+    const refusal = await thrown(() => coset.verifyToken(nested(1), () => null, { algorithms: [-7], now: 1000 }));
+    assert.deepEqual([refusal.reason, refusal.layer, refusal.number], ["NOT_ALLOWED", 0, 1]);
+    assert.ok(refusal instanceof coset.CosetError && refusal instanceof Error);
+  },
+
+  async "a ring names its issuers, and skips keys that can't be read"() {
+    const key = coset.putAll(KEY, NONE, [[1, 4], [3, 5], [-1, new Uint8Array(32)]]), other = Uint8Array.of(0xa1, 1, 0x18, 0x63);
+    const set = coset.add(KEY_SET, NONE, key), both = Uint8Array.of(0x82, ...other, ...key);
+    assert.deepEqual(coset.readableKeys(both), [key]);
+    assert.ok(await thrown(() => coset.readableKeys(key)) instanceof coset.Fault);
+    const token = coset.make(MAC0 + TAGGED, coset.put(HEADER, NONE, 1, 5), NONE, { content: claims(1), proof: new Uint8Array(32) });
+    const says = issuers => coset.verifyToken(token, new coset.KeyRing(issuers, { verify: async () => true }), { algorithms: [5], now: 1000 });
+    for (const issuers of [{ as: both }, new Map([["as", set]]), [["as", set]]]) assert.equal((await says(issuers)).issuer, "as");
+    assert.equal((await thrown(() => says({ hub: set }))).reason, "ISSUER");
+    assert.equal((await thrown(() => says([[null, set]]))).reason, "ISSUER");
+    assert.equal((await thrown(() => says({}))).reason, "UNFIT");
+    assert.ok(await thrown(() => says([["", set]])) instanceof coset.Misuse);
+  },
+
+  async "a large input leaves the module usable"() {
+    const large = coset.put(CLAIMS, NONE, -70000, new Uint8Array(48 << 20)), before = coset.version();
+    assert.equal(coset.labelBytes(CLAIMS, large, IN_ITEM, -70000).length, 48 << 20);
+    assert.equal(coset.version(), before);
+  },
+
+  async "memory that can't grow is refused"() {
+    const { exports } = await WebAssembly.instantiate(await WebAssembly.compile(readFileSync(new URL(import.meta.resolve("coset-rattle/coset.wasm")))));
+    assert.notEqual(exports.malloc(1n << 20n), 0n);
+    for (let pages = 1 << 15; pages; pages >>= 1) {
+      try {
+        for (;;) exports.memory.grow(pages);
+      } catch (error) {
+        assert.ok(error instanceof RangeError);
+      }
+    }
+    assert.equal(exports.malloc(1n << 30n), 0n);
+    assert.equal(exports.malloc(1n << 45n), 0n);
+  },
+
+  async "the arguments are wiped from the module's memory"() {
+    const memories = [], { Instance } = WebAssembly, secret = ENCODER.encode("a secret of the caller 0123456789");
+    const key = coset.putAll(KEY, NONE, [[1, 4], [-1, secret]]);
+    WebAssembly.Instance = function (...given) {
+      const made = new Instance(...given);
+      memories.push(made.exports.memory);
+      return made;
+    };
+    coset.put(CLAIMS, NONE, -70000, new Uint8Array(64 << 20)); // the module is made anew after it
+    coset.write(KEY, key);
+    coset.member(KEY_SET, coset.add(KEY_SET, NONE, key), 0);
+    WebAssembly.Instance = Instance;
+    assert.equal(memories.length, 1);
+    const [memory] = memories.map(it => Buffer.from(it.buffer));
+    const stack = 4 << 20; // the stack isn't wiped
+    assert.equal(memory.indexOf(secret, stack), -1);
+  },
+
+  async "an item of any kind is at its place"() {
+    const array = Uint8Array.of(0x82, 0x18, 0x2a, 0x61, 0x78);
+    assert.deepEqual([coset.memberSpan(ITEM, array, 0), coset.itemSpan(array, 3)], [{ start: 1, end: 3 }, { start: 3, end: 5 }]);
+    assert.equal(coset.integer(array.subarray(1, 3)), 42);
+    assert.ok(await thrown(() => coset.itemSpan(array, 6)) instanceof coset.Absent);
+  },
+};
+
+let wrong = 0;
+for (const [name, test] of Object.entries(tests)) {
+  try {
+    await test();
+  } catch (error) {
+    wrong++;
+    console.error(`${name}: ${error.stack}`);
+  }
+}
+console.log(`JavaScript's tests ${Object.keys(tests).length}`);
+process.exitCode = wrong ? 1 : 0;

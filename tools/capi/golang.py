@@ -1,0 +1,48 @@
+"""Makes the calls from Go, and runs the tests of its package, if the command `go` is installed."""
+import os
+import shutil
+import subprocess
+import tempfile
+
+from capi import accepting, calling, install
+from capi.building import WRAPPERS, run
+from capi.wasm import with_own_ciphers
+from sources import read
+
+
+def environment(prefix, folder):
+    """Returns the variables for a build against an installed library, without a network."""
+    return {**os.environ, "PKG_CONFIG_PATH": f"{prefix}/lib/pkgconfig", "CGO_LDFLAGS": f"-Wl,-rpath,{prefix}/lib", "GOFLAGS": "-mod=mod",
+            "GOPROXY": "off", "GOTOOLCHAIN": "local", "GOCACHE": f"{folder}/cache", "GOPATH": f"{folder}/path"}
+
+
+def built(prefix, folder, env):
+    """Builds the program that makes calls, over the installed package. Returns its path."""
+    shutil.copytree(f"{WRAPPERS}/go/calls", f"{folder}/calls")
+    run(["go", "mod", "edit", f"-replace=coset={prefix}/share/coset/go"], cwd=f"{folder}/calls", env=env)
+    run(["go", "build", "-o", f"{folder}/calls_go", "."], cwd=f"{folder}/calls", env=env)
+    return f"{folder}/calls_go"
+
+
+def tested(prefix, folder, env, check):
+    """Runs the tests of the package. Returns a line."""
+    shutil.copytree(f"{prefix}/share/coset/go", f"{folder}/tested")
+    shutil.copy(f"{WRAPPERS}/go/coset/coset_test.go", f"{folder}/tested")
+    ran = subprocess.run(["go", "test", "."], cwd=f"{folder}/tested", env=env, capture_output=True, text=True, check=False)
+    check(ran.returncode == 0, f"coset_test.go: {ran.stdout[-2000:]}{ran.stderr[-1000:]}")
+    return f"Go's tests {read('c', 'wrappers', 'go', 'coset', 'coset_test.go').count('func Test')}"
+
+
+def tried(given, library, calls, wrong):
+    """Installs the library of a folder and the package, and makes the calls from Go. Returns the lines to print."""
+    lacks = next((it for it in ("go", "pkg-config") if not shutil.which(it)), None)
+    if lacks:
+        return [f"there is no {lacks} for Go"]
+    calls = [*calls, *accepting.calls(), *with_own_ciphers("ecdsa")]
+    with tempfile.TemporaryDirectory() as prefix, tempfile.TemporaryDirectory() as folder:
+        install.install(library, prefix, given.quick)
+        env = environment(prefix, folder)
+        program = built(prefix, folder, env)
+        calling.from_wrapper("Go", [program], calls, wrong.check)
+        calling.texts(given.quick, [([f"{library}/calls_c"], {}), ([program], {})], wrong.check)
+        return [f"from Go {len(calls)}", tested(prefix, folder, env, wrong.check)]
