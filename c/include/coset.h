@@ -111,7 +111,7 @@ enum {
   COSET_KEY = 10,      /* COSE_Key (section 7) */
   COSET_KEY_SET = 11,  /* COSE_KeySet (section 7) */
   COSET_CLAIMS = 12,   /* the claims of a web token (RFC 8392, section 3) */
-  COSET_ITEM = 13,     /* any data item of CBOR, such as the value of a label; labels in it may repeat */
+  COSET_ITEM = 13,     /* any data item of CBOR, such as the value of a label; one that is read may repeat labels */
   COSET_KDF_CONTEXT = 14, /* COSE_KDF_Context (RFC 8152, section 11.2), an array: read its elements and make it as a
                              COSET_ITEM */
   COSET_TAGGED = 0x100, /* added to one of the first six kinds, a message: it is under its tag */
@@ -510,9 +510,8 @@ coset_status coset_key_fits(const uint8_t *key, size_t key_len, uint32_t form, i
 
 /* Write the header, key, claims set or COSET_ITEM `in`, which may be empty, with one more pair at its end. The label is
  * an integer, or a text in the last call. The value is an encoded item, the content of a byte string, the UTF-8 bytes of
- * a text, or an integer. The status is COSET_ABSENT if `in` is an item that isn't a map. It is COSET_DUPLICATE if the
- * label has a value already. But labels of a COSET_ITEM may repeat, and aren't compared. Give a new key its type, label
- * 1, first. */
+ * a text, or an integer. The status is COSET_ABSENT if `in` is an item that isn't a map. It is COSET_DUPLICATE if a
+ * label is twice in the new map. Give a new key its type, label 1, first. */
 COSET_CALL(9)
 coset_status coset_put(uint32_t kind, const uint8_t *in, size_t in_len, int64_t label, const uint8_t *value, size_t value_len,
                        uint8_t *out, size_t cap, size_t *len);

@@ -1,4 +1,4 @@
-"""The calls of coset_items.h, and those that put a float into a map. Python's module `struct` decodes the floats."""
+"""The calls of coset_items.h, those that put a float into a map, and those that put a label into a map of any pairs. Python's module `struct` decodes the floats."""
 import math
 import struct
 
@@ -62,8 +62,24 @@ def refused():
     yield ("map_spans", 9, b"\xa2\x04\x41\1\x04\x41\1", [], 8, None)
 
 
+def labels_once():
+    """Yields calls that add pairs to a map: the status is 8 if a label is twice in the new map."""
+    many = ",".join(f"i{number}=i0" for number in range(20))
+    given = ((b"\xa1\3\1", "i3=i2"), (b"\xa1\x18\3\1", "i3=i2"), (b"\xa2\3\1\3\2", "i4=i5"), (b"", "i1=i1,i1=i1"), (b"", "t61=i1,i1=i1,t61=i2"),
+             (b"\xa1\x7f\x61a\xff\1", "t61=i2"), (b"", f"{many},i7=i1"), (b"", f"{many},t=i1,t=i1"), (b"\xa1\x20\1", "i-1=i2"))
+    for data, pairs in given:
+        yield ("put_all", 13, data, [pairs], 8, None)
+    yield ("put", 13, b"\xa1\3\1", [3, b"\2"], 8, None)
+    yield ("put_text_label", 13, b"\xa1\x61a\1", [b"a", b"\2"], 8, None)
+    # Other keys are no labels: byte strings, arrays and simple values.
+    yield ("put_text_label", 13, b"\xa3\x41a\1\x41a\1\x80\1", [b"a", b"\2"], OK, b"\xa4\x41a\1\x41a\1\x80\1\x61a\2")
+    yield ("put_all", 13, b"\xa1\x1b" + b"\xff" * 8 + b"\1", ["i-1=i2"], OK, b"\xa2\x1b" + b"\xff" * 8 + b"\1\x20\2")
+    yield ("put_all", 13, b"", [many], OK, b"\xb4" + b"".join(bytes([number]) + b"\0" for number in range(20)))
+
+
 def calls():
     """Yields all calls of this file."""
+    yield from labels_once()
     for value, encoding in EXAMPLES:
         data = bytes.fromhex(encoding)
         told = "nan" if value == "nan" else struct.pack(">d", float(value)).hex()

@@ -1,5 +1,6 @@
 pub mod Making
 pub mod Lists
+pub mod Naming
 pub mod Agreeing
 pub mod Keeping
 pub mod Putting

@@ -12,6 +12,7 @@ use Rattle.ffi_query.specs.declared.kind.Kind.TheVariants.{Header}
 use Rattle.ffi_query.specs.Results.{WritesFound}
 use Rattle.ffi_query.specs.Kinds.{Checks}
 use Rattle.ffi_make.specs.StructuresMade.{ChecksHeader}
+use Rattle.ffi_make.specs.LabelsMade.{MakesMap, WritesMap}
 use Rattle.ffi_make.specs.Makes.{FindsText, Makes, Writes, WritesMade}
 
 -- Writing a text that was found.
@@ -36,6 +37,14 @@ pub made_written :
     → Makes k o old new r
 made_written k items_of o old new (Ok x) r is m w = subst (λ p. Makes k p old new r) is w
 made_written k items_of o old new (Err e) r is m w = subst (Makes k o old new) (sym w.0) ((λ n. absurd (n m)), w.1)
+
+-- Writing a map that was made.
+pub map_written :
+    {V : Type 0} (k : kinds.Kind) (items_of : Option V → Option Item) (o : Option Item) (old new : List ℕ) (made : Result (Option V) CoseError)
+    (r : Result ℕ refusals.Refusal) → IfOk made (λ x. items_of x ≡ o) → IfErr made (λ e. e ≡ OutOfMemory) → WritesMap k items_of made old new r
+    → MakesMap k o old new r
+map_written k items_of o old new (Ok x) r is m w = subst (λ p. MakesMap k p old new r) is w
+map_written k items_of o old new (Err e) r is m w = subst (MakesMap k o old new) (sym w.0) ((λ n. absurd (n m)), w.1)
 
 -- A search that ends with an error.
 pub refused :

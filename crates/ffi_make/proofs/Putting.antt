@@ -1,6 +1,6 @@
 -- Pairs added to a map, one after another.
 use Rattle.std.proofs.Common.{◌≡◌, ◌∙◌, ◌++◌, ◌+◌, ◌<◌, ◌⊎◌, ℕ, zero, suc, List, [], ◌∷◌, length}
-use Rattle.std.proofs.Common.{get_or, take, map, Option, Some, None, ap, sym, subst, refl, inl, inr, arith}
+use Rattle.std.proofs.Common.{get_or, take, Option, Some, None, ap, sym, subst, refl, inl, inr, arith}
 use Rattle.std.proofs.lemmas.List.{map-append, take_more}
 use Rattle.std.specs.Prelude.{option_and_then}
 use Rattle.coset.specs.CoseError.{CoseError}

@@ -1,5 +1,6 @@
 pub mod Makes
 pub mod Given
+pub mod LabelsMade
 pub mod PairsMade
 pub mod Messages
 pub mod Members

@@ -6,7 +6,7 @@ use Rattle.coset.specs.LabelData.{LabelView}
 use Rattle.ffi_query.specs.declared.kind.Kind as kinds
 use Rattle.ffi_query.specs.declared.refusal.Refusal as refusals
 use Rattle.ffi_make.specs.Given.{AnyFaults, EntryFaults, EntryView, IsAny, IsEntry, IsKey, KeyFaults}
-use Rattle.ffi_make.specs.Makes.{MakesOf}
+use Rattle.ffi_make.specs.LabelsMade.{MakesMapOf}
 
 -- One list of pairs after the other.
 abbrev pub pairs_and : Pairs → Pairs → Pairs
@@ -28,7 +28,7 @@ PairFaults b l e f = AnyFaults b f ⊎ (KeyFaults l f ⊎ EntryFaults e f)
 
 -- The result of `put`: a map of kind k with this pair added.
 abbrev pub PutsPair : kinds.Kind → List ℕ → LabelView → EntryView → List ℕ → List ℕ → Result ℕ refusals.Refusal → Type 0
-PutsPair k b l e old new r = MakesOf k (AreGiven b l e) (PairFaults b l e) (λ g. with_pair g.1.0 g.1.1 g.0) old new r
+PutsPair k b l e old new r = MakesMapOf k (AreGiven b l e) (PairFaults b l e) (λ g. with_pair g.1.0 g.1.1 g.0) old new r
 
 -- ---- many pairs
 
@@ -54,4 +54,4 @@ AreAllGiven b xs g = IsAny (dict no_pairs) b g.0 × ArePairs xs g.1
 
 -- The result of `put_all`: a map of kind k with these pairs added.
 abbrev pub PutsPairs : kinds.Kind → List ℕ → List (LabelView × EntryView) → List ℕ → List ℕ → Result ℕ refusals.Refusal → Type 0
-PutsPairs k b xs old new r = MakesOf k (AreAllGiven b xs) (λ f. AnyFaults b f ⊎ SomePairFaults xs f) (λ g. with_pairs g.1 g.0) old new r
+PutsPairs k b xs old new r = MakesMapOf k (AreAllGiven b xs) (λ f. AnyFaults b f ⊎ SomePairFaults xs f) (λ g. with_pairs g.1 g.0) old new r

@@ -16,6 +16,7 @@
 
 mod given;
 mod key;
+mod labels;
 pub mod laws;
 mod list;
 mod made;

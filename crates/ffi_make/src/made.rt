@@ -15,7 +15,7 @@ use std::alloc::Global;
 /// # Errors
 /// - The reason why the item isn't of the kind.
 /// - `OutOfMemory` if an allocation fails.
-fn encoded(alloc: Global, kind: Kind, made: Option<Value>) -> Result<Option<Vec<u8>>>
+pub(crate) fn encoded(alloc: Global, kind: Kind, made: Option<Value>) -> Result<Option<Vec<u8>>>
     ensures { let o = option_map value_item made in
         FindsText (λ b. b.items) (IsMade kind o) (o ≡ None) (IsMisfit kind o) result }
 {

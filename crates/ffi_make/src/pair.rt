@@ -8,7 +8,7 @@ ghost use Rattle.ffi_make.specs.Given.{entry_view};
 ghost use Rattle.ffi_make.specs.PairsMade.{PutsPair, with_pair};
 
 use crate::given::{Entry, entry_value, key_value, value_or};
-use crate::made::write_made;
+use crate::labels::write_map;
 use coset::Result;
 use coset::cbor::value::Value;
 use ffi_query::{Kind, Label, Refusal};
@@ -32,8 +32,8 @@ pub(crate) fn with_pair(map: Value, key: Value, value: Value) -> Result<Option<V
     }
 }
 
-/// Adds a pair to a header, a key or a claims set, writes the new map to the front of `out`, and
-/// returns its length.
+/// Adds a pair to a header, a key, a claims set or any map, writes the new map to the front of
+/// `out`, and returns its length.
 ///
 /// The pair follows those that the map has. The map is written in its shortest encoding. If `map`
 /// is empty, it is a new map. A new key must begin with its type, label 1, because a key without a
@@ -43,8 +43,8 @@ pub(crate) fn with_pair(map: Value, key: Value, value: Value) -> Result<Option<V
 /// - `Short` with the length needed, if `out` is too small.
 /// - `Absent` if `map` isn't a map.
 /// - `Cose` if `map` or the value's encoding isn't one item, or a text isn't UTF-8.
-/// - `Cose` if the new map isn't of the kind, for example because the label has a value already, or
-///   doesn't take this one.
+/// - `Cose` with `DuplicateMapKey` if a label is twice in the new map.
+/// - `Cose` if the new map isn't of the kind, for example because the label doesn't take the value.
 /// - `Cose` if an allocation fails.
 ///
 /// `out` is then unchanged.
@@ -68,7 +68,7 @@ pub fn put(
         Err(error) => return Err(Refusal::Cose(error)),
     };
     match entry_value(alloc, entry) {
-        Ok(value) => write_made(alloc, kind, with_pair(map, key, value), out),
+        Ok(value) => write_map(alloc, kind, with_pair(map, key, value), out),
         Err(error) => Err(Refusal::Cose(error)),
     }
 }

@@ -9,7 +9,7 @@ ghost use Rattle.ffi_make.specs.Given.{EntryFaults, IsEntry, IsKey, KeyFaults, e
 ghost use Rattle.ffi_make.specs.PairsMade.{ArePairs, PutsPairs, SomePairFaults, with_pair, with_pairs};
 
 use crate::given::{Entry, entry_value, key_value, value_or};
-use crate::made::write_made;
+use crate::labels::write_map;
 use crate::pair::with_pair;
 use coset::Result;
 use coset::cbor::value::Value;
@@ -59,8 +59,8 @@ fn with_all(alloc: Global, map: Value, pairs: &[(Label<'_>, Entry<'_>)]) -> Resu
     Ok(made)
 }
 
-/// Adds pairs to a header, a key or a claims set, writes the new map to the front of `out`, and
-/// returns its length.
+/// Adds pairs to a header, a key, a claims set or any map, writes the new map to the front of
+/// `out`, and returns its length.
 ///
 /// The result is that of [`put`](crate::put) called for each pair in this order. But the bytes are
 /// read once, and the new map is checked and written once, with all pairs. The pairs follow those
@@ -71,7 +71,8 @@ fn with_all(alloc: Global, map: Value, pairs: &[(Label<'_>, Entry<'_>)]) -> Resu
 /// - `Short` with the length needed, if `out` is too small.
 /// - `Absent` if there are pairs, and `map` is an item that isn't a map.
 /// - `Cose` if `map` or a value's encoding isn't one item, or a text isn't UTF-8.
-/// - `Cose` if the new map isn't of the kind, for example because a label has two values.
+/// - `Cose` with `DuplicateMapKey` if a label is twice in the new map.
+/// - `Cose` if the new map isn't of the kind.
 /// - `Cose` if an allocation fails.
 ///
 /// `out` is then unchanged.
@@ -89,7 +90,7 @@ pub fn put_all(
         Err(error) => return Err(Refusal::Cose(error)),
     };
     match with_all(alloc, map, pairs) {
-        Ok(made) => write_made(alloc, kind, Ok(made), out),
+        Ok(made) => write_map(alloc, kind, Ok(made), out),
         Err(error) => Err(Refusal::Cose(error)),
     }
 }

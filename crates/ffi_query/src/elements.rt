@@ -147,8 +147,8 @@ fn label_located(
     }
 }
 
-/// Returns the reason why a value has no place in a protected header whose byte string is in chunks.
-/// It is `WrongType` if the header has the label, `Absent` if not, or `Cose` with `OutOfMemory` if
+/// Returns the reason why a value has no place in a protected header that is in chunks. It is
+/// `WrongType` if the header has the label, `Absent` if not, or `Cose` with `OutOfMemory` if
 /// an allocation fails.
 fn refused_in_chunks(
     alloc: Global,

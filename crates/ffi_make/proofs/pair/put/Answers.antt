@@ -5,7 +5,7 @@ use Rattle.coset_value.specs.declared.value.Value.{Map}
 use Rattle.coset_cbor.proofs.Kept.{value_item-Map}
 use Rattle.ffi_make.specs.Given.{IsAny}
 use Rattle.ffi_make.specs.PairsMade.{with_pair}
-use Rattle.ffi_make.proofs.Making.{made_written}
+use Rattle.ffi_make.proofs.Making.{map_written}
 use Rattle.ffi_make.proofs.pair.put.Goals as goal
 
 pub returns-in-Ok-entry_value : goal.returns-in-Ok-entry_value
@@ -18,6 +18,6 @@ returns-in-Ok-entry_value c =
     inl (
       (m, (key, v)),
       (subst (λ w. IsAny w c.args.map.now m) none c.in-Ok.ensures, (c.in-Ok-key_value.ensures, c.in-Ok-entry_value.ensures)),
-      made_written k (option_map value_item) (with_pair key v m) c.args.out.now c.write_made.new.out c.with_pair.result c.write_made.result
-          c.with_pair.ensures.value c.with_pair.ensures.memory c.write_made.ensures,
+      map_written k (option_map value_item) (with_pair key v m) c.args.out.now c.write_map.new.out c.with_pair.result c.write_map.result
+          c.with_pair.ensures.value c.with_pair.ensures.memory c.write_map.ensures,
     )

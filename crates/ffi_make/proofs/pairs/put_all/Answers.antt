@@ -4,7 +4,7 @@ use Rattle.coset.specs.View.{value_pairs, value_item}
 use Rattle.coset_value.specs.declared.value.Value.{Map}
 use Rattle.coset_cbor.proofs.Kept.{value_item-Map}
 use Rattle.ffi_make.specs.Given.{IsAny}
-use Rattle.ffi_make.specs.Makes.{Makes}
+use Rattle.ffi_make.specs.LabelsMade.{MakesMap}
 use Rattle.ffi_make.proofs.pairs.put_all.Goals as goal
 
 pub returns-in-Ok-with_all : goal.returns-in-Ok-with_all
@@ -15,5 +15,5 @@ returns-in-Ok-with_all c =
     inl (
       (m, made.0),
       (subst (λ w. IsAny w c.args.map.now m) none c.in-Ok.ensures, made.1),
-      subst (λ o. Makes c.args.kind o c.args.out.now c.write_made.new.out c.write_made.result) made.2 c.write_made.ensures,
+      subst (λ o. MakesMap c.args.kind o c.args.out.now c.write_map.new.out c.write_map.result) made.2 c.write_map.ensures,
     )

@@ -14,7 +14,8 @@ returns c =
     let d = option_copied c.args.detached in
     let once = sym c.is_given_twice.ensures ∙ c.if-is_given_twice.false in
     let v = pull_item c.in-Ok.item in
-    let found = found_once (λ b. b.items) (is_given_twice k d v ≡ false) (IsStructure k i aad d v) c.find_structure.result once c.find_structure.ensures.found in
+    let found = found_once (λ b. b.items) (is_given_twice k d v ≡ false) (IsStructure k i aad d v) c.find_structure.result once
+    c.find_structure.ensures.found in
     answered_or (λ b. b.items) k c.args.bytes.now c.args.out.now c.write_found.new.out (IsStructureOnce k i aad d) (HasNoStructure k i aad d)
     v c.find_structure.result c.write_found.result (λ none. (once, λ t s. none t (once, s))) c.in-Ok.ensures found c.find_structure.ensures.memory
     c.write_found.ensures
