@@ -24,7 +24,7 @@ STEPS, BYTES = 32, 32  # as many levels are indented, and as many digits are in 
 SCRIPT = """
 globalThis.bytesOf = text => Uint8Array.from(atob(text), it => it.charCodeAt(0));
 globalThis.asked = async (text, kind, form, now) => {
-  const told = await look(bytesOf(text), kind, form, now === null ? null : BigInt(now), NO_BYTES);
+  const told = await look(bytesOf(text), kind, form, now ?? NaN, NO_BYTES);
   return [told.status, told.text ? decoder.decode(told.text) : ""];
 };
 globalThis.shownOf = async (text, kind, now) => {
@@ -40,7 +40,7 @@ globalThis.shownOf = async (text, kind, now) => {
 };
 globalThis.rows_notes = () => [...at("notes").children].map(it => it.children[0].textContent + ": " + it.children[1].textContent);
 globalThis.hashOf = async (text, kind, form) => {
-  const begun = performance.now(), told = await look(bytesOf(text), kind, form, null, NO_BYTES), took = performance.now() - begun;
+  const begun = performance.now(), told = await look(bytesOf(text), kind, form, NaN, NO_BYTES), took = performance.now() - begun;
   const hash = told.text ? await crypto.subtle.digest("SHA-256", told.text) : new ArrayBuffer(0);
   return [told.status, [...new Uint8Array(hash)].map(it => it.toString(16).padStart(2, "0")).join(""), took];
 };

@@ -24,8 +24,7 @@ function button(text, action) {
 
 // ---- The module, in a worker: one look at a time, and of those that wait the last one alone
 
-const worker = new Worker(URL.createObjectURL(new Blob([at("engine").textContent], { type: "text/javascript" })));
-let isReady = false, waiting = null, asking = Promise.resolve();
+let worker = null, isReady = false, waiting = null, asking = Promise.resolve();
 
 function answer() {
   return new Promise((done, failed) => {
@@ -38,7 +37,7 @@ function answer() {
 function look(...asked) {
   const next = asking.then(() => {
     const told = answer();
-    worker.postMessage({ asked });
+    worker.postMessage({ asked: ["look", ...asked] });
     return told;
   });
   asking = next.catch(() => {});
@@ -57,7 +56,7 @@ function given() {
   at("date").textContent = moment === "" ? "" : isMoment ? dated(Number(moment)) : "no whole number of seconds";
   at("aad-said").textContent = isHex ? "" : "not hexadecimal: taken as empty";
   const aad = isHex ? Uint8Array.from(digits.match(/../g) ?? [], it => parseInt(it, 16)) : NO_BYTES;
-  return [file ? file.bytes : encoder.encode(at("input").value), Number(at("kind").value), ROWS, isMoment ? BigInt(moment) : null, aad];
+  return [file ? file.bytes : encoder.encode(at("input").value), Number(at("kind").value), ROWS, isMoment ? Number(moment) : NaN, aad];
 }
 
 function dated(seconds) {
@@ -187,7 +186,6 @@ async function show() {
   try {
     const { status, text } = await look(...asked);
     if (mine !== waiting) return;
-    if (status === 2) throw new Error("memory ran out");
     put(status, parsed(new Uint8Array(text)));
   } catch (error) {
     if (mine === waiting) clearResult(), say("No answer", "refused", error.message);
@@ -293,6 +291,8 @@ function listen() {
 async function start() {
   listen();
   try {
+    if (!globalThis.DecompressionStream) throw new Error("it has no DecompressionStream");
+    worker = new Worker(URL.createObjectURL(new Blob([at("engine").textContent], { type: "text/javascript" })));
     const module = Uint8Array.from(atob(at("module").textContent), it => it.charCodeAt(0)), told = answer();
     worker.postMessage({ module }, [module.buffer]);
     await told;
@@ -300,7 +300,7 @@ async function start() {
     clearResult();
     await (globalThis.showing = show());
   } catch (error) {
-    say("This browser can't run it", "refused", `it needs WebAssembly with 64-bit memory, as Chromium 133 and Firefox 134 have it (${error.message})`);
+    say("This browser can't run it", "refused", error.message);
   }
   globalThis.ready = performance.now();
 }
