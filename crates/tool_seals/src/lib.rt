@@ -42,6 +42,7 @@
 mod countersigned;
 mod keys;
 mod message;
+mod own;
 mod seal;
 mod seals;
 mod text;

@@ -1,5 +1,6 @@
 //! Messages, read by a form, by their tag, or by what they fit.
 
+use crate::countersigned::Target;
 use coset::cbor::head::{MajorType, read_head};
 use coset::{
     CoseEncrypt, CoseEncrypt0, CoseError, CoseMac, CoseMac0, CoseSign, CoseSign1, Result,
@@ -30,6 +31,60 @@ pub(crate) enum Message {
     Sign(CoseSign),
     Mac(CoseMac),
     Encrypt(CoseEncrypt),
+}
+
+/// Returns the bytes of a content, or `None` if it is detached.
+fn bytes_of(content: &Option<Vec<u8>>) -> Option<&[u8]> {
+    match content {
+        Some(bytes) => Some(bytes),
+        None => None,
+    }
+}
+
+impl Message {
+    /// Returns the parts of the message that countersignatures cover.
+    pub(crate) fn target(&self) -> Target<'_> {
+        let (protected, unprotected, content, other) = match self {
+            Message::Sign1(message) => {
+                let other: &[u8] = &message.signature;
+                (&message.protected, &message.unprotected, &message.payload, Some(other))
+            }
+            Message::Mac0(message) => {
+                let other: &[u8] = &message.tag;
+                (&message.protected, &message.unprotected, &message.payload, Some(other))
+            }
+            Message::Mac(message) => {
+                let other: &[u8] = &message.tag;
+                (&message.protected, &message.unprotected, &message.payload, Some(other))
+            }
+            Message::Sign(message) => {
+                (&message.protected, &message.unprotected, &message.payload, None)
+            }
+            Message::Encrypt0(message) => {
+                (&message.protected, &message.unprotected, &message.ciphertext, None)
+            }
+            Message::Encrypt(message) => {
+                (&message.protected, &message.unprotected, &message.ciphertext, None)
+            }
+        };
+        Target {
+            protected,
+            unprotected,
+            content: bytes_of(content),
+            other,
+        }
+    }
+
+    /// Returns the payload. Returns `None` if it is detached or encrypted.
+    pub(crate) fn into_payload(self) -> Option<Vec<u8>> {
+        match self {
+            Message::Sign1(message) => message.payload,
+            Message::Mac0(message) => message.payload,
+            Message::Sign(message) => message.payload,
+            Message::Mac(message) => message.payload,
+            Message::Encrypt0(_) | Message::Encrypt(_) => None,
+        }
+    }
 }
 
 /// Returns the form that a tag names (RFC 8152, table 1).

@@ -1,12 +1,10 @@
 //! The seals of a message, and of the messages in its payload.
 
-use crate::countersigned::Target;
+use crate::countersigned::{first_version, second_version, with_abbreviated};
 use crate::message::{Message, read_outermost, read_tagged};
-use crate::seal::{Part, Seal};
-use coset::{
-    CoseEncrypt, CoseEncrypt0, CoseError, CoseMac, CoseMac0, CoseRecipient, CoseSign, CoseSign1,
-    CoseSignature, Header, ProtectedHeader, Result,
-};
+use crate::own::own_seals;
+use crate::seal::Seal;
+use coset::{CoseError, Result};
 use cwt_keys::Form;
 use std::alloc::{AllocError, Global};
 
@@ -19,9 +17,11 @@ pub(crate) const MOST: usize = 16;
 /// The layer whose seals are sought.
 #[derive(Clone, Copy)]
 pub(crate) struct Asked<'a> {
+    /// The allocator.
     pub alloc: Global,
     /// The index of the message, from the outermost in.
     pub layer: usize,
+    /// The bytes that the application authenticates in addition to messages.
     pub external_aad: &'a [u8],
 }
 
@@ -34,229 +34,17 @@ pub struct Seals {
     pub has_more: bool,
 }
 
-impl Seals {
-    /// Appends seals, up to the greatest number.
-    fn append(&mut self, list: Vec<Seal>) -> Result<(), AllocError> {
-        for seal in list {
-            if self.seals.len() < MOST {
-                self.seals.push(seal)?;
-            } else {
-                self.has_more = true;
-            }
-        }
-        Ok(())
-    }
-}
-
-/// The seals of one message, and its payload.
-type Found = (Vec<Seal>, Option<Vec<u8>>);
-
-/// Returns the bytes of a content, if it is there.
-fn bytes_of(content: &Option<Vec<u8>>) -> Option<&[u8]> {
-    match content {
-        Some(bytes) => Some(bytes),
-        None => None,
-    }
-}
-
-/// Returns the only recipient's unprotected header, if there is exactly one recipient.
-fn only_recipient(mut recipients: Vec<CoseRecipient>) -> Option<Header> {
-    if recipients.len() != 1 {
-        return None;
-    }
-    match recipients.pop() {
-        Some(recipient) => Some(recipient.unprotected),
-        None => None,
-    }
-}
-
-/// Returns the seals of a message with one signature.
-fn of_sign1(asked: &Asked<'_>, message: CoseSign1) -> Result<Found> {
-    let structure = match &message.payload {
-        Some(_) => Some(message.tbs_data(asked.alloc, asked.external_aad)?),
-        None => None,
-    };
-    let mut others = Vec::new(asked.alloc);
-    let target = Target {
-        protected: &message.protected,
-        unprotected: &message.unprotected,
-        content: bytes_of(&message.payload),
-        other: Some(&message.signature),
-    };
-    target.push_all(asked, &mut others)?;
-    let seal = Seal {
-        layer: asked.layer,
-        part: Part::Signature,
-        form: Form::Sign1,
-        protected: message.protected,
-        unprotected: message.unprotected,
-        recipient: None,
-        proof: message.signature,
-        structure,
-    };
-    Ok((first_and(asked.alloc, seal, others)?, message.payload))
-}
-
-/// Returns the list of the seal and the others.
-fn first_and(alloc: Global, seal: Seal, others: Vec<Seal>) -> Result<Vec<Seal>> {
-    let mut list = Vec::new(alloc);
-    list.push(seal)?;
-    for other in others {
-        list.push(other)?;
-    }
-    Ok(list)
-}
-
-/// Returns the seals of a message with a MAC.
-fn of_mac0(asked: &Asked<'_>, message: CoseMac0) -> Result<Found> {
-    let structure = message.tbm(asked.alloc, asked.external_aad)?;
-    let mut others = Vec::new(asked.alloc);
-    let target = Target {
-        protected: &message.protected,
-        unprotected: &message.unprotected,
-        content: bytes_of(&message.payload),
-        other: Some(&message.tag),
-    };
-    target.push_all(asked, &mut others)?;
-    let seal = Seal {
-        layer: asked.layer,
-        part: Part::Tag,
-        form: Form::Mac0,
-        protected: message.protected,
-        unprotected: message.unprotected,
-        recipient: None,
-        proof: message.tag,
-        structure,
-    };
-    Ok((first_and(asked.alloc, seal, others)?, message.payload))
-}
-
-/// Returns the seals of a message with a MAC and recipients.
-fn of_mac(asked: &Asked<'_>, message: CoseMac) -> Result<Found> {
-    let structure = message.tbm(asked.alloc, asked.external_aad)?;
-    let mut others = Vec::new(asked.alloc);
-    let target = Target {
-        protected: &message.protected,
-        unprotected: &message.unprotected,
-        content: bytes_of(&message.payload),
-        other: Some(&message.tag),
-    };
-    target.push_all(asked, &mut others)?;
-    let seal = Seal {
-        layer: asked.layer,
-        part: Part::Tag,
-        form: Form::Mac,
-        protected: message.protected,
-        unprotected: message.unprotected,
-        recipient: only_recipient(message.recipients),
-        proof: message.tag,
-        structure,
-    };
-    Ok((first_and(asked.alloc, seal, others)?, message.payload))
-}
-
-/// Returns the seal of the signature at this index.
-fn of_signer(
-    asked: &Asked<'_>,
-    message: &CoseSign,
-    index: usize,
-    signed: &CoseSignature,
-) -> Result<Seal> {
-    let structure = match &message.payload {
-        Some(_) => Some(message.tbs_data(asked.alloc, asked.external_aad, signed)?),
-        None => None,
-    };
-    Ok(Seal {
-        layer: asked.layer,
-        part: Part::Signer(index),
-        form: Form::Sign,
-        protected: signed.protected.clone()?,
-        unprotected: signed.unprotected.clone()?,
-        recipient: None,
-        proof: Vec::from_slice(asked.alloc, &signed.signature)?,
-        structure,
-    })
-}
-
-/// Returns the seals of a message with a list of signatures.
-fn of_sign(asked: &Asked<'_>, message: CoseSign) -> Result<Found> {
-    let mut list = Vec::new(asked.alloc);
-    for (index, signed) in message.signatures.iter().enumerate() {
-        if index > MOST {
-            break;
-        }
-        list.push(of_signer(asked, &message, index, signed)?)?;
-    }
-    let target = Target {
-        protected: &message.protected,
-        unprotected: &message.unprotected,
-        content: bytes_of(&message.payload),
-        other: None,
-    };
-    target.push_all(asked, &mut list)?;
-    Ok((list, message.payload))
-}
-
-/// Returns the seals of an encrypted message. Its content can't be read.
-fn of_encrypted(
-    asked: &Asked<'_>,
-    form: Form,
-    protected: ProtectedHeader,
-    unprotected: Header,
-    ciphertext: &Option<Vec<u8>>,
-) -> Result<Found> {
-    let mut others = Vec::new(asked.alloc);
-    let target = Target {
-        protected: &protected,
-        unprotected: &unprotected,
-        content: bytes_of(ciphertext),
-        other: None,
-    };
-    target.push_all(asked, &mut others)?;
-    let seal = Seal {
-        layer: asked.layer,
-        part: Part::Ciphertext,
-        form,
-        protected,
-        unprotected,
-        recipient: None,
-        proof: Vec::new(asked.alloc),
-        structure: None,
-    };
-    Ok((first_and(asked.alloc, seal, others)?, None))
-}
-
-/// Returns the seals of an encrypted message.
-fn of_encrypt0(asked: &Asked<'_>, message: CoseEncrypt0) -> Result<Found> {
-    let CoseEncrypt0 {
-        protected,
-        unprotected,
-        ciphertext,
-    } = message;
-    of_encrypted(asked, Form::Encrypt0, protected, unprotected, &ciphertext)
-}
-
-/// Returns the seals of an encrypted message with recipients.
-fn of_encrypt(asked: &Asked<'_>, message: CoseEncrypt) -> Result<Found> {
-    let CoseEncrypt {
-        protected,
-        unprotected,
-        ciphertext,
-        recipients: _,
-    } = message;
-    of_encrypted(asked, Form::Encrypt, protected, unprotected, &ciphertext)
-}
-
-/// Returns the seals of one message, and its payload.
-fn of_message(asked: &Asked<'_>, message: Message) -> Result<Found> {
-    match message {
-        Message::Sign1(message) => of_sign1(asked, message),
-        Message::Mac0(message) => of_mac0(asked, message),
-        Message::Encrypt0(message) => of_encrypt0(asked, message),
-        Message::Sign(message) => of_sign(asked, message),
-        Message::Mac(message) => of_mac(asked, message),
-        Message::Encrypt(message) => of_encrypt(asked, message),
-    }
+/// Returns the seals of one message: its own, and its countersignatures. Of each list, they are the
+/// first 17 at most.
+///
+/// # Errors
+/// `OutOfMemory` if an allocation fails.
+fn of_message(asked: &Asked<'_>, message: &Message) -> Result<Vec<Seal>> {
+    let target = message.target();
+    let list = own_seals(asked, message)?;
+    let list = first_version(asked, &target, list)?;
+    let list = second_version(asked, &target, list)?;
+    with_abbreviated(asked, &target, list)
 }
 
 /// Returns the result, or `None` if it is an error of the input.
@@ -271,12 +59,55 @@ fn unless_refused<T: Drop>(answer: Result<T>) -> Result<Option<T>, AllocError> {
     }
 }
 
+/// Returns the seals of a message. None are there if a structure can't be made, which happens to no
+/// message that was read.
+///
+/// # Errors
+/// `AllocError` if an allocation failed.
+fn seals_in(asked: &Asked<'_>, message: &Message) -> Result<Vec<Seal>, AllocError> {
+    match of_message(asked, message) {
+        Ok(list) => Ok(list),
+        Err(CoseError::OutOfMemory) => Err(AllocError),
+        Err(_) => Ok(Vec::new(asked.alloc)),
+    }
+}
+
 /// Reads the message in a payload, if it is one under its tag.
-fn nested(alloc: Global, payload: &Option<Vec<u8>>) -> Result<Option<Message>, AllocError> {
+///
+/// # Errors
+/// `AllocError` if an allocation failed.
+fn nested(alloc: Global, payload: Option<Vec<u8>>) -> Result<Option<Message>, AllocError> {
     match payload {
-        Some(payload) => unless_refused(read_tagged(alloc, payload)),
+        Some(payload) => unless_refused(read_tagged(alloc, &payload)),
         None => Ok(None),
     }
+}
+
+/// Appends the seals of the messages in a payload.
+///
+/// # Errors
+/// `AllocError` if an allocation fails.
+fn with_inner(
+    alloc: Global,
+    external_aad: &[u8],
+    mut list: Vec<Seal>,
+    payload: Option<Vec<u8>>,
+) -> Result<Vec<Seal>, AllocError> {
+    let mut next = nested(alloc, payload)?;
+    for layer in 1..MAX_LAYERS {
+        let Some(message) = next else {
+            break;
+        };
+        let asked = Asked {
+            alloc,
+            layer,
+            external_aad,
+        };
+        let mut inner = seals_in(&asked, &message)?;
+        list.append(&mut inner)?;
+        next = nested(alloc, message.into_payload())?;
+    }
+    Ok(list)
 }
 
 /// Returns the signatures, MACs and ciphertexts of a message, with its countersignatures, and of
@@ -297,28 +128,17 @@ pub fn seals(
     bytes: &[u8],
     external_aad: &[u8],
 ) -> Result<Option<Seals>, AllocError> {
-    let mut next = unless_refused(read_outermost(alloc, form, bytes))?;
-    if next.is_none() {
+    let Some(message) = unless_refused(read_outermost(alloc, form, bytes))? else {
         return Ok(None);
-    }
-    let mut all = Seals {
-        seals: Vec::new(alloc),
-        has_more: false,
     };
-    for layer in 0..MAX_LAYERS {
-        let Some(message) = next else {
-            break;
-        };
-        let asked = Asked {
-            alloc,
-            layer,
-            external_aad,
-        };
-        let Some((list, payload)) = unless_refused(of_message(&asked, message))? else {
-            break;
-        };
-        all.append(list)?;
-        next = nested(alloc, &payload)?;
-    }
-    Ok(Some(all))
+    let asked = Asked {
+        alloc,
+        layer: 0,
+        external_aad,
+    };
+    let list = seals_in(&asked, &message)?;
+    let mut seals = with_inner(alloc, external_aad, list, message.into_payload())?;
+    let has_more = seals.len() > MOST;
+    seals.truncate(MOST);
+    Ok(Some(Seals { seals, has_more }))
 }
