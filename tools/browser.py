@@ -17,6 +17,9 @@ def program():
 class Browser:
     """A Chromium with one page. `requests` has the address of each request that the page made."""
 
+    name = "Chromium"
+    program = staticmethod(program)
+
     def __init__(self):
         self.folder = tempfile.mkdtemp()
         commands, self.to = os.pipe()
@@ -30,6 +33,7 @@ class Browser:
         os.close(commands)
         os.close(answers)
         self.rest, self.number, self.session, self.requests = b"", 0, None, []
+        self.version = self.call("Browser.getVersion")["product"]
 
     def __enter__(self):
         return self
@@ -84,6 +88,13 @@ class Browser:
         if "exceptionDetails" in told:
             raise RuntimeError(json.dumps(told["exceptionDetails"])[:1000])
         return told["result"].get("value")
+
+    def install(self, script):
+        """Runs statements in the page."""
+        self.run(f"{script}; 0")
+
+    def insert(self, text):
+        self.call("Input.insertText", text=text)
 
     def look_like(self, width, height, scheme):
         """Gives the page a size, and a dark or a light scheme."""

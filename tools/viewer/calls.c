@@ -6,6 +6,8 @@ typedef unsigned char byte;
 void *malloc(size n);
 int page_look(const byte *input, size input_length, unsigned kind, unsigned form, unsigned has_now, long now, const byte *aad,
               size aad_length, byte *out, size out_length, size *length);
+int page_seals(const byte *input, size input_length, unsigned kind, const byte *keys, size keys_length, const byte *aad, size aad_length,
+               byte *out, size out_length, size *length);
 
 static byte *at(unsigned address) { return (byte *)(size)address; }
 
@@ -18,4 +20,9 @@ int look(unsigned input, unsigned input_length, unsigned kind, unsigned form, do
   int has_now = now > -0x1p53 && now < 0x1p53;
   return page_look(at(input), input_length, kind, form, (unsigned)has_now, has_now ? (long)now : 0, at(aad), aad_length, at(out),
                    out_length, (size *)at(length));
+}
+
+int seals(unsigned input, unsigned input_length, unsigned kind, unsigned keys, unsigned keys_length, unsigned aad, unsigned aad_length,
+          unsigned out, unsigned out_length, unsigned length) {
+  return page_seals(at(input), input_length, kind, at(keys), keys_length, at(aad), aad_length, at(out), out_length, (size *)at(length));
 }
