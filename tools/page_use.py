@@ -38,9 +38,9 @@ def click(page, row, side):
 def mark(page):
     """Types a message, and clicks on both sides of it. Yields what is wrong."""
     page.look_like(1280, 1400, "light")
-    page.run('at("clear").click(); at("input").focus()')
+    page.run('at("clear").click(), at("input").focus()')
     page.insert(SIGNED)
-    if not wait(page, 'at("rows").querySelectorAll(".row").length === 10'):
+    if not wait(page, 'at("rows").querySelectorAll(".row").length === 14'):
         yield f"what was typed isn't shown: {page.run('document.body.innerText')[:500]}"
     for row, side, wanted in ((2, 2, "row-2 row-3 row-4 row-5 row-6"), (4, 0, "row-4")):
         click(page, row, side)
@@ -52,7 +52,7 @@ def keys(page):
     """Moves and folds by keys. Yields what is wrong."""
     page.run('at("rows").focus()')
     steps = (("ArrowDown", "row-5"), ("ArrowLeft", "row-3 row-4 row-5"), ("ArrowLeft", "row-3 row-4 row-5"), ("ArrowDown", "row-6"), ("Home", None),
-             ("PageDown", "row-9"))
+             ("PageDown", "row-13"))
     for key, wanted in steps:
         page.key(key)
         if wanted and not wait(page, f'{MARKED} === "{wanted}"'):
@@ -69,7 +69,7 @@ def copies(page):
     page.call("Browser.grantPermissions", permissions=["clipboardReadWrite", "clipboardSanitizedWrite"])
     wanted = {"copy-bytes": "43a10126", "copy-notation": "<<\n  {\n    1: -7\n  }\n>>", "link": page.run("location.href.split('#')[0]") + "#" + SIGNED}
     for name, text in wanted.items():
-        page.run(f'mark(2); at("{name}").click()')
+        page.run(f'mark(2), at("{name}").click()')
         if not wait(page, f'at("{name}").textContent === "Copied"') or page.run("navigator.clipboard.readText()") != text:
             yield f"{name} doesn't copy {text}"
 

@@ -1,6 +1,7 @@
 // ---- Rows of an answer. Each is parsed when it is shown
 const ROWS = 0, ANNOTATED = 1;  // forms
 const COVERS = { s: "covered by the signature", a: "covered by MAC or cipher", n: "not covered", u: "not covered", r: "refused" };
+const CLOSING = /^(\]|\}|\)|>>)/;  // the text of an item's last row
 const DATE = /\d{4}-\d\d-\d\d[T ]\d\d:\d\d(?::\d\d)?(?:Z| UTC)/g;
 const HERE = new Intl.DateTimeFormat("en-GB", { dateStyle: "medium", timeStyle: "short" });
 
@@ -43,15 +44,15 @@ function behind(i) {
   const depth = depthOf(i);
   let last = i + 1;
   while (last < rows.count && depthOf(last) > depth) last++;
-  const isEnd = last > i + 1 && last < rows.count && /^(\]|\}|\)|>>)/.test(row(last).text);
+  const isEnd = last > i + 1 && last < rows.count && CLOSING.test(row(last).text);
   return isEnd && depthOf(last) === depth ? last + 1 : last;
 }
 
-// Returns the row that the item of this row is in, or -1.
+// Returns the row of the item that this row's item is in, or the first row of an item for its last one. Returns -1 if there is none.
 function parentOf(i) {
-  const depth = depthOf(i);
+  const depth = depthOf(i) - (CLOSING.test(row(i).text) ? 0 : 1);
   let parent = i - 1;
-  while (parent >= 0 && depthOf(parent) >= depth) parent--;
+  while (parent >= 0 && depthOf(parent) > depth) parent--;
   return parent;
 }
 

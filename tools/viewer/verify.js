@@ -177,14 +177,21 @@ function isIn(ranges, i) {
   return ranges.some(it => it.from <= i && i < it.to);
 }
 
-// Colours rows that a verified signature covers. A row that a wrong one covers too stays as it is.
+// Returns the state of a row: verified, or wrong for a signature that is. A row that a wrong signature covers too isn't verified.
+function stateOf(i, cover) {
+  const wrong = verdicts.filter(it => it.state === "wrong").map(it => it.ranges), right = verdicts.filter(it => it.state === "verified");
+  if (isIn(wrong.flatMap(it => it.slice(-1)), i)) return "wrong";
+  return "sac".includes(cover) && isIn(right.flatMap(it => it.ranges), i) && !isIn(wrong.flat(), i) ? "verified" : "";
+}
+
+// Colours the rows by their states, and says them in words.
 function colourVerified() {
-  const of = state => verdicts.filter(it => it.state === state).flatMap(it => it.ranges), right = of("verified"), wrong = of("wrong");
+  if (!verdicts.length) return;
   for (const made of at("rows").getElementsByClassName("row")) {
-    const i = numberOf(made), isVerified = /\b[sac]\b/.test(made.className) && isIn(right, i) && !isIn(wrong, i);
-    if (isVerified === made.classList.contains("verified")) continue;
-    made.classList.toggle("verified", isVerified);
-    made.children[1].textContent = isVerified ? "verified" : COVERS[row(i).cover] ?? "";
+    const [, cover] = made.className.split(" "), state = stateOf(numberOf(made), cover);
+    made.classList.toggle("verified", state === "verified");
+    made.classList.toggle("wrong", state === "wrong");
+    made.children[1].textContent = { verified: "verified", wrong: "does not verify" }[state] ?? COVERS[cover] ?? "";
   }
 }
 
