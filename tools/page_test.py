@@ -179,7 +179,7 @@ def annotated(shown, notes):
 
 
 def plain(colored):
-    return re.sub(r"\33\[[0-9;]*m", "", colored)
+    return re.sub("\33\\[[0-9;]*m", "", colored)
 
 
 def has_words(shown):
@@ -210,14 +210,14 @@ def compare(page, program, wrong, every, told):
 
 
 def verify(page, wrong, every):
-    """Gives the page messages with keys, and compares its sentences. Only the rows of a message that is verified are green. Returns a
+    """Gives the page messages with keys, and compares its sentences. Only rows that a verified signature covers are green. Returns a
     line."""
     for begin in range(0, len(every), 20):
         some = every[begin : begin + 20]
         given = json.dumps([[text(made), text(aad), key] for _, made, aad, key, _ in some])
         told = page.run(f"(async all => {{ const told = []; for (const it of all) told.push(await verdictsOf(...it)); return told; }})({given})")
         for (name, _, _, _, wanted), (found, said, colors) in zip(some, told):
-            is_green = any(state == "verified" for state, *_ in wanted) and all(state != "wrong" for state, *_ in wanted)
+            is_green = any(state == "verified" for state, *_ in wanted)
             if found != [list(it) for it in wanted] or is_green != ("s verified" in colors) or (said and "verified" in str(wanted)):
                 wrong.append(f"{page.name} verifying {name}: {found} {said} {colors} and not {wanted}")
     return f"signatures and MACs {sum(len(it[4]) for it in every)}"

@@ -8,6 +8,7 @@ import common
 from cbor import head
 
 SHOTS = f"{common.HERE}/out/page"
+SECONDS = 120  # to wait for something
 WIDTHS = ((360, 2000), (768, 1600), (1280, 1400))
 MARKED = '[...document.querySelectorAll(".marked")].map(it => it.id).join(" ")'
 SIGNED = "d28443a10126a10442313154546869732069732074686520636f6e74656e742e41aa"
@@ -16,7 +17,8 @@ FAULT = "d28445a201260126a0f640"
 
 def wait(page, script):
     """Waits until the script returns true in the page. Returns false if it doesn't in time."""
-    for _ in range(1200):
+    begun = time.time()
+    while time.time() < begun + SECONDS:
         if page.run(script):
             return True
         time.sleep(0.05)
