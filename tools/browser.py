@@ -7,6 +7,8 @@ import subprocess
 import tempfile
 
 PROGRAMS = ("chromium", "chromium-browser", "google-chrome")
+# The time zone of the browsers, which isn't UTC.
+ZONE = {"TZ": "Europe/Berlin"}
 
 
 def program():
@@ -29,7 +31,7 @@ class Browser:
         # Chromium reads commands from 3 and answers on 4.
         shell = f'exec 3<&{commands} 4>&{answers} && exec "$@"'
         quiet = {"stdin": subprocess.DEVNULL, "stdout": subprocess.DEVNULL, "stderr": subprocess.DEVNULL}
-        self.process = subprocess.Popen(["bash", "-c", shell, "bash", *words], pass_fds=(commands, answers), **quiet)
+        self.process = subprocess.Popen(["bash", "-c", shell, "bash", *words], pass_fds=(commands, answers), env={**os.environ, **ZONE}, **quiet)
         os.close(commands)
         os.close(answers)
         self.rest, self.number, self.session, self.requests = b"", 0, None, []

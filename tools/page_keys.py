@@ -177,7 +177,8 @@ def misfits(signer):
     yield "key_ops", made, b"", signer.cose((4, head(4, 1) + integer(1))).hex(), fails("its key_ops don't allow this")
     yield "kid", made, b"", signer.cose(kid=b"other").hex(), [(*fails("")[0][:2], "key 'other' doesn't fit: the message names a key with another kid")]
     yield "no key", made, b"", "", [("open", "Signature (ES256) not checked: there is no key to check it with.")]
-    yield "detached", message(signer, content=None), b"", signer.cose().hex(), [("open", "Signature not checked: its content is detached, or isn't known here.")]
+    detached = [("open", "Signature not checked: its content is detached, or isn't known here.")]
+    yield "detached", message(signer, content=None), b"", signer.cose().hex(), detached
     critical = message(signer, more=((2, head(4, 1) + integer(-70000)), (-70000, integer(1))))
     yield "crit", critical, b"", signer.cose().hex(), [
         ("open", "Signature is of key 'our key' (ES256), but the message has critical labels (crit), and this page processes none.")]

@@ -47,7 +47,8 @@ globalThis.paint = it => { const style = getComputedStyle(it); return style.bord
 globalThis.shownRows = () => {
   const legend = Object.fromEntries([...at("legend").children].map(it => [paint(it), it.className]));
   return [...at("rows").querySelectorAll(".row")].map(it => [it.children[2].textContent, it.children[0].style.getPropertyValue("--depth"),
-    it.children[0].querySelector("code").textContent, it.children[0].querySelector("em")?.textContent ?? "", it.children[1].textContent, it.className, legend[paint(it)] ?? ""]);
+    it.children[0].querySelector("code").textContent, it.children[0].querySelector("em")?.textContent ?? "", it.children[1].textContent,
+    it.className, legend[paint(it)] ?? ""]);
 };
 globalThis.shownOf = async (text, kind, now, aad, isTyped) => {
   field("kind", kind), field("clock", false), field("moment", localTime(now)), field("key", "");
@@ -196,7 +197,8 @@ def compare(page, program, wrong, every, told):
         typed = [(begin + i) % 10 == 0 and data.isascii() for i, (data, *_) in enumerate(some)]
         given = json.dumps([[text(data), kind, KINDS.index(kind), now, text(aad), is_typed] for (data, kind, now, aad), is_typed in zip(some, typed)])
         shown, forms = page.run(f"""(async all => {{ const shown = [], forms = []; for (const [a, kind, b, c, d, e] of all) {{
-          shown.push(await shownOf(a, kind, c, d, e)); for (const form of [1, 2, 3]) forms.push(await asked(a, b, form, c, d)); }} return [shown, forms]; }})({given})""")
+          shown.push(await shownOf(a, kind, c, d, e)); for (const form of [1, 2, 3]) forms.push(await asked(a, b, form, c, d)); }}
+          return [shown, forms]; }})({given})""")
         for place, case in enumerate(some):
             status, wanted = told[case, 1]
             said, lines, notes = shown[place]

@@ -88,7 +88,8 @@ def give(page):
     places = page.run('[...at("rows").querySelectorAll("bdi")].map(it => it.getBoundingClientRect().x)')
     if len(places) != 2 or places[0] >= places[1]:
         yield f"a Hebrew key isn't left of its value: {places}"
-    page.run("""(() => { const held = new DataTransfer(); for (const it of ["three.cbor", "other"]) held.items.add(new File([new Uint8Array([0x83, 1, 2, 3])], it));
+    page.run("""(() => { const held = new DataTransfer();
+      for (const it of ["three.cbor", "other"]) held.items.add(new File([new Uint8Array([0x83, 1, 2, 3])], it));
       document.dispatchEvent(new DragEvent("drop", {dataTransfer: held, cancelable: true})); })()""")
     if not wait(page, 'at("read").textContent.includes("4 bytes") && at("dropped").textContent === "three.cbor, 4 bytes; of 2 files, the first is shown"'):
         yield "a dropped file isn't shown: " + page.run('at("dropped").textContent')
@@ -122,6 +123,9 @@ def times(page):
     show(page, 'at("clock").checked = false; at("moment").value = "2015-10-05T12:00:00"; showAgain()')
     before = page.run('at("rows").textContent.includes("expired")')
     show(page, 'at("clock").checked = true; showAgain()')
+    here = page.run('[...at("rows").querySelectorAll("small")].map(it => it.textContent).join()')
+    if here != "5 Oct 2015, 19:09 here,4 Oct 2015, 09:49 here,4 Oct 2015, 09:49 here":
+        yield f"times in the browser's zone: {here}"
     if not by_clock or before:
         yield f"times are judged by the clock: {by_clock}, at a moment before: {before}"
 

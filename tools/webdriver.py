@@ -11,6 +11,8 @@ import subprocess
 import tempfile
 import time
 
+import browser
+
 QUIET = {"stdin": subprocess.DEVNULL, "stdout": subprocess.DEVNULL, "stderr": subprocess.DEVNULL}
 BROWSERS = "/usr/lib/*/webkit2gtk-4.*/MiniBrowser"
 # The characters by which WebDriver names keys.
@@ -67,7 +69,7 @@ class Driven:
         shutil.rmtree(self.folder, ignore_errors=True)
 
     def start(self, *words, **more):
-        self.processes.append(subprocess.Popen(words, **{**QUIET, **more}))
+        self.processes.append(subprocess.Popen(words, **{**QUIET, "env": {**os.environ, **browser.ZONE}, **more}))
         return self.processes[-1]
 
     def shot(self, path):
@@ -181,7 +183,7 @@ class WebKit(Driven):
         display, self.port = os.read(of, 20).decode().strip(), free_port()
         home = {it: self.folder for it in ("HOME", "XDG_DATA_HOME", "XDG_CACHE_HOME", "XDG_CONFIG_HOME", "XDG_RUNTIME_DIR")}
         plain = {"DISPLAY": f":{display}", "GDK_BACKEND": "x11", "LIBGL_ALWAYS_SOFTWARE": "1", "WEBKIT_DISABLE_SANDBOX_THIS_IS_DANGEROUS": "1"}
-        self.start("WebKitWebDriver", f"--port={self.port}", env={**os.environ, **home, **plain})
+        self.start("WebKitWebDriver", f"--port={self.port}", env={**os.environ, **browser.ZONE, **home, **plain})
         connected(self.port).close()
         self.session = ""
         options = {"binary": self.program(), "args": ["--automation"]}

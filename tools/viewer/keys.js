@@ -9,6 +9,7 @@ const OPERATIONS = { sign: 1, verify: 2, encrypt: 3, decrypt: 4, wrapKey: 5, unw
 const MAC_OPERATIONS = { sign: 9, verify: 10 };
 const MEMBERS = { OKP: [[-2, "x"]], EC: [[-2, "x"], [-3, "y"]], RSA: [[-1, "n"], [-2, "e"]], oct: [[-1, "k"]] };
 const EDWARDS = "06032b6570", NIST = { "06082a8648ce3d030107": "P-256", "06052b81040022": "P-384", "06052b81040023": "P-521" };
+const PEM = /-----BEGIN ((?:[A-Z0-9]+ )*(?:KEY|CERTIFICATE|REQUEST|PARAMETERS))-----([^-]*)-----END/g;
 const RSA = "06092a864886f70d0101";  // object identifiers of keys
 
 function headOf(major, n) {
@@ -142,7 +143,7 @@ async function keysGiven() {
   if (text === "") return null;
   try {
     if (/^[[{]\s*["{]/.test(text)) return (jwks => rsa => keysOfJwks(jwks, rsa))(jwksOf(text));
-    const blocks = [...text.matchAll(/-----BEGIN ((?:[A-Z0-9]+ )*(?:KEY|CERTIFICATE|REQUEST|PARAMETERS))-----([^-]*)-----END/g)].filter(it => !it[1].includes("COSE"));
+    const blocks = [...text.matchAll(PEM)].filter(it => !it[1].includes("COSE"));
     if (!blocks.length) return (bytes => () => ({ bytes, problems: [] }))(await bytesOfText(text));
     const jwks = await Promise.all(blocks.map(jwkOfPem));
     return rsa => keysOfJwks(jwks, rsa);

@@ -131,7 +131,8 @@ async function open(files) {
   at("input").value = "";
   at("file").value = "";
   at("sample").value = "";
-  at("dropped").textContent = `${file.name}, ${file.bytes.length.toLocaleString("en")} bytes${files.length > 1 ? `; of ${files.length} files, the first is shown` : ""}`;
+  const others = files.length > 1 ? `; of ${files.length} files, the first is shown` : "";
+  at("dropped").textContent = `${file.name}, ${file.bytes.length.toLocaleString("en")} bytes${others}`;
   showAgain();
 }
 

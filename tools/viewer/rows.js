@@ -95,7 +95,8 @@ function rowElement(i) {
 
 function noteElement(note) {
   const place = note.lastIndexOf(": "), digits = note.slice(place + 2), made = element("section", "", "note");
-  made.append(element("h2", note.slice(0, place)), element("code", cut(digits, `${digits.length / 2} bytes`)), button("Copy", event => copied(event.target, digits)));
+  made.append(element("h2", note.slice(0, place)), element("code", cut(digits, `${digits.length / 2} bytes`)));
+  made.append(button("Copy", event => copied(event.target, digits)));
   return made;
 }
 

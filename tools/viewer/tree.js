@@ -129,9 +129,14 @@ function left(i) {
   return i;
 }
 
+function toggle(i) {
+  fold(i, !folded.has(i));
+  return i;
+}
+
 const KEYS = {
   ArrowDown: i => stepped(i, 1), ArrowUp: i => stepped(i, -1), PageDown: i => stepped(i, PAGE), PageUp: i => stepped(i, -PAGE),
-  ArrowRight: right, ArrowLeft: left, Home: () => 0, End: () => stepped(rows.count, -1), Enter: i => (fold(i, !folded.has(i)), i), " ": i => (fold(i, !folded.has(i)), i),
+  ArrowRight: right, ArrowLeft: left, Home: () => 0, End: () => stepped(rows.count, -1), Enter: toggle, " ": toggle,
 };
 
 function moved(event) {
@@ -144,7 +149,7 @@ function clicked(event) {
   const made = event.target.closest(".row, .gap");
   if (!made) return;
   if (made.className === "gap") return fill(made, Number(made.dataset.from), Math.min(Number(made.dataset.from) + MORE, Number(made.dataset.to)));
-  if (event.target.className === "fold") fold(numberOf(made), !folded.has(numberOf(made)));
+  if (event.target.className === "fold") toggle(numberOf(made));
   mark(numberOf(made));
 }
 

@@ -117,7 +117,8 @@ async function verdictOf(seal) {
     return open([`${title} is of ${nameOfKey(right.key)} (${name}), but the message has critical labels (crit), and this page processes none.`]);
   }
   if (right) return { seal, state: "verified", said: [`${title} verified by ${nameOfKey(right.key)} (${name}).`] };
-  if (wrong.length) return { seal, state: "wrong", said: [`${title} does not verify with ${wrong.map(it => nameOfKey(it.key)).join(", ")} (${name}).`, ...problems] };
+  const names = wrong.map(it => nameOfKey(it.key)).join(", ");
+  if (wrong.length) return { seal, state: "wrong", said: [`${title} does not verify with ${names} (${name}).`, ...problems] };
   if (!seal.keys.length) return open([`${title} (${name}) not checked: there is no key to check it with.`]);
   return open([`${title} (${name}) not checked: no key fits.`, ...misfits, ...problems]);
 }
@@ -218,7 +219,8 @@ async function judged(asked) {
 
 // Says what is known of each signature, and colours its rows. `isCurrent` returns false once another input is asked for.
 async function verify(asked, isCurrent) {
-  const { told, problems } = await judged(asked).catch(error => ({ told: [{ state: "open", said: [`Signatures not checked: ${error.message}.`] }], problems: [] }));
+  const failed = error => ({ told: [{ state: "open", said: [`Signatures not checked: ${error.message}.`] }], problems: [] });
+  const { told, problems } = await judged(asked).catch(failed);
   if (!isCurrent()) return;
   verdicts = told.map(it => ({ ...it, ranges: it.seal ? rangesOf(it.seal) : [] }));
   colourVerified();
