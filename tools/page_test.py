@@ -45,6 +45,7 @@ globalThis.settled = async action => {
 };
 globalThis.paint = it => { const style = getComputedStyle(it); return style.borderLeftStyle + style.borderLeftColor + style.backgroundColor; };
 globalThis.shownRows = () => {
+  for (const it of at("rows").querySelectorAll(".hovered")) it.classList.remove("hovered");
   const legend = Object.fromEntries([...at("legend").children].map(it => [paint(it), it.className]));
   return [...at("rows").querySelectorAll(".row")].map(it => [it.children[2].textContent, it.children[0].style.getPropertyValue("--depth"),
     it.children[0].querySelector("code").textContent, it.children[0].querySelector("em")?.textContent ?? "", it.children[1].textContent,

@@ -44,6 +44,7 @@ def mark(page):
     page.insert(SIGNED)
     if not wait(page, 'at("rows").querySelectorAll(".row").length === 14'):
         yield f"what was typed isn't shown: {page.run('document.body.innerText')[:500]}"
+    page.run("globalThis.showing")
     for row, side, wanted in ((2, 2, "row-2 row-3 row-4 row-5 row-6"), (4, 0, "row-4")):
         click(page, row, side)
         if not wait(page, f'{MARKED} === "{wanted}"'):

@@ -114,7 +114,8 @@ async function verdictOf(seal) {
   const tries = await Promise.all(seal.keys.filter(it => it.verdict === "fits").map(it => tried(seal, it)));
   const right = tries.find(it => it.isRight), wrong = tries.filter(it => it.isRight === false), problems = tries.filter(it => it.problem).map(it => it.problem);
   if (right && await isCritical(seal)) {
-    return open([`${title} is of ${nameOfKey(right.key)} (${name}), but the message has critical labels (crit), and this page processes none.`]);
+    const but = `${title} is of ${nameOfKey(right.key)} (${name}), but the message has critical labels (crit), and this page processes none.`;
+    return { ...open([but]), isChecked: true };
   }
   if (right) return { seal, state: "verified", said: [`${title} verified by ${nameOfKey(right.key)} (${name}).`] };
   const names = wrong.map(it => nameOfKey(it.key)).join(", ");
@@ -226,7 +227,7 @@ async function verify(asked, isCurrent) {
   colourVerified();
   at("verdicts").replaceChildren(...verdicts.map(verdictElement));
   at("key-said").replaceChildren(...problems.map(it => element("li", it)));
-  const isChecked = verdicts.some(it => it.state !== "open");
+  const isChecked = verdicts.some(it => it.state !== "open" || it.isChecked);
   at("ciphers").hidden = !isChecked;
   if (isChecked) saySummary(rows.summary.replace(/ ?[^.]*\bnot checked\./g, ""));
 }
