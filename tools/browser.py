@@ -7,6 +7,8 @@ import subprocess
 import tempfile
 
 PROGRAMS = ("chromium", "chromium-browser", "google-chrome")
+# The time zone of the browsers, which isn't UTC.
+ZONE = {"TZ": "Europe/Berlin"}
 
 
 def program():
@@ -17,6 +19,9 @@ def program():
 class Browser:
     """A Chromium with one page. `requests` has the address of each request that the page made."""
 
+    name = "Chromium"
+    program = staticmethod(program)
+
     def __init__(self):
         self.folder = tempfile.mkdtemp()
         commands, self.to = os.pipe()
@@ -26,10 +31,11 @@ class Browser:
         # Chromium reads commands from 3 and answers on 4.
         shell = f'exec 3<&{commands} 4>&{answers} && exec "$@"'
         quiet = {"stdin": subprocess.DEVNULL, "stdout": subprocess.DEVNULL, "stderr": subprocess.DEVNULL}
-        self.process = subprocess.Popen(["bash", "-c", shell, "bash", *words], pass_fds=(commands, answers), **quiet)
+        self.process = subprocess.Popen(["bash", "-c", shell, "bash", *words], pass_fds=(commands, answers), env={**os.environ, **ZONE}, **quiet)
         os.close(commands)
         os.close(answers)
         self.rest, self.number, self.session, self.requests = b"", 0, None, []
+        self.version = self.call("Browser.getVersion")["product"]
 
     def __enter__(self):
         return self
@@ -84,6 +90,13 @@ class Browser:
         if "exceptionDetails" in told:
             raise RuntimeError(json.dumps(told["exceptionDetails"])[:1000])
         return told["result"].get("value")
+
+    def install(self, script):
+        """Runs statements in the page."""
+        self.run(f"{script}; 0")
+
+    def insert(self, text):
+        self.call("Input.insertText", text=text)
 
     def look_like(self, width, height, scheme):
         """Gives the page a size, and a dark or a light scheme."""

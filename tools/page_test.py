@@ -1,4 +1,4 @@
-"""Tests the page for `tools/page --test`: in headless Chromium, against the native program, and with a user's actions."""
+"""Tests the page for `tools/page --test`: in the browsers that are installed, against the native program, and with signatures."""
 import base64
 import hashlib
 import json
@@ -11,43 +11,69 @@ import time
 
 import browser
 import common
+import page_keys
+import page_use
+import webdriver
 from cbor import byte_string, head
 
 HERE = common.HERE
-SHOTS = f"{HERE}/out/page"
 KINDS = "auto cwt value sign1 sign mac mac0 encrypt encrypt0 countersignature key keyset claims kdf".split()
-FORMS = {1: [], 2: ["--edn"], 3: ["--where"]}
+FORMS = {1: ["--color=always"], 2: ["--edn"], 3: ["--where"]}
 MOMENT = 1_500_000_000
+AAD = b"more"
 MEGABYTE = 1 << 20
 STEPS, BYTES = 32, 32  # as many levels are indented, and as many digits are in a row
-# Functions for the page: the module's output for an input, the page's rows for it, and the hash of an output.
+COLORS = {"s": "\33[32m", "a": "\33[32m", "n": "\33[33m", "u": "\33[33m", "c": "\33[36m", "r": "\33[1;31m", "": ""}
+WORDS = {"s": "covered by the signature", "a": "covered by MAC or cipher", "n": "not covered", "u": "not covered", "c": "", "r": "refused", "-": ""}
+ENGINES = (browser.Browser, webdriver.Firefox, webdriver.WebKit)
+# Functions for the page: the module's output for an input, the page's rows for it with their colours, and the hash of an output. A
+# row's colour is that of the legend's entry with the same border and background.
 SCRIPT = """
 globalThis.bytesOf = text => Uint8Array.from(atob(text), it => it.charCodeAt(0));
-globalThis.asked = async (text, kind, form, now) => {
-  const told = await look(bytesOf(text), kind, form, now === null ? null : BigInt(now), NO_BYTES);
-  return [told.status, told.text ? decoder.decode(told.text) : ""];
+globalThis.textOf = bytes => new TextDecoder().decode(bytes);
+globalThis.asked = async (text, kind, form, now, aad) => {
+  const told = await call("look", bytesOf(text), kind, form, now ?? NaN, bytesOf(aad));
+  return [told.status, textOf(told.text)];
 };
-globalThis.shownOf = async (text, kind, now) => {
-  at("kind").value = kind;
-  at("moment").value = now ?? "";
-  open(new File([bytesOf(text)], "input"));
+globalThis.field = (id, value) => { const it = at(id); it[it.type === "checkbox" ? "checked" : "value"] = value; };
+globalThis.localTime = now => now === null ? "" : new Date(1000 * now - 60000 * new Date(1000 * now).getTimezoneOffset()).toISOString().slice(0, 19);
+globalThis.settled = async action => {
   const before = globalThis.showing;
+  action();
   while (globalThis.showing === before) await new Promise(done => setTimeout(done));
   await globalThis.showing;
-  const rows = [...at("rows").querySelectorAll(".row")].map(it => [it.children[0].textContent, it.children[2].style.getPropertyValue("--depth"),
-    it.children[2].children[0].textContent, it.children[2].children[1]?.textContent ?? "", it.children[1].textContent, it.className]);
-  return [at("status").textContent, at("result").hidden ? [] : rows, at("result").hidden ? [] : rows_notes()];
 };
-globalThis.rows_notes = () => [...at("notes").children].map(it => it.children[0].textContent + ": " + it.children[1].textContent);
+globalThis.paint = it => { const style = getComputedStyle(it); return style.borderLeftStyle + style.borderLeftColor + style.backgroundColor; };
+globalThis.shownRows = () => {
+  for (const it of at("rows").querySelectorAll(".hovered")) it.classList.remove("hovered");
+  const legend = Object.fromEntries([...at("legend").children].map(it => [paint(it), it.className]));
+  return [...at("rows").querySelectorAll(".row")].map(it => [it.children[2].textContent, it.children[0].style.getPropertyValue("--depth"),
+    it.children[0].querySelector("code").textContent, it.children[0].querySelector("em")?.textContent ?? "", it.children[1].textContent,
+    it.className, legend[paint(it)] ?? ""]);
+};
+globalThis.shownOf = async (text, kind, now, aad, isTyped) => {
+  field("kind", kind), field("clock", false), field("moment", localTime(now)), field("key", "");
+  field("aad", [...bytesOf(aad)].map(it => it.toString(16).padStart(2, "0")).join(""));
+  await settled(() => isTyped ? type(textOf(bytesOf(text))) : open([new File([bytesOf(text)], "input")]));
+  const isShown = !at("result").hidden, notes = [...at("notes").children].map(it => it.children[0].textContent + ": " + it.children[1].textContent);
+  return [at("status").className, isShown ? shownRows() : [], isShown ? notes : []];
+};
+globalThis.verdictsOf = async (text, aad, key) => {
+  field("kind", "auto"), field("clock", true), field("key", key);
+  field("aad", [...bytesOf(aad)].map(it => it.toString(16).padStart(2, "0")).join(""));
+  await settled(() => open([new File([bytesOf(text)], "input")]));
+  const found = [...at("verdicts").children].map(it => [it.className, it.firstChild.textContent, ...[...it.querySelectorAll("li")].map(it => it.textContent)]);
+  return [found, [...at("key-said").children].map(it => it.textContent), shownRows().map(it => it[6])];
+};
 globalThis.hashOf = async (text, kind, form) => {
-  const begun = performance.now(), told = await look(bytesOf(text), kind, form, null, NO_BYTES), took = performance.now() - begun;
-  const hash = told.text ? await crypto.subtle.digest("SHA-256", told.text) : new ArrayBuffer(0);
+  const begun = performance.now(), told = await call("look", bytesOf(text), kind, form, NaN, new Uint8Array(0)), took = performance.now() - begun;
+  const hash = await crypto.subtle.digest("SHA-256", told.text);
   return [told.status, [...new Uint8Array(hash)].map(it => it.toString(16).padStart(2, "0")).join(""), took];
 };
 """
 
 
-def answers(program, form, some, now):
+def answers(program, form, some, now, aad):
     """Returns the native program's output for inputs with their kinds. It gets many at once, as files."""
     with tempfile.TemporaryDirectory() as folder:
         words, names = [], [f"{folder}/{place}" for place in range(len(some))]
@@ -55,8 +81,8 @@ def answers(program, form, some, now):
             with open(name, "wb") as file:
                 file.write(data)
             words += [kind, name]
-        moment = [] if now is None else [f"--now={now}"]
-        ran = subprocess.run([program, *FORMS[form], *moment, *words], capture_output=True, check=False)
+        more = ([] if now is None else [f"--now={now}"]) + ([f"--external-aad={aad.hex()}"] if aad else [])
+        ran = subprocess.run([program, *FORMS[form], *more, *words], capture_output=True, check=False)
         _, *found = re.split("|".join("^/ " + re.escape(name.replace("/", "//")) + " /\n" for name in reversed(names)), ran.stdout.decode(), flags=re.M)
         return found
 
@@ -64,11 +90,11 @@ def answers(program, form, some, now):
 def native(program, every):
     """Returns the native program's status and output for each case and form. The status is 0 if the input is accepted."""
     told = {}
-    for now in (None, MOMENT):
-        some = [case for case in every if case[2] == now]
+    for now, aad in dict.fromkeys(case[2:] for case in every):
+        some = [case for case in every if case[2:] == (now, aad)]
         for begin in range(0, len(some), 150):
             part = some[begin : begin + 150]
-            texts = {form: answers(program, form, [case[:2] for case in part], now) for form in FORMS}
+            texts = {form: answers(program, form, [case[:2] for case in part], now, aad) for form in FORMS}
             for place, case in enumerate(part):
                 status = int(texts[3][place] != "accepted\n")
                 told |= {(case, form): (status, texts[form][place]) for form in FORMS}
@@ -99,18 +125,20 @@ def rows():
 
 
 def cases():
-    """Yields each input with a kind, and a moment or None."""
+    """Yields each input with a kind, a moment or None, and external_aad."""
     for kind, data in rows():
         for it in (kind, "auto", "cwt"):
-            yield data, it, None
+            yield data, it, None, b""
         if kind == "claims":
-            yield data, kind, MOMENT
+            yield data, kind, MOMENT, b""
+        if kind in KINDS[3:9]:
+            yield data, kind, None, AAD
     folder = f"{HERE}/crates/tool_look/data"
     for name in sorted(os.listdir(folder)):
         with open(f"{folder}/{name}", "rb") as file:
             data = file.read()
         for kind in KINDS:
-            yield data, kind, MOMENT
+            yield data, kind, MOMENT, b""
 
 
 def layered(count):
@@ -142,35 +170,60 @@ def hostile():
 
 
 def annotated(shown, notes):
-    """Returns the rows and notes of the page as the text that the native program writes."""
+    """Returns the rows and notes of the page as the text that the native program writes, in the colours that the page has."""
     comment = lambda note: f" / {note.replace('/', '//')} /" if note else ""
     lines = []
-    for digits, depth, words, note, _, _ in shown:
-        lines.append(f"{digits[:BYTES]:32}  {'  ' * int(depth)}{words}{comment(note)}")
-        lines += [digits[i : i + BYTES] for i in range(BYTES, len(digits), BYTES)]
+    for digits, depth, words, note, _, _, color in shown:
+        begin = COLORS.get(color, color)
+        line = [f"{digits[:BYTES]:32}  {'  ' * int(depth)}{words}{comment(note)}"] + [digits[i : i + BYTES] for i in range(BYTES, len(digits), BYTES)]
+        lines += [f"{begin}{it}\33[0m" if begin else it for it in line]
     return "".join(f"{line}\n" for line in lines + [f"{'':32} {comment(note)}" for note in notes])
 
 
-def compare(page, program, wrong):
-    """Compares each case with the native program: the page's rows, and the module's output in each form."""
-    every = list(dict.fromkeys(cases()))
-    told = native(program, every)
+def plain(colored):
+    return re.sub("\33\\[[0-9;]*m", "", colored)
+
+
+def has_words(shown):
+    """Returns true if each row has the word of its cover."""
+    return all(WORDS[classes.split()[1]] == word for _, _, _, _, word, classes, _ in shown)
+
+
+def compare(page, program, wrong, every, told):
+    """Compares each case with the native program: the page's rows, words and colours, and the module's output in each form. Each tenth
+    text is typed. Returns a line."""
+    count = 0
     for begin in range(0, len(every), 100):
         some = every[begin : begin + 100]
-        given = json.dumps([[text(data), KINDS.index(kind), now] for data, kind, now in some])
-        shown = page.run(f"(async all => {{ const told = []; for (const [a, b, c] of all) told.push(await shownOf(a, b, c)); return told; }})({given})")
-        forms = page.run(f"""(async all => {{ const told = []; for (const [a, b, c] of all) for (const form of [1, 2, 3]) told.push(await asked(a, b, form, c));
-          return told; }})({given})""")
+        typed = [(begin + i) % 10 == 0 and data.isascii() for i, (data, *_) in enumerate(some)]
+        given = json.dumps([[text(data), kind, KINDS.index(kind), now, text(aad), is_typed] for (data, kind, now, aad), is_typed in zip(some, typed)])
+        shown, forms = page.run(f"""(async all => {{ const shown = [], forms = []; for (const [a, kind, b, c, d, e] of all) {{
+          shown.push(await shownOf(a, kind, c, d, e)); for (const form of [1, 2, 3]) forms.push(await asked(a, b, form, c, d)); }}
+          return [shown, forms]; }})({given})""")
         for place, case in enumerate(some):
             status, wanted = told[case, 1]
             said, lines, notes = shown[place]
-            is_right = said.startswith(["Accepted", "Refused"][status]) and annotated(lines, notes) == wanted
-            if not is_right:
-                wrong.append(f"shown {case}: {said} {annotated(lines, notes)} and not {wanted}")
+            count += len(lines)
+            if said != ["", "refused"][status] or annotated(lines, notes) != wanted or not has_words(lines):
+                wrong.append(f"{page.name} shown {case}: {said} {lines} {annotated(lines, notes)} and not {wanted}")
             for form, (status, answer) in zip(FORMS, forms[3 * place : 3 * place + 3]):
-                if (status, answer) != told[case, form]:
-                    wrong.append(f"form {form} of {case}: {status} {answer} and not {told[case, form]}")
-    return f"inputs with kinds {len(every)}, rows {len(list(rows()))}, answers {4 * len(every)}"
+                if (status, answer) != (told[case, form][0], plain(told[case, form][1])):
+                    wrong.append(f"{page.name} form {form} of {case}: {status} {answer} and not {told[case, form]}")
+    return f"inputs with kinds {len(every)}, rows shown {count}, answers {4 * len(every)}"
+
+
+def verify(page, wrong, every):
+    """Gives the page messages with keys, and compares its sentences. Only rows that a verified signature covers are green. Returns a
+    line."""
+    for begin in range(0, len(every), 20):
+        some = every[begin : begin + 20]
+        given = json.dumps([[text(made), text(aad), key] for _, made, aad, key, _ in some])
+        told = page.run(f"(async all => {{ const told = []; for (const it of all) told.push(await verdictsOf(...it)); return told; }})({given})")
+        for (name, _, _, _, wanted), (found, said, colors) in zip(some, told):
+            is_green = any(state == "verified" for state, *_ in wanted)
+            if found != [list(it) for it in wanted] or is_green != ("s verified" in colors) or (said and "verified" in str(wanted)):
+                wrong.append(f"{page.name} verifying {name}: {found} {said} {colors} and not {wanted}")
+    return f"signatures and MACs {sum(len(it[4]) for it in every)}"
 
 
 def compare_hostile(page, program, wrong, quick):
@@ -194,83 +247,7 @@ def compare_hostile(page, program, wrong, quick):
     return f"hostile {tried}" + (f", of which the unproved module stopped at {stopped}" if stopped else "")
 
 
-# ---- a user's actions
-
-
-def wait(page, script):
-    """Waits until the script returns true in the page. Returns false if it doesn't in time."""
-    for _ in range(400):
-        if page.run(script):
-            return True
-        time.sleep(0.02)
-    return False
-
-
-def click(page, row, side):
-    """Clicks on a side of a row: 0 is its bytes, 2 is its text."""
-    page.click(*page.run(f"""(() => {{ const it = document.querySelectorAll(".row")[{row}].children[{side}].firstChild;
-      const range = document.createRange(); range.selectNode(it); const at = range.getBoundingClientRect(); return [at.x + 4, at.y + 5]; }})()"""))
-
-
-def mark(page):
-    """Types a message, clicks on both sides of it, moves on with a key, and copies. Yields what is wrong."""
-    page.look_like(1280, 1400, "light")
-    page.run('at("clear").click(); at("input").focus()')
-    page.call("Input.insertText", text="d28443a10126a10442313154546869732069732074686520636f6e74656e742e41aa")
-    if not wait(page, 'at("status").textContent.startsWith("Accepted")'):
-        yield "what was typed isn't accepted"
-    marked = '[...document.querySelectorAll(".marked")].map(it => it.id).join(" ")'
-    for row, side, wanted in ((2, 0, "row-2 row-3 row-4 row-5 row-6"), (4, 2, "row-4")):
-        click(page, row, side)
-        if not wait(page, f'{marked} === "{wanted}"'):
-            yield f"a click marks {page.run(marked)} and not {wanted}"
-    page.run('at("rows").focus()')
-    page.key("ArrowDown")
-    if not wait(page, f'{marked} === "row-5"'):
-        yield f"the arrow key marks {page.run(marked)}"
-    page.call("Browser.grantPermissions", permissions=["clipboardReadWrite", "clipboardSanitizedWrite"])
-    page.run('document.querySelector(".note button").click()')
-    if not wait(page, 'document.querySelector(".note button").textContent === "Copied"'):
-        yield "what is signed isn't copied"
-
-
-def give(page):
-    """Gives the page markup, a file and a fault, and tries a request. Yields what is wrong."""
-    markup = "<img src=x onerror=alert(1)><script>alert(2)</script>"
-    page.run(f"type({json.dumps((head(3, len(markup)) + markup.encode()).hex())})")
-    if not wait(page, f'at("rows").textContent.includes({json.dumps(markup)})'):
-        yield "markup isn't shown as it is"
-    if page.run('document.querySelectorAll("img").length + at("rows").querySelectorAll("script").length'):
-        yield "a text becomes markup"
-    page.run("""(() => { const held = new DataTransfer(); held.items.add(new File([new Uint8Array([0x83, 1, 2, 3])], "three.cbor"));
-      document.dispatchEvent(new DragEvent("drop", {dataTransfer: held, cancelable: true})); })()""")
-    if not wait(page, 'at("status").textContent.includes("4 bytes") && at("dropped").textContent.startsWith("three.cbor")'):
-        yield "a dropped file isn't shown"
-    page.run('type("a2012601"); at("kind").value = 0')
-    if not wait(page, '!at("fault").hidden'):
-        yield "a fault isn't marked"
-    page.run('at("fault").click()')
-    if not page.run('document.querySelector("[aria-selected=true]")?.className ?? ""').startswith("row r"):
-        yield "the fault isn't found"
-    refused = page.run("""new Promise(done => { document.addEventListener("securitypolicyviolation", event => done(event.violatedDirective), {once: true});
-      fetch("https://example.com/").catch(() => setTimeout(() => done("nothing"), 500)); })""")
-    if refused != "connect-src":
-        yield f"a request isn't refused by the policy: {refused}"
-
-
-def shots(page):
-    """Saves screenshots of an example and of a fault, at two widths, light and dark. Returns what is wrong."""
-    os.makedirs(SHOTS, exist_ok=True)
-    for width, height in ((1280, 1400), (360, 1800)):
-        for scheme in ("light", "dark"):
-            page.look_like(width, height, scheme)
-            for name, script in (("example", 'type(EXAMPLE); at("moment").value = "1500000000"'), ("fault", 'type("d28445a20126012" + "6a0f640")')):
-                page.run(f'at("kind").value = 0; {script}; scrollTo(0, 0); globalThis.showing = show()')
-                page.shot(f"{SHOTS}/{name}-{width}-{scheme}.png")
-    page.look_like(1280, 1400, "light")
-    page.look_like(360, 800, "light")
-    wide = page.run("document.documentElement.scrollWidth - innerWidth")
-    return [] if wide <= 0 else [f"the page is wider than a window of 360 pixels, by {wide}"]
+# ---- all of it
 
 
 def times(page):
@@ -278,7 +255,7 @@ def times(page):
     told = []
     for name, data in hostile().items():
         if name.startswith("long"):
-            page.run(f'globalThis.text = "{data.hex()}"; 0')
+            page.install(f'globalThis.text = "{data.hex()}";')
             took = page.run("""(async () => { const begun = performance.now(); type(globalThis.text); await globalThis.showing;
               await new Promise(done => requestAnimationFrame(() => requestAnimationFrame(done))); return performance.now() - begun; })()""")
             told.append(f"{name} {took:.0f} ms")
@@ -286,23 +263,42 @@ def times(page):
     return ", ".join(told)
 
 
-def test(path, program, quick):
-    """Tests the page, and returns what is wrong, or None if there is no Chromium."""
-    if not browser.program():
-        print("there is no Chromium: the page isn't tried")
-        return None
-    wrong = []
-    with browser.Browser() as page:
+def tried(engine, path, program, given, inputs, wrong):
+    """Tests the page in one browser."""
+    every, told, signed = inputs
+    with engine() as page:
         page.open(f"file://{path}")
-        if not wait(page, "globalThis.ready ?? 0"):
-            return [f"the page isn't ready: {page.run('document.body.textContent')[:500]}"]
-        print(f"ready {page.run('ready'):.0f} ms after it was opened: {page.call('Browser.getVersion')['product']}")
-        first = page.run("(async () => { const begun = performance.now(); type(EXAMPLE); await globalThis.showing; return performance.now() - begun; })()")
-        print(f"first answer after {first:.0f} ms; a megabyte: {times(page)}")
-        page.run(SCRIPT)
-        wrong += [*mark(page), *give(page), *shots(page)]
-        print(compare(page, program, wrong))
-        print(compare_hostile(page, program, wrong, quick))
+        if not page_use.wait(page, "globalThis.ready ?? 0"):
+            wrong.append(f"{page.name}: the page isn't ready: {page.run('document.body.textContent')[:500]}")
+            return
+        print(f"{page.version}: ready {page.run('ready'):.0f} ms after it was opened", flush=True)
+        first = page.run("(async () => { const begun = performance.now(); showSample(0); await globalThis.showing; return performance.now() - begun; })()")
+        page.install(SCRIPT)
+        print(f"  first answer after {first:.0f} ms", flush=True)
+        wrong += page_use.used(page)
+        print(f"  {verify(page, wrong, signed)}", flush=True)
+        print(f"  {compare(page, program, wrong, every, told)}", flush=True)
+        if engine is browser.Browser:
+            wrong += page_use.shots(page)
+            print(f"  a megabyte: {times(page)}", flush=True)
+            print(f"  {compare_hostile(page, program, wrong, given.quick)}", flush=True)
         others = [it for it in page.requests if it != f"file://{path}" and not it.startswith(("blob:", "https://example.com/"))]
         wrong += [f"a request to {it}" for it in others]
+
+
+def test(path, program, given):
+    """Tests the page in each browser that is installed. Returns what is wrong, or None if there is no browser."""
+    found = [it for it in ENGINES if it.program() and (not given.browser or it.name.lower().startswith(given.browser.lower()))]
+    for it in ENGINES:
+        if not it.program():
+            print(f"there is no {it.name}: the page isn't tried there")
+    if not found:
+        return None
+    if not page_keys.HAS_CIPHERS:
+        print("there is no python3-cryptography: no signatures are tried")
+    every = list(dict.fromkeys(cases()))[:: given.every]
+    inputs = every, native(program, every), list(page_keys.cases()) if page_keys.HAS_CIPHERS else []
+    wrong = []
+    for it in found:
+        tried(it, path, program, given, inputs, wrong)
     return wrong

@@ -18,7 +18,7 @@ import browser
 import common
 import wasm64
 from capi import accepting, building, calling, install, memory, names, trying
-from capi.building import WRAPPERS, run
+from capi.building import WRAPPERS
 from capi.kinds import MEMORY, NAMES, OK, REFUSED, SHORT
 from capi.vectors import named, token
 from cbor import decode
@@ -33,7 +33,6 @@ HEADERS = {
     "stdlib.h": "#include <stddef.h>\nvoid *malloc(size_t size);\nvoid free(void *block);\n",
     "string.h": "#include <stddef.h>\n#define memcpy __builtin_memcpy\n#define memset __builtin_memset\n",
 }
-FEATURES = ("memory64", "bulk-memory", "sign-ext", "mutable-globals", "nontrapping-float-to-int", "multivalue", "reference-types")
 # The largest module: what a page has to load.
 LARGEST = 550_000
 SCRIPTS = ("calls", "verify", "issue", "accept", "tests")
@@ -82,17 +81,15 @@ def module(quick):
             with open(language, encoding="utf-8") as file:
                 objects = compiled(folder, file.read(), quick)
             must(wasm64.link(objects, exports(), f"{folder}/wide.wasm"))
-            run(["wasm-opt", *(f"--enable-{it}" for it in FEATURES), f"{folder}/wide.wasm", "--memory64-lowering", "-Oz", "-o",
-                 f"{folder}/coset.wasm"])
+            must(wasm64.lowered(f"{folder}/wide.wasm", f"{folder}/coset.wasm"))
             shutil.move(f"{folder}/coset.wasm", made)
     return made
 
 
 def lacking():
     """Returns a sentence on a tool that is missing for the module, or None."""
-    if not shutil.which("wasm-opt"):
-        return "there is no wasm-opt (binaryen) for JavaScript"
-    return None if wasm64.has_wasm() else "the kit's clang has no wasm64 for JavaScript"
+    lacks = wasm64.lacking()
+    return f"{lacks} for JavaScript" if lacks else None
 
 
 # ---- The package

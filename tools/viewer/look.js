@@ -1,183 +1,71 @@
-"use strict";
-const KINDS = "auto cwt value sign1 sign mac mac0 encrypt encrypt0 countersignature key keyset claims kdf".split(" ");
-const ROWS = 0, ANNOTATED = 1;  // forms
-const COVERS = { s: "signed", a: "authenticated", n: "not signed", u: "not authenticated", r: "refused" };
-const CHARACTERS = 2000;  // as many of a text or of digits are shown in one row
-const FIRST = 1000, MORE = 10000;  // rows that are shown at first, and more at a click
-const EXAMPLE = "d28443a10126a104524173796d6d657472696345434453413235365850a70175636f61703a2f2f61732e6578616d706c652e636f6d02656572696b77037818636f61703a2f2f6c696768742e6578616d706c652e636f6d041a5612aeb0051a5610d9f0061a5610d9f007420b7158405427c1ff28d23fbad1f29c4c7c6a555e601d6fa29f9179bc3d7438bacaca5acd08c8d4d4f96131680c429a01f85951ecee743a52b9b63632c57209120e1c9e30";
-const NO_BYTES = new Uint8Array(0);
-const at = id => document.getElementById(id), decoder = new TextDecoder(), encoder = new TextEncoder();
+// ---- The fields
+const KINDS = {
+  auto: "as its tag says, or what fits", cwt: "web token (CWT)", value: "any CBOR", sign1: "COSE_Sign1", sign: "COSE_Sign", mac: "COSE_Mac",
+  mac0: "COSE_Mac0", encrypt: "COSE_Encrypt", encrypt0: "COSE_Encrypt0", countersignature: "COSE_Countersignature", key: "COSE_Key",
+  keyset: "COSE_KeySet", claims: "claims of a web token", kdf: "COSE_KDF_Context",
+};
+const LINK = 4000;  // the most bytes of an input that a link contains
 
-function element(name, text = "", of = "") {
-  const made = document.createElement(name);
-  made.textContent = text;
-  made.className = of;
-  return made;
+let file = null, waiting = null;  // a file that was dropped or opened: its name and its bytes; the last call of `show`
+
+// Returns the moment by which times are judged, in seconds since 1970, or NaN.
+function moment() {
+  if (at("clock").checked) return Math.floor(Date.now() / 1000);
+  return Math.floor(new Date(at("moment").value).getTime() / 1000);
 }
 
-function button(text, action) {
-  const made = element("button", text);
-  made.type = "button";
-  made.onclick = action;
-  return made;
-}
-
-// ---- The module, in a worker: one look at a time, and of those that wait the last one alone
-
-const worker = new Worker(URL.createObjectURL(new Blob([at("engine").textContent], { type: "text/javascript" })));
-let isReady = false, waiting = null, asking = Promise.resolve();
-
-function answer() {
-  return new Promise((done, failed) => {
-    worker.onmessage = ({ data }) => data.failed ? failed(new Error(data.failed)) : done(data);
-    worker.onerror = event => failed(new Error(event.message));
-  });
-}
-
-// What the module answers: its status, and a text as bytes.
-function look(...asked) {
-  const next = asking.then(() => {
-    const told = answer();
-    worker.postMessage({ asked });
-    return told;
-  });
-  asking = next.catch(() => {});
-  return next;
-}
-
-// ---- What was asked
-
-let file = null;  // one that was dropped or opened: its name and its bytes
-
+// Returns the arguments of a look at what the fields contain.
 function given() {
-  const moment = at("moment").value.trim(), digits = at("aad").value.replace(/\s/g, "");
-  const isMoment = /^-?\d{1,18}$/.test(moment), isHex = /^([0-9a-f]{2})*$/i.test(digits);
-  at("moment").setAttribute("aria-invalid", String(moment !== "" && !isMoment));
+  const digits = at("aad").value.replace(/\s/g, ""), isHex = /^([0-9a-f]{2})*$/i.test(digits), now = moment();
   at("aad").setAttribute("aria-invalid", String(!isHex));
-  at("date").textContent = moment === "" ? "" : isMoment ? dated(Number(moment)) : "no whole number of seconds";
   at("aad-said").textContent = isHex ? "" : "not hexadecimal: taken as empty";
-  const aad = isHex ? Uint8Array.from(digits.match(/../g) ?? [], it => parseInt(it, 16)) : NO_BYTES;
-  return [file ? file.bytes : encoder.encode(at("input").value), Number(at("kind").value), ROWS, isMoment ? BigInt(moment) : null, aad];
-}
-
-function dated(seconds) {
-  const date = new Date(seconds * 1000);
-  return isNaN(date) ? "" : date.toISOString().replace(".000Z", "Z");
-}
-
-// ---- What is shown: the rows of the answer, of which each is read when it is shown
-
-let rows = { bytes: NO_BYTES, starts: new Uint32Array(1), count: 0 };
-
-// The answer's first line, where each line behind it begins, and the notes, which are at the end behind `=`.
-function parsed(bytes) {
-  let lines = 0;
-  for (let end = bytes.indexOf(10); end >= 0; end = bytes.indexOf(10, end + 1)) lines++;
-  const starts = new Uint32Array(lines + 1), line = i => decoder.decode(bytes.subarray(starts[i], starts[i + 1] - 1));
-  for (let i = 0; i < lines; i++) starts[i + 1] = bytes.indexOf(10, starts[i]) + 1;
-  let count = lines - 1;
-  while (count > 0 && bytes[starts[count]] === 61) count--;
-  const notes = Array.from({ length: lines - 1 - count }, (_, i) => line(count + 1 + i).slice(1));
-  return { bytes, starts: starts.subarray(1), count, notes, said: line(0) };
-}
-
-function row(i) {
-  const [cover, depth, digits, text, note] = decoder.decode(rows.bytes.subarray(rows.starts[i], rows.starts[i + 1] - 1)).split("\t");
-  return { cover, depth: Number(depth), digits, text, note };
-}
-
-function depthOf(i) {
-  let depth = 0;
-  for (let place = rows.starts[i] + 2; rows.bytes[place] !== 9; place++) depth = 10 * depth + rows.bytes[place] - 48;
-  return depth;
-}
-
-function isRefused(i) {
-  return rows.bytes[rows.starts[i]] === 114;
-}
-
-function cut(text, rest) {
-  return text.length > CHARACTERS ? `${text.slice(0, CHARACTERS)}… (${rest})` : text;
-}
-
-function rowElement(i) {
-  const { cover, depth, digits, text, note } = row(i), made = element("div", "", `row ${cover}`), meaning = element("span", "", "meaning");
-  made.id = `row-${i}`;
-  made.setAttribute("role", "option");
-  made.setAttribute("aria-selected", "false");
-  meaning.style.setProperty("--depth", Math.min(depth, 32));
-  meaning.append(element("code", cut(text, `${text.length} characters`)), note && " ", note && element("em", note));
-  made.append(element("code", cut(digits, `${digits.length / 2} bytes`), "bytes"), element("span", COVERS[cover] ?? "", "cover"), meaning);
-  return made;
-}
-
-// A button in place of the rows from one to another, which shows some of them.
-function gap(from, to) {
-  const made = button(`${(to - from).toLocaleString("en")} more lines`, () => fill(made, from, Math.min(from + MORE, to)));
-  made.className = "gap";
-  made.dataset.from = from;
-  made.dataset.to = to;
-  return made;
-}
-
-// Shows rows from one to another in a gap.
-function fill(place, from, to) {
-  const shown = [], start = Number(place.dataset.from), end = Number(place.dataset.to);
-  if (start < from) shown.push(gap(start, from));
-  for (let first = from; first < to; first += 100) {
-    const block = element("div", "", "block");
-    block.append(...Array.from({ length: Math.min(100, to - first) }, (_, i) => rowElement(first + i)));
-    shown.push(block);
-  }
-  if (to < end) shown.push(gap(to, end));
-  place.replaceWith(...shown);
-}
-
-function noteElement(note) {
-  const place = note.lastIndexOf(": "), digits = note.slice(place + 2), made = element("section", "", "note");
-  made.append(element("h2", note.slice(0, place)), element("code", cut(digits, `${digits.length / 2} bytes`)), button("Copy", event => copied(event.target, digits)));
-  return made;
-}
-
-// Shows an answer.
-function put(status, answered) {
-  rows = answered;
-  const place = gap(0, rows.count);
-  at("rows").replaceChildren(place);
-  at("rows").removeAttribute("aria-activedescendant");
-  fill(place, 0, Math.min(FIRST, rows.count));
-  at("notes").replaceChildren(...rows.notes.map(noteElement));
-  at("result").hidden = rows.count === 0;
-  at("after").hidden = rows.count === 0;
-  at("fault").hidden = firstRefused() < 0;
-  say(status === 0 ? "Accepted" : "Refused", status === 0 ? "accepted" : "refused", told());
-}
-
-function told() {
-  const fault = firstRefused();
-  return [rows.said, fault < 0 ? "" : row(fault).note].filter(Boolean).join("; ");
-}
-
-let refusedAt = -1, refusedOf = null;
-function firstRefused() {
-  if (refusedOf !== rows) {
-    refusedOf = rows;
-    refusedAt = -1;
-    for (let i = 0; i < rows.count && refusedAt < 0; i++) if (isRefused(i)) refusedAt = i;
-  }
-  return refusedAt;
-}
-
-function say(word, of, text) {
-  at("status").className = of;
-  at("status").replaceChildren(element("strong", word), text ? `: ${text}` : "");
+  at("moment").disabled = at("clock").checked;
+  at("date").textContent = isNaN(now) ? "no moment: times are not judged" : `${new Date(1000 * now).toISOString().slice(0, 16).replace("T", " ")} UTC`;
+  const input = file ? file.bytes : encoder.encode(at("input").value);
+  return [input, Object.keys(KINDS).indexOf(at("kind").value), ROWS, now, isHex ? bytesOfHex(digits) : NO_BYTES];
 }
 
 function isEmpty() {
   return !file && at("input").value.trim() === "";
 }
 
-// Shows what the fields ask for; of several calls at once the last one.
+// ---- The answer
+
+function say(of, word, text = "") {
+  at("status").className = of;
+  at("status").replaceChildren(word ? element("strong", word) : "", word && text ? ": " : "");
+  addText(at("status"), cut(text, "cut"));
+}
+
+// Shows the summary, with its dates also in the browser's time zone.
+function saySummary(summary) {
+  const here = localDates(summary);
+  say(firstRefused() < 0 ? "" : "refused", "", summary);
+  if (here) at("status").append(" ", element("small", `(${here} here)`));
+}
+
+// Returns a summary of an answer that has none.
+function plainSummary(status) {
+  const fault = firstRefused();
+  return fault < 0 ? (status === 0 ? "Well-formed." : "") : row(fault).note;
+}
+
+function put(status, answered) {
+  rows = answered;
+  verdicts = [];
+  plant();
+  rows.summary = rows.summary || plainSummary(status);
+  at("notes").replaceChildren(...rows.notes.map(noteElement));
+  for (const id of ["result", "after"]) at(id).hidden = rows.count === 0;
+  at("fault").hidden = firstRefused() < 0;
+  at("read").textContent = rows.count || rows.summary ? rows.said : "";
+  for (const id of ["verdicts", "key-said"]) at(id).replaceChildren();
+  at("ciphers").hidden = true;
+  if (rows.summary) saySummary(rows.summary);
+  else say(status === 0 ? "" : "refused", "", rows.said);
+}
+
+// Shows what the fields ask for. Of several calls at once, only the last one is shown.
 async function show() {
   const asked = given(), mine = waiting = {};
   if (!isReady) return;
@@ -185,61 +73,30 @@ async function show() {
   await asking;
   if (mine !== waiting) return;
   try {
-    const { status, text } = await look(...asked);
+    const { status, text } = await call("look", ...asked);
     if (mine !== waiting) return;
-    if (status === 2) throw new Error("memory ran out");
     put(status, parsed(new Uint8Array(text)));
+    await verify(asked, () => mine === waiting);
   } catch (error) {
-    if (mine === waiting) clearResult(), say("No answer", "refused", error.message);
+    if (mine === waiting) clearResult(), say("refused", "No answer", error.message);
   }
 }
 
 function clearResult() {
-  for (const id of ["result", "after"]) at(id).hidden = true;
-  at("status").className = "";
-  at("status").textContent = isReady ? "Ready" : "Loading";
+  for (const id of ["result", "after", "ciphers"]) at(id).hidden = true;
+  for (const id of ["verdicts", "key-said"]) at(id).replaceChildren();
+  at("read").textContent = "";
+  say("", "", isReady ? "Ready" : "Loading");
 }
 
-// ---- Marking: a click on either side marks the item, its bytes and what they are
-
-// The row behind an item's last one: what it holds is deeper, and its end is as deep as its beginning.
-function behind(i) {
-  const depth = depthOf(i);
-  let last = i + 1;
-  while (last < rows.count && depthOf(last) > depth) last++;
-  const isEnd = last > i + 1 && last < rows.count && /^(\]|\}|\)|>>)/.test(row(last).text);
-  return isEnd && depthOf(last) === depth ? last + 1 : last;
+function showAgain() {
+  globalThis.showing = show();
 }
 
-function mark(i) {
-  const to = behind(i), isMarked = made => Number(made.id.slice(4)) >= i && Number(made.id.slice(4)) < to;
-  for (const made of at("rows").querySelectorAll(".row")) {
-    made.classList.toggle("marked", isMarked(made));
-    made.setAttribute("aria-selected", String(made.id === `row-${i}`));
-  }
-  at("rows").setAttribute("aria-activedescendant", `row-${i}`);
-}
-
-function go(i) {
-  if (i < 0 || i >= rows.count) return;
-  const hidden = [...at("rows").querySelectorAll(".gap")].find(it => Number(it.dataset.from) <= i && i < Number(it.dataset.to));
-  if (hidden) fill(hidden, Math.max(Number(hidden.dataset.from), i - 200), Math.min(Number(hidden.dataset.to), i + 200));
-  mark(i);
-  at(`row-${i}`).scrollIntoView({ block: "nearest" });
-}
-
-function moved(event) {
-  const current = at("rows").getAttribute("aria-activedescendant"), i = current ? Number(current.slice(4)) : -1;
-  const to = { ArrowDown: i + 1, ArrowUp: i - 1, Home: 0, End: rows.count - 1 }[event.key];
-  if (to === undefined) return;
-  event.preventDefault();
-  go(Math.max(0, Math.min(to, rows.count - 1)));
-}
-
-// ---- Copying, files, fields
+// ---- Copying
 
 async function copied(from, text) {
-  const before = from.textContent;
+  const before = from.dataset.name ??= from.textContent;
   try {
     await navigator.clipboard.writeText(text);
     from.textContent = "Copied";
@@ -252,55 +109,113 @@ async function copied(from, text) {
 async function copyAll(event) {
   const asked = given();
   asked[2] = ANNOTATED;
-  const { text } = await look(...asked);
-  if (text) copied(event.target, decoder.decode(text));
+  const { text } = await call("look", ...asked);
+  copied(event.target, decoder.decode(text));
 }
 
-async function open(chosen) {
-  if (!chosen) return;
-  file = { name: chosen.name, bytes: new Uint8Array(await chosen.arrayBuffer()) };
+function copyLink(event) {
+  const digits = digitsOf(0, rows.count);
+  if (digits.length > 2 * LINK) return say("refused", "No link", `it would contain more than ${LINK} bytes`);
+  copied(event.target, `${location.href.split("#")[0]}#${digits}`);
+}
+
+// ---- Input: files, samples, links, typing
+
+async function open(files) {
+  if (!files.length) return;
+  try {
+    file = { name: files[0].name, bytes: new Uint8Array(await files[0].arrayBuffer()) };
+  } catch {
+    return say("refused", "Not read", `${files[0].name} can't be read: a folder has no bytes`);
+  }
   at("input").value = "";
-  at("dropped").textContent = `${file.name}, ${file.bytes.length.toLocaleString("en")} bytes`;
-  globalThis.showing = show();
+  at("file").value = "";
+  at("sample").value = "";
+  const others = files.length > 1 ? `; of ${files.length} files, the first is shown` : "";
+  at("dropped").textContent = `${file.name}, ${file.bytes.length.toLocaleString("en")} bytes${others}`;
+  showAgain();
 }
 
 function type(text) {
   file = null;
-  at("file").value = "";
   at("dropped").textContent = "";
   if (text !== undefined) at("input").value = text;
-  globalThis.showing = show();
+  else at("sample").value = "";
+  showAgain();
 }
 
+// Shows a sample with its key.
+function showSample(i) {
+  const { input, key = "" } = SAMPLES[i];
+  at("sample").value = i;
+  at("kind").value = "auto";
+  at("aad").value = "";
+  at("key").value = key;
+  type(input);
+}
+
+// Shows the input of the address, behind `#`. Returns false if there is none.
+function showLinked() {
+  let text = location.hash.slice(1);
+  try {
+    text = decodeURIComponent(text);
+  } catch {
+    // The text has a % that begins no character.
+  }
+  if (text) at("key").value = "", at("sample").value = "", type(text);
+  return text !== "";
+}
+
+function dropped(event) {
+  document.body.classList.remove("over");
+  if (!event.dataTransfer.types.includes("Files")) return;
+  event.preventDefault();
+  open([...event.dataTransfer.files]);
+}
+
+function draggedOver(event) {
+  if (!event.dataTransfer.types.includes("Files")) return;
+  event.preventDefault();
+  document.body.classList.add("over");
+}
+
+// ---- The start
+
 function listen() {
-  for (const [i, kind] of KINDS.entries()) at("kind").add(new Option(i ? kind : "auto: what its tag says, or what reads it", i));
+  for (const [kind, words] of Object.entries(KINDS)) at("kind").add(new Option(words, kind));
+  for (const [i, { name }] of SAMPLES.entries()) at("sample").add(new Option(name, i));
   at("input").oninput = () => type();
-  for (const id of ["kind", "moment", "aad"]) at(id).oninput = () => globalThis.showing = show();
+  for (const id of ["kind", "clock", "moment", "aad", "key"]) at(id).oninput = showAgain;
   at("form").onsubmit = event => event.preventDefault();
-  at("example").onclick = () => type(EXAMPLE);
-  at("clear").onclick = () => type("");
-  at("now").onclick = () => (at("moment").value = String(Math.floor(Date.now() / 1000)), globalThis.showing = show());
-  at("file").onchange = event => open(event.target.files[0]);
+  at("sample").onchange = () => at("sample").value && showSample(Number(at("sample").value));
+  at("clear").onclick = () => (at("key").value = "", at("sample").value = "", type(""));
+  at("file").onchange = event => open([...event.target.files]);
   at("copy").onclick = copyAll;
+  at("link").onclick = copyLink;
   at("fault").onclick = () => (go(firstRefused()), at("rows").focus());
-  at("rows").onclick = event => event.target.closest(".row") && mark(Number(event.target.closest(".row").id.slice(4)));
-  at("rows").onkeydown = moved;
-  document.ondragover = event => (event.preventDefault(), document.body.classList.add("over"));
+  listenToTree();
+  globalThis.onhashchange = showLinked;
+  document.ondragover = draggedOver;
   document.ondragleave = () => document.body.classList.remove("over");
-  document.ondrop = event => (event.preventDefault(), document.body.classList.remove("over"), open(event.dataTransfer.files[0]));
+  document.ondrop = dropped;
+}
+
+// Returns what this browser lacks, or nothing.
+function lacks() {
+  if (!globalThis.WebAssembly) return "WebAssembly";
+  if (!globalThis.Worker) return "workers";
+  return globalThis.DecompressionStream ? "" : "DecompressionStream";
 }
 
 async function start() {
   listen();
+  if (!showLinked()) showSample(0);
   try {
-    const module = Uint8Array.from(atob(at("module").textContent), it => it.charCodeAt(0)), told = answer();
-    worker.postMessage({ module }, [module.buffer]);
-    await told;
-    isReady = true;
-    clearResult();
+    if (lacks()) throw new Error(`it has no ${lacks()}`);
+    await loadModule();
     await (globalThis.showing = show());
   } catch (error) {
-    say("This browser can't run it", "refused", `it needs WebAssembly with 64-bit memory, as Chromium 133 and Firefox 134 have it (${error.message})`);
+    say("refused", "This browser can't run the page", error.message);
   }
   globalThis.ready = performance.now();
 }

@@ -1,10 +1,12 @@
 //! Writes answers into the page's memory.
 
-ghost use Rattle.std.specs.Prelude.{◌≡◌};
+ghost use Rattle.std.specs.Prelude.{◌≡◌, ◌≤◌};
 ghost use Rattle.tool_page.specs.Told.{Tells, number_of};
 ghost use Rattle.tool_view.specs.Accepted.{AcceptsInput};
 
+use cwt_keys::Form;
 use std::alloc::Global;
+use tool_seals::described;
 use tool_view::{Asked, look};
 
 /// The reason why there is no answer.
@@ -50,6 +52,31 @@ pub(crate) fn answered(
     *len = 0;
     match look(alloc, asked, input, "") {
         Ok(shown) => put(shown.text.as_str().as_bytes(), shown.status, out, len),
+        Err(_) => Err(Unanswered::Memory),
+    }
+}
+
+/// Writes the lines about the seals of an input and about the keys to the front of `out`. Returns 0,
+/// or 1 if the input isn't a message; the text is then empty.
+///
+/// # Errors
+/// - `Memory` if an allocation fails.
+/// - `Short` if `out` is too short for the text.
+pub(crate) fn judged(
+    alloc: Global,
+    form: Option<Form>,
+    input: &[u8],
+    keys: &[u8],
+    external_aad: &[u8],
+    out: &mut [u8],
+    len: &mut usize,
+) -> Result<u8, Unanswered>
+    ensures { Tells (λ s. s ≤ 1) out.old out.new len.new result }
+{
+    *len = 0;
+    match described(alloc, form, input, keys, external_aad) {
+        Ok(Some(text)) => put(text.as_str().as_bytes(), 0, out, len),
+        Ok(None) => put(&[], 1, out, len),
         Err(_) => Err(Unanswered::Memory),
     }
 }

@@ -3,6 +3,7 @@
 ghost use Rattle.std.specs.Prelude.{◌≡◌, IfOk};
 ghost use Rattle.tool_page.specs.Numbers.{kind_of};
 
+use cwt_keys::Form as MessageForm;
 use std::alloc::{AllocError, Global};
 use tool_explain::Kind;
 use tool_view::{Asked, Form};
@@ -26,6 +27,19 @@ fn kind_of(number: u32) -> Kind
         12 => Kind::Claims,
         13 => Kind::Kdf,
         _ => Kind::Auto,
+    }
+}
+
+/// Returns the form of the messages of the kind with this number, or `None` if these have no form.
+pub(crate) fn message_form(number: u32) -> Option<MessageForm> {
+    match kind_of(number) {
+        Kind::Sign1 => Some(MessageForm::Sign1),
+        Kind::Sign => Some(MessageForm::Sign),
+        Kind::Mac => Some(MessageForm::Mac),
+        Kind::Mac0 => Some(MessageForm::Mac0),
+        Kind::Encrypt => Some(MessageForm::Encrypt),
+        Kind::Encrypt0 => Some(MessageForm::Encrypt0),
+        _ => None,
     }
 }
 

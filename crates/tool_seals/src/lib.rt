@@ -1,0 +1,55 @@
+//! Which key fits which signature or MAC of a message, and which bytes each covers, for a program
+//! that has ciphers.
+//!
+//! [`described`] writes it as lines of fields with tabs between them. `tools/page` reads them, so
+//! their form is fixed. Bytes are in hexadecimal, and `-` is an absent field. A text is in double
+//! quotes, with the escapes of Rust's `escape_default`.
+//!
+//! ```text
+//! X <INDEX> <ERROR>
+//! S <NAME> <FORM> <ALGORITHM> <STRUCTURE> <PROOF>
+//! K <INDEX> <KID> <VERDICT> <KTY> <CRV> <MEMBER>..
+//! E <NAME> <ALGORITHM>
+//! .. more
+//! ```
+//!
+//! - `X` is a key that can't be read, by its index in the set. It is skipped (RFC 9052, section 7).
+//!   The index is `-` if the keys are neither a key nor a set. These lines come first.
+//! - `S` is a signature or MAC. A line `K` for each key that was read follows it.
+//! - `E` is a ciphertext. No line `K` follows it.
+//! - The last line is `.. more` if there are more than 16 of both.
+//!
+//! The fields:
+//!
+//! - `NAME` is `signature`, `signature 0` (of several signers), `tag` or `ciphertext`. A
+//!   countersignature is `countersignature 0 of the message` (label 7), `version 2 countersignature 0
+//!   of the message` (label 11) or `version 2 abbreviated countersignature of the message` (label
+//!   12). Messages in the payload begin with `layer 1: `, `layer 2: ` or `layer 3: `.
+//! - `FORM` is `sign` or `mac`.
+//! - `ALGORITHM` is that of the protected header: the number, the text, or `-`.
+//! - `STRUCTURE` is the `Sig_structure` or the `MAC_structure` (RFC 8152, sections 4.4 and 6.3), or
+//!   the `Countersign_structure` (RFC 9338, section 3.3). It is `-` if the payload is detached, or if
+//!   the library makes none.
+//! - `PROOF` is the signature or the MAC.
+//! - `VERDICT` is `fits` or the reason against the key: `algorithm`, `alg`, `kty`, `crv`, `length`,
+//!   `key_ops` or `kid`. See [`Verdict`].
+//! - `KTY` and `CRV` are a number or a text.
+//! - `MEMBER` is `x=HEX` and `y=HEX` for EC2 and OKP keys, `n=HEX` and `e=HEX` for RSA, `k=HEX` for
+//!   symmetric keys. If `y` is the sign of a compressed point, it is `y=sign0` or `y=sign1`. No
+//!   other member is written, so none that is private.
+#![tactic(auto)]
+
+mod countersigned;
+mod keys;
+mod message;
+mod own;
+mod seal;
+mod seals;
+mod text;
+mod verdict;
+
+pub use keys::{Keys, keys_from_slice};
+pub use seal::{Part, Seal};
+pub use seals::{Seals, seals};
+pub use text::described;
+pub use verdict::{Verdict, verdict};

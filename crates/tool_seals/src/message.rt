@@ -1,0 +1,184 @@
+//! Messages, read by a form, by their tag, or by what they fit.
+
+use crate::countersigned::Target;
+use coset::cbor::head::{MajorType, read_head};
+use coset::{
+    CoseEncrypt, CoseEncrypt0, CoseError, CoseMac, CoseMac0, CoseSign, CoseSign1, Result,
+    TaggedCborSerializable,
+};
+use cwt_keys::Form;
+use std::alloc::Global;
+
+/// The tag of web tokens (RFC 8392, section 6).
+const CWT: u64 = 61;
+
+/// The forms that are tried for bytes without a tag, in this order.
+const TRIED: [Form; 6] = [
+    Form::Sign1,
+    Form::Mac0,
+    Form::Encrypt0,
+    Form::Sign,
+    Form::Mac,
+    Form::Encrypt,
+];
+
+/// A message.
+#[derive(Drop)]
+pub(crate) enum Message {
+    Sign1(CoseSign1),
+    Mac0(CoseMac0),
+    Encrypt0(CoseEncrypt0),
+    Sign(CoseSign),
+    Mac(CoseMac),
+    Encrypt(CoseEncrypt),
+}
+
+/// Returns the bytes of a content, or `None` if it is detached.
+fn bytes_of(content: &Option<Vec<u8>>) -> Option<&[u8]> {
+    match content {
+        Some(bytes) => Some(bytes),
+        None => None,
+    }
+}
+
+impl Message {
+    /// Returns the parts of the message that countersignatures cover.
+    pub(crate) fn target(&self) -> Target<'_> {
+        let (protected, unprotected, content, other) = match self {
+            Message::Sign1(message) => {
+                let other: &[u8] = &message.signature;
+                (&message.protected, &message.unprotected, &message.payload, Some(other))
+            }
+            Message::Mac0(message) => {
+                let other: &[u8] = &message.tag;
+                (&message.protected, &message.unprotected, &message.payload, Some(other))
+            }
+            Message::Mac(message) => {
+                let other: &[u8] = &message.tag;
+                (&message.protected, &message.unprotected, &message.payload, Some(other))
+            }
+            Message::Sign(message) => {
+                (&message.protected, &message.unprotected, &message.payload, None)
+            }
+            Message::Encrypt0(message) => {
+                (&message.protected, &message.unprotected, &message.ciphertext, None)
+            }
+            Message::Encrypt(message) => {
+                (&message.protected, &message.unprotected, &message.ciphertext, None)
+            }
+        };
+        Target {
+            protected,
+            unprotected,
+            content: bytes_of(content),
+            other,
+        }
+    }
+
+    /// Returns the payload. Returns `None` if it is detached or encrypted.
+    pub(crate) fn into_payload(self) -> Option<Vec<u8>> {
+        match self {
+            Message::Sign1(message) => message.payload,
+            Message::Mac0(message) => message.payload,
+            Message::Sign(message) => message.payload,
+            Message::Mac(message) => message.payload,
+            Message::Encrypt0(_) | Message::Encrypt(_) => None,
+        }
+    }
+}
+
+/// Returns the form that a tag names (RFC 8152, table 1).
+fn form_of(tag: u64) -> Option<Form> {
+    match tag {
+        16 => Some(Form::Encrypt0),
+        17 => Some(Form::Mac0),
+        18 => Some(Form::Sign1),
+        96 => Some(Form::Encrypt),
+        97 => Some(Form::Mac),
+        98 => Some(Form::Sign),
+        _ => None,
+    }
+}
+
+/// Returns the number of the tag at the front, and the bytes after its head.
+fn tag_at_front(bytes: &[u8]) -> Option<(u64, &[u8])> {
+    match read_head(bytes) {
+        Ok((head, rest)) if head.major_type == MajorType::Tag => Some((head.number()?, rest)),
+        _ => None,
+    }
+}
+
+/// Returns the content of tag 61 at the front, or other bytes as they are.
+fn without_cwt_tag(bytes: &[u8]) -> &[u8] {
+    match tag_at_front(bytes) {
+        Some((CWT, rest)) => rest,
+        _ => bytes,
+    }
+}
+
+/// Reads a message of this form, plain or under its tag.
+///
+/// # Errors
+/// - `OutOfMemory` if an allocation fails.
+/// - A fault in bytes that aren't such a message.
+pub(crate) fn read_as(alloc: Global, form: Form, bytes: &[u8]) -> Result<Message> {
+    match form {
+        Form::Sign1 => Ok(Message::Sign1(CoseSign1::from_any_slice(alloc, bytes)?)),
+        Form::Mac0 => Ok(Message::Mac0(CoseMac0::from_any_slice(alloc, bytes)?)),
+        Form::Encrypt0 => Ok(Message::Encrypt0(CoseEncrypt0::from_any_slice(alloc, bytes)?)),
+        Form::Sign => Ok(Message::Sign(CoseSign::from_any_slice(alloc, bytes)?)),
+        Form::Mac => Ok(Message::Mac(CoseMac::from_any_slice(alloc, bytes)?)),
+        Form::Encrypt => Ok(Message::Encrypt(CoseEncrypt::from_any_slice(alloc, bytes)?)),
+    }
+}
+
+/// Reads a message of the first form that fits.
+///
+/// # Errors
+/// - `OutOfMemory` if an allocation fails.
+/// - The fault against the last form, if none fits.
+fn read_tried(alloc: Global, bytes: &[u8]) -> Result<Message> {
+    let mut refused = CoseError::ExtraneousData;
+    for form in TRIED {
+        match read_as(alloc, form, bytes) {
+            Ok(message) => return Ok(message),
+            Err(CoseError::OutOfMemory) => return Err(CoseError::OutOfMemory),
+            Err(error) => refused = error,
+        }
+    }
+    Err(refused)
+}
+
+/// Reads the message that the tag at the front names.
+///
+/// # Errors
+/// - `OutOfMemory` if an allocation fails.
+/// - A fault in the bytes, if they are no message under its tag.
+pub(crate) fn read_tagged(alloc: Global, bytes: &[u8]) -> Result<Message> {
+    match tag_at_front(bytes) {
+        Some((tag, _)) => match form_of(tag) {
+            Some(form) => read_as(alloc, form, bytes),
+            None => Err(CoseError::UnexpectedItem("tag", "message")),
+        },
+        None => Err(CoseError::UnexpectedItem("no tag", "message")),
+    }
+}
+
+/// Reads the outermost message: of the form `form`, if it is given, plain or under its tag. Else it
+/// is of the form that its tag names, with or without tag 61, or without a tag of the first form
+/// that fits.
+///
+/// # Errors
+/// - `OutOfMemory` if an allocation fails.
+/// - A fault in bytes that aren't such a message.
+pub(crate) fn read_outermost(alloc: Global, form: Option<Form>, bytes: &[u8]) -> Result<Message> {
+    if let Some(form) = form {
+        return read_as(alloc, form, bytes);
+    }
+    let bytes = without_cwt_tag(bytes);
+    if tag_at_front(bytes).is_some() {
+        read_tagged(alloc, bytes)
+    } else {
+        read_tried(alloc, bytes)
+    }
+}

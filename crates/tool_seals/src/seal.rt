@@ -1,0 +1,67 @@
+//! A signature, MAC or ciphertext of a message, with what decides which key fits it.
+
+use coset::{Header, ProtectedHeader};
+use cwt_keys::{Form, Sealed};
+
+/// The part of a message that a seal is.
+#[derive(Clone, Copy, Debug, PartialEq, Eq)]
+pub enum Part {
+    /// The signature of a `COSE_Sign1`.
+    Signature,
+    /// The signature at this index of a `COSE_Sign`.
+    Signer(usize),
+    /// The MAC of a `COSE_Mac0` or a `COSE_Mac`.
+    Tag,
+    /// The ciphertext of a `COSE_Encrypt0` or a `COSE_Encrypt`.
+    Ciphertext,
+    /// The countersignature at this index under label 7 (RFC 8152, section 4.5).
+    Countersignature(usize),
+    /// The countersignature of version 2 at this index under label 11 (RFC 9338, section 3.1).
+    CountersignatureV2(usize),
+    /// The abbreviated countersignature of version 2 under label 12 (RFC 9338, section 3.2).
+    AbbreviatedV2,
+}
+
+/// A signature, MAC or ciphertext of a message, with the headers that say which key it is by.
+#[derive(Drop)]
+pub struct Seal {
+    /// The index of the message, from the outermost in.
+    pub layer: usize,
+    /// The part of the message.
+    pub part: Part,
+    /// The form of the layer. It is `Sign` for a signature with headers of its own.
+    pub form: Form,
+    /// The protected header, with the bytes as they were received.
+    pub protected: ProtectedHeader,
+    /// The unprotected header.
+    pub unprotected: Header,
+    /// The unprotected header of the only recipient, if there is exactly one.
+    pub recipient: Option<Header>,
+    /// The signature or the MAC; empty for a ciphertext.
+    pub proof: Vec<u8>,
+    /// The bytes that the signature or the MAC covers, or `None` if the payload is detached or the
+    /// library makes no such structure. `None` for a ciphertext.
+    pub structure: Option<Vec<u8>>,
+}
+
+impl Seal {
+    /// Returns the structure. It is empty if there is none.
+    fn structure(&self) -> &[u8] {
+        match &self.structure {
+            Some(structure) => structure,
+            None => &[],
+        }
+    }
+
+    /// Returns the parts that decide which key fits.
+    pub fn sealed(&self) -> Sealed<'_> {
+        Sealed {
+            form: self.form,
+            protected: &self.protected,
+            unprotected: &self.unprotected,
+            proof: &self.proof,
+            structure: self.structure(),
+            recipient: self.recipient.as_ref(),
+        }
+    }
+}

@@ -1,0 +1,166 @@
+"""Uses the page as people do, for tools/page_test.py: types, clicks, presses keys, drops files, folds, copies, follows links."""
+import json
+import os
+import time
+
+import browser
+import common
+from cbor import head
+
+SHOTS = f"{common.HERE}/out/page"
+SECONDS = 120  # to wait for something
+WIDTHS = ((360, 2000), (768, 1600), (1280, 1400))
+MARKED = '[...document.querySelectorAll(".marked")].map(it => it.id).join(" ")'
+SIGNED = "d28443a10126a10442313154546869732069732074686520636f6e74656e742e41aa"
+FAULT = "d28445a201260126a0f640"
+
+
+def wait(page, script):
+    """Waits until the script returns true in the page. Returns false if it doesn't in time."""
+    begun = time.time()
+    while time.time() < begun + SECONDS:
+        if page.run(script):
+            return True
+        time.sleep(0.05)
+    return False
+
+
+def show(page, script):
+    """Runs a script that shows an input, and waits for it."""
+    page.run(f"(async () => {{ {script}; await globalThis.showing; }})()")
+
+
+def click(page, row, side):
+    """Clicks on a side of a row: 0 is its meaning, 2 are its bytes."""
+    page.click(*page.run(f"""(() => {{ const it = document.querySelectorAll(".row")[{row}].children[{side}], found = it.querySelector("code") ?? it;
+      found.scrollIntoView({{block: "center"}}); const range = document.createRange(); range.selectNode(found.firstChild);
+      const at = range.getBoundingClientRect(); return [at.x + 4, at.y + 5]; }})()"""))
+
+
+def mark(page):
+    """Types a message, and clicks on both sides of it. Yields what is wrong."""
+    page.look_like(1280, 1400, "light")
+    page.run('at("clear").click(), at("input").focus()')
+    page.insert(SIGNED)
+    if not wait(page, 'at("rows").querySelectorAll(".row").length === 14'):
+        yield f"what was typed isn't shown: {page.run('document.body.innerText')[:500]}"
+    page.run("globalThis.showing")
+    for row, side, wanted in ((2, 2, "row-2 row-3 row-4 row-5 row-6"), (4, 0, "row-4")):
+        click(page, row, side)
+        if not wait(page, f'{MARKED} === "{wanted}"'):
+            yield f"a click marks {page.run(MARKED)} and not {wanted}"
+
+
+def keys(page):
+    """Moves and folds by keys. Yields what is wrong."""
+    page.run('at("rows").focus()')
+    steps = (("ArrowDown", "row-5"), ("ArrowLeft", "row-3 row-4 row-5"), ("ArrowLeft", "row-3 row-4 row-5"), ("ArrowDown", "row-6"), ("Home", None),
+             ("PageDown", "row-13"))
+    for key, wanted in steps:
+        page.key(key)
+        if wanted and not wait(page, f'{MARKED} === "{wanted}"'):
+            yield f"{key} marks {page.run(MARKED)} and not {wanted}"
+    if page.run('[at("row-3").getAttribute("aria-expanded"), at("row-4").hidden, at("row-2").getAttribute("aria-level")].join()') != "false,true,3":
+        yield "a row isn't folded"
+    page.run("go(4)")
+    if page.run('[at("row-3").getAttribute("aria-expanded"), at("row-4").hidden].join()') != "true,false":
+        yield "a folded row isn't opened for what is in it"
+
+
+def copies(page):
+    """Copies an item, in Chromium, which lets a script do so. Yields what is wrong."""
+    page.call("Browser.grantPermissions", permissions=["clipboardReadWrite", "clipboardSanitizedWrite"])
+    wanted = {"copy-bytes": "43a10126", "copy-notation": "<<\n  {\n    1: -7\n  }\n>>", "link": page.run("location.href.split('#')[0]") + "#" + SIGNED}
+    for name, text in wanted.items():
+        page.run(f'mark(2), at("{name}").click()')
+        if not wait(page, f'at("{name}").textContent === "Copied"') or page.run("navigator.clipboard.readText()") != text:
+            yield f"{name} doesn't copy {text}"
+
+
+def give(page):
+    """Gives the page markup, letters from right to left, files and a fault. Yields what is wrong."""
+    markup, hebrew = "<img src=x onerror=alert(1)><script>alert(2)</script>", "a264d790d79164d792d7935ad7940a"
+    show(page, f"type({json.dumps((head(3, len(markup)) + markup.encode()).hex())})")
+    if not page.run(f'at("rows").textContent.includes({json.dumps(markup)})'):
+        yield "markup isn't shown as it is"
+    if page.run('document.querySelectorAll("img").length + at("rows").querySelectorAll("script").length'):
+        yield "a text becomes markup"
+    show(page, f"type('{hebrew[:22]}')")
+    places = page.run('[...at("rows").querySelectorAll("bdi")].map(it => it.getBoundingClientRect().x)')
+    if len(places) != 2 or places[0] >= places[1]:
+        yield f"a Hebrew key isn't left of its value: {places}"
+    page.run("""(() => { const held = new DataTransfer();
+      for (const it of ["three.cbor", "other"]) held.items.add(new File([new Uint8Array([0x83, 1, 2, 3])], it));
+      document.dispatchEvent(new DragEvent("drop", {dataTransfer: held, cancelable: true})); })()""")
+    if not wait(page, 'at("read").textContent.includes("4 bytes") && at("dropped").textContent === "three.cbor, 4 bytes; of 2 files, the first is shown"'):
+        yield "a dropped file isn't shown: " + page.run('at("dropped").textContent')
+    taken = page.run("""(() => { const held = new DataTransfer(); held.setData("text/plain", "a0");
+      const drop = new DragEvent("drop", {dataTransfer: held, cancelable: true}); document.dispatchEvent(drop); return drop.defaultPrevented; })()""")
+    if taken:
+        yield "a dropped text is swallowed"
+    show(page, f"type('{FAULT}'); at('kind').value = 'auto'")
+    page.run('at("fault").click()')
+    if not page.run('document.querySelector("[aria-selected=true]")?.className ?? ""').startswith("row r"):
+        yield "the fault isn't found"
+
+
+def links(page):
+    """Follows a link, and shows each sample. Yields what is wrong."""
+    page.run(f"void (location.hash = '#{SIGNED}')")
+    if not wait(page, f"at('input').value === '{SIGNED}'"):
+        yield "a link's input isn't shown"
+    states = []
+    for i in range(page.run("SAMPLES.length")):
+        show(page, f"showSample({i})")
+        states.append(page.run('[...at("verdicts").children].map(it => it.className).join(" ")'))
+    if states != ["verified", "verified", "", "verified verified", "", "", "verified", "verified", "", "open"]:
+        yield f"samples: {states}"
+
+
+def times(page):
+    """Shows a token that expired, by the clock and at a moment before. Yields what is wrong."""
+    show(page, 'at("clock").checked = true; showSample(0)')
+    by_clock = page.run('at("rows").textContent.includes("expired")')
+    show(page, 'at("clock").checked = false; at("moment").value = "2015-10-05T12:00:00"; showAgain()')
+    before = page.run('at("rows").textContent.includes("expired")')
+    show(page, 'at("clock").checked = true; showAgain()')
+    here = page.run('[...at("rows").querySelectorAll("small")].map(it => it.textContent).join()')
+    if here != "5 Oct 2015, 19:09 here,4 Oct 2015, 09:49 here,4 Oct 2015, 09:49 here":
+        yield f"times in the browser's zone: {here}"
+    if not by_clock or before:
+        yield f"times are judged by the clock: {by_clock}, at a moment before: {before}"
+
+
+def refused_requests(page):
+    """Tries a request from the page. Yields what is wrong."""
+    refused = page.run("""new Promise(done => { document.addEventListener("securitypolicyviolation", event => done(event.violatedDirective), {once: true});
+      fetch("https://example.com/").catch(() => setTimeout(() => done("nothing"), 500)); })""")
+    if refused != "connect-src":
+        yield f"a request isn't refused by the policy: {refused}"
+
+
+def used(page):
+    """Returns what is wrong with the page in use."""
+    parts = (mark, keys, *([copies] if isinstance(page, browser.Browser) else []), give, links, times, refused_requests)
+    return [f"{page.name}: {it}" for part in parts for it in part(page)]
+
+
+# What screenshots show: the first view, a message with a wrong signature, a token that expired without a key, and a fault.
+FORGED = 'showSample(0); const text = at("input").value; type(text.slice(0, -1) + "1")'
+VIEWS = {"first": "showSample(0)", "forged": FORGED, "expired": 'showSample(0); at("key").value = ""; showAgain()', "verified": "showSample(6)",
+         "fault": "showSample(8)"}
+
+
+def shots(page):
+    """Saves screenshots at three widths, light and dark. Returns what is wrong."""
+    os.makedirs(SHOTS, exist_ok=True)
+    wrong = []
+    for width, height in WIDTHS:
+        for scheme in ("light", "dark"):
+            page.look_like(width, height, scheme)
+            for name, script in VIEWS.items():
+                show(page, f"scrollTo(0, 0); {script}")
+                page.shot(f"{SHOTS}/{name}-{width}-{scheme}.png")
+        wide = page.run("document.documentElement.scrollWidth - innerWidth")
+        wrong += [f"the page is wider than a window of {width} pixels, by {wide}"] if wide > 0 else []
+    return wrong

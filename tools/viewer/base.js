@@ -1,0 +1,73 @@
+"use strict";
+// Elements, bytes and hexadecimal.
+const NO_BYTES = new Uint8Array(0);
+const CHARACTERS = 2000;  // the most characters of a text or of digits that one place shows
+const decoder = new TextDecoder(), encoder = new TextEncoder();
+
+function at(id) {
+  return document.getElementById(id);
+}
+
+function element(name, text = "", of = "") {
+  const made = document.createElement(name);
+  made.textContent = text;
+  made.className = of;
+  return made;
+}
+
+function button(text, action) {
+  const made = element("button", text);
+  made.type = "button";
+  made.onclick = action;
+  return made;
+}
+
+function bytesOfHex(digits) {
+  return Uint8Array.from(digits.match(/../g) ?? [], it => parseInt(it, 16));
+}
+
+function hexOf(bytes) {
+  return Array.from(bytes, it => it.toString(16).padStart(2, "0")).join("");
+}
+
+function cut(text, rest) {
+  return text.length > CHARACTERS ? `${text.slice(0, CHARACTERS)}… (${rest})` : text;
+}
+
+// Adds a text to an element. Each string in it with other letters than Latin is isolated, so that it can't move its neighbours.
+function addText(to, text) {
+  if (!/[^\x00-\x7f]/.test(text)) return to.append(text);
+  for (const [i, part] of text.split(/("(?:[^"\\]|\\.)*"?|'(?:[^'\\]|\\.)*'?)/).entries()) {
+    to.append(i % 2 ? element("bdi", part) : part);
+  }
+}
+
+// ---- The module, in a worker: one call at a time
+
+let worker = null, isReady = false, asking = Promise.resolve();
+
+function answer() {
+  return new Promise((done, failed) => {
+    worker.onmessage = ({ data }) => data.failed ? failed(new Error(data.failed)) : done(data);
+    worker.onerror = event => failed(new Error(event.message));
+  });
+}
+
+// Returns what a call of the module returns: its status, and its text as bytes.
+function call(...asked) {
+  const next = asking.then(() => {
+    const told = answer();
+    worker.postMessage({ asked });
+    return told;
+  });
+  asking = next.catch(() => {});
+  return next;
+}
+
+async function loadModule() {
+  worker = new Worker(URL.createObjectURL(new Blob([at("engine").textContent], { type: "text/javascript" })));
+  const module = Uint8Array.from(atob(at("module").textContent), it => it.charCodeAt(0)), told = answer();
+  worker.postMessage({ module }, [module.buffer]);
+  await told;
+  isReady = true;
+}
