@@ -231,7 +231,7 @@ pub fn explain<'a>(
 
 /// Takes all of the bytes apart as [`explain`] does, and goes further.
 ///
-/// - It opens byte strings that contain a message or claims.
+/// - It opens byte strings that contain a message or claims, and those of tag 24.
 /// - It shows a faulty key of a set up to its fault, and then the keys after it.
 /// - It shows a simple value other than false, true and null, and the bytes after it.
 ///
