@@ -4,7 +4,7 @@
 use crate::cover::{Cover, of_next};
 use crate::faults::Fault;
 use crate::head::{argument, integer};
-use crate::role::{Bucket, Part, Role, Word, label_of, place, value_of, word};
+use crate::role::{Bucket, Part, Role, Word, label_of, place, value_of, word_of};
 use coset::cbor::head::{Head, MajorType};
 
 /// The most levels of arrays, maps and tags in one item.
@@ -226,7 +226,7 @@ impl Frame {
     pub(crate) fn take_word(&mut self, head: &Head, content: &[u8]) {
         if self.is_at_value() {
             self.word = if head.major_type == MajorType::Text {
-                word(content)
+                word_of(content)
             } else {
                 Word::Other
             };

@@ -113,7 +113,7 @@ pub(crate) enum Word {
 }
 
 /// Returns the word that the bytes of a text label are.
-pub(crate) fn word(label: &[u8]) -> Word {
+pub(crate) fn word_of(label: &[u8]) -> Word {
     match str::from_utf8(label) {
         Ok("authData") => Word::AuthData,
         Ok("documents") => Word::Documents,
