@@ -11,6 +11,9 @@ use std::alloc::{AllocError, Global};
 /// The most messages and claims inside that are named.
 const NAMED: usize = 6;
 
+/// The least bytes of authenticator data (W3C WebAuthn, section 6.1).
+const AUTH_DATA: u64 = 37;
+
 /// The numbers of the parts that have to be checked with a key.
 #[derive(Clone, Copy, Debug)]
 pub(crate) struct Seals {
@@ -29,6 +32,8 @@ pub(crate) struct About {
     pub(crate) item: Option<(Role, MajorType)>,
     /// The name of the format of which the item is, by the labels of its maps.
     pub(crate) format: Option<&'static str>,
+    /// Whether a label says that an array of documents was seen.
+    has_documents: bool,
     /// The messages and claims inside it, by name and in order, but no more than [`NAMED`].
     pub(crate) inside: Vec<&'static str>,
     pub(crate) seals: Seals,
@@ -50,6 +55,7 @@ impl About {
             tags: Vec::new(alloc),
             item: None,
             format: None,
+            has_documents: false,
             inside: Vec::new(alloc),
             seals: Seals {
                 signatures: 0,
@@ -115,9 +121,17 @@ impl About {
         if !frame.is_at_value() || frame.role != Role::Any {
             return Ok(());
         }
+        let count = head.number().unwrap_or(0);
         let format = match (frame.word, head.major_type) {
-            (Word::AuthData, MajorType::Bytes) => "WebAuthn attestation object",
-            (Word::Documents, MajorType::Array) => "mdoc DeviceResponse",
+            (Word::Documents, MajorType::Array) => {
+                self.has_documents = true;
+                return Ok(());
+            }
+            (Word::AuthData, MajorType::Bytes) if AUTH_DATA <= count => {
+                "WebAuthn attestation object"
+            }
+            (Word::IssuerAuth, MajorType::Array) if count != 4 => return Ok(()),
+            (Word::IssuerAuth, MajorType::Array) if self.has_documents => "mdoc DeviceResponse",
             (Word::IssuerAuth, MajorType::Array) => "mdoc IssuerSigned",
             (Word::ValueDigests, MajorType::Map) => "mdoc MobileSecurityObject",
             _ => return Ok(()),
