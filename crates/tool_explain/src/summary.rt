@@ -43,7 +43,8 @@ fn push_tags(text: &mut String, tags: &[u64]) -> Result<(), AllocError> {
     text.push_str(if tags.len() == 1 { "tag " } else { "tags " })?;
     let mut separator = "";
     for tag in tags.iter().take(TAGS) {
-        write!(text, "{separator}{tag}")?;
+        text.push_str(separator)?;
+        write!(text, "{tag}")?;
         separator = ", ";
     }
     if TAGS < tags.len() {
