@@ -5,6 +5,7 @@ ghost use Rattle.tool_explain.specs.Column.{EndsAt, column, place, shown, whole}
 ghost use Rattle.tool_explain.specs.Refusal.{JudgesAs};
 ghost use Rattle.tool_fault.specs.Places.{IsPlace};
 
+use crate::about::About;
 use crate::column::{Column, Line};
 use crate::faults::Fault;
 use crate::hunt::Hunt;
@@ -27,6 +28,8 @@ pub struct Explained<'a> {
     pub error: Option<CoseError>,
     /// The offset and the kind of the first fault, if its place is known.
     pub fault: Option<(usize, Fault)>,
+    /// Facts for the summary.
+    pub(crate) about: About,
 }
 
 /// The reason why an input isn't of a kind.
@@ -217,16 +220,18 @@ pub fn explain<'a>(
     };
     let path = path(alloc, bytes, &walk.open, left)?;
     let lines = lines_of(walk.column, error.as_ref(), fault, path.as_str())?;
+    let about = walk.about;
     Ok(Explained {
         lines,
         error,
         fault,
+        about,
     })
 }
 
 /// Takes all of the bytes apart as [`explain`] does, and goes further.
 ///
-/// - It opens byte strings that contain a message or claims.
+/// - It opens byte strings that contain a message or claims, and those of tag 24.
 /// - It shows a faulty key of a set up to its fault, and then the keys after it.
 /// - It shows a simple value other than false, true and null, and the bytes after it.
 ///
@@ -268,10 +273,12 @@ pub fn explain_whole<'a>(
         error.as_ref()
     };
     let lines = lines_of(walk.column, unsaid, last, path.as_str())?;
+    let about = walk.about;
     Ok(Explained {
         lines,
         error,
         fault,
+        about,
     })
 }
 

@@ -9,13 +9,15 @@ use crate::role::{Message, Role};
 pub enum Cover {
     /// Not at all, or in no known way.
     Plain,
-    /// The part is signed.
+    /// A signature covers the part.
     Signed,
-    /// The part is a header of a message or a signature, and isn't signed.
+    /// The part is a header of a message or a signature, and no signature covers it.
     NotSigned,
-    /// The part has a MAC, or is authenticated with a ciphertext.
+    /// A MAC covers the part.
     Authenticated,
-    /// The part is a header, and neither a MAC nor a ciphertext authenticates it.
+    /// The part is authenticated together with a ciphertext.
+    Associated,
+    /// The part is a header, and neither a MAC nor a ciphertext covers it.
     NotAuthenticated,
     /// The part is the signature, the MAC, or the ciphertext.
     Seal,
@@ -29,10 +31,10 @@ impl Cover {
     pub fn text(self) -> &'static str {
         match self {
             Cover::Plain | Cover::Seal => "",
-            Cover::Signed => "signed",
-            Cover::NotSigned => "not signed",
-            Cover::Authenticated => "authenticated",
-            Cover::NotAuthenticated => "not authenticated",
+            Cover::Signed => "covered by the signature",
+            Cover::Authenticated => "covered by the MAC",
+            Cover::Associated => "covered by the ciphertext",
+            Cover::NotSigned | Cover::NotAuthenticated => "not covered",
             Cover::Refused => "refused",
         }
     }
@@ -53,7 +55,7 @@ pub(crate) fn of_element(frame: &Frame) -> Option<Cover> {
             Some(Cover::NotSigned)
         }
         (Role::Message(Message::Mac0 | Message::Mac, _), 0 | 2) => Some(Cover::Authenticated),
-        (Role::Message(Message::Encrypt0 | Message::Encrypt, _), 0) => Some(Cover::Authenticated),
+        (Role::Message(Message::Encrypt0 | Message::Encrypt, _), 0) => Some(Cover::Associated),
         (Role::Message(_, _) | Role::Recipient, 1) => Some(Cover::NotAuthenticated),
         (Role::Message(Message::Encrypt0 | Message::Encrypt, _) | Role::Recipient, 2) => {
             Some(Cover::Seal)

@@ -4,7 +4,7 @@
 use crate::cover::{Cover, of_next};
 use crate::faults::Fault;
 use crate::head::{argument, integer};
-use crate::role::{Bucket, Part, Role, label_of, place, value_of};
+use crate::role::{Bucket, Part, Role, Word, label_of, place, value_of, word_of};
 use coset::cbor::head::{Head, MajorType};
 
 /// The most levels of arrays, maps and tags in one item.
@@ -43,6 +43,8 @@ pub(crate) struct Frame {
     pub(crate) index: u64,
     /// The label of the next value, if it is an integer.
     label: Option<i64>,
+    /// The label of the next value as a word, if it is a text.
+    pub(crate) word: Word,
     /// The type of the key, if the map is a key and its type is an integer.
     key_type: Option<i64>,
     /// The number of input bytes from the last key of the map on.
@@ -73,6 +75,7 @@ impl Frame {
             id: 0,
             index: 0,
             label: None,
+            word: Word::Other,
             key_type: None,
             key_left: 0,
             width: 0,
@@ -101,6 +104,7 @@ impl Frame {
             id: self.behind.saturating_add(rest),
             index: 0,
             label: None,
+            word: Word::Other,
             key_type: None,
             key_left: 0,
             width: 0,
@@ -129,6 +133,7 @@ impl Frame {
             id: 0,
             index: 0,
             label: None,
+            word: Word::Other,
             key_type: None,
             key_left: 0,
             width,
@@ -174,6 +179,11 @@ impl Frame {
         self.container == Container::Map && self.index % 2 == 1
     }
 
+    /// Returns the label of the next item, if the item is the value of an integer label.
+    pub(crate) fn value_label(&self) -> Option<i64> {
+        if self.is_at_value() { self.label } else { None }
+    }
+
     /// Returns the index of the next item. In a map, it is the index of the item's pair.
     pub(crate) fn place(&self) -> usize {
         let index = if self.container == Container::Map {
@@ -192,7 +202,7 @@ impl Frame {
                 if self.is_at_key() {
                     self.part_of(label_of(self.role, self.key_type))
                 } else {
-                    self.part_of(value_of(self.role, self.label, self.key_type))
+                    self.part_of(value_of(self.role, self.label, self.word, self.key_type))
                 }
             }
             _ => Part {
@@ -209,6 +219,17 @@ impl Frame {
             role: part.role,
             name: part.name,
             is_read: part.is_read && self.is_read,
+        }
+    }
+
+    /// Takes the content of the text label that was passed last.
+    pub(crate) fn take_word(&mut self, head: &Head, content: &[u8]) {
+        if self.is_at_value() {
+            self.word = if head.major_type == MajorType::Text {
+                word_of(content)
+            } else {
+                Word::Other
+            };
         }
     }
 

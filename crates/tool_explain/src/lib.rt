@@ -3,7 +3,9 @@
 //! to the bytes of each line.
 #![tactic(auto)]
 
+mod about;
 mod apart;
+mod authenticator;
 mod column;
 mod cover;
 mod faults;
@@ -12,14 +14,17 @@ mod guess;
 mod head;
 mod hunt;
 mod kind;
+mod moment;
 mod names;
 mod note;
 mod opening;
 mod paths;
 mod print;
+mod quotes;
 mod refusal;
 mod role;
 mod structures;
+mod summary;
 mod text;
 mod walk;
 
@@ -29,6 +34,8 @@ pub use cover::Cover;
 pub use faults::Fault;
 pub use guess::fitting;
 pub use kind::Kind;
-pub use print::{annotated, colored, notation, push_comment};
-pub use structures::{annotated_structures, structure, structure_notes};
+pub use print::{Style, annotated, notation, push_comment, styled};
+pub use quotes::{Quoted, Quotes, shortened, shortened_note};
+pub use structures::{commented, structure, structure_notes};
+pub use text::{is_shown, quoted_name};
 pub use tool_fault::Step;

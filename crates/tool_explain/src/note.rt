@@ -3,6 +3,7 @@
 use crate::cover::of_element;
 use crate::frame::Frame;
 use crate::head::{argument, integer, is_shortest};
+use crate::moment::{moment, push_distance};
 use crate::role::{Bucket, Part, Role, is_private, is_registered, name_of, title};
 use crate::text::float;
 use coset::cbor::head::{Head, MajorType};
@@ -38,10 +39,12 @@ impl Notes<'_> {
         self.text.push_str(piece)
     }
 
-    /// Adds the date of a timestamp. With `now`, also adds that the token has expired or isn't
-    /// valid yet, if that is so (RFC 8392, section 3.1).
+    /// Adds the date of a timestamp. With `now`, also adds how far it is from there, and that the
+    /// token has expired, isn't valid yet or was issued later, if that is so (RFC 8392, section
+    /// 3.1).
     fn add_date(
         &mut self,
+        frame: &Frame,
         role: Role,
         timestamp: &Timestamp,
         now: Option<i64>,
@@ -51,11 +54,22 @@ impl Notes<'_> {
         }
         self.begin()?;
         write!(self.text, "{timestamp}")?;
-        match (role, now) {
-            (Role::Expiry, Some(now)) if !timestamp.is_after(now) => self.add("expired"),
-            (Role::Start, Some(now)) if timestamp.is_after(now) => self.add("not valid yet"),
-            _ => Ok(()),
-        }
+        let Some(now) = now else {
+            return Ok(());
+        };
+        push_distance(self.text, timestamp, now)?;
+        self.add(judgement(frame, role, timestamp.is_after(now)))
+    }
+}
+
+/// Returns what a time of a token says about the moment of which it is later or not. The text may
+/// be empty.
+fn judgement(frame: &Frame, role: Role, is_later: bool) -> &'static str {
+    match role {
+        Role::Expiry if !is_later => "expired",
+        Role::Start if is_later => "not valid yet",
+        Role::Time if is_later && frame.role == Role::Claims => "issued in the future",
+        _ => "",
     }
 }
 
@@ -142,18 +156,18 @@ fn add_certificate(notes: &mut Notes<'_>, head: &Head) -> Result<(), AllocError>
 /// Adds the name of a number with this role, and the date of a timestamp.
 fn add_number(
     notes: &mut Notes<'_>,
+    frame: &Frame,
     role: Role,
     head: &Head,
     now: Option<i64>,
 ) -> Result<(), AllocError> {
     if let Some(number) = integer(head) {
         notes.add(name(role, number))?;
-        return notes.add_date(role, &Timestamp::WholeSeconds(number), now);
     }
-    if head.is_float() {
-        return notes.add_date(role, &Timestamp::FractionalSeconds(float(head)), now);
+    match moment(head) {
+        Some(timestamp) => notes.add_date(frame, role, &timestamp, now),
+        None => Ok(()),
     }
-    Ok(())
 }
 
 /// Adds the standard's name of an array or a map with this role, or a remark on a byte string.
@@ -165,6 +179,7 @@ fn add_title(notes: &mut Notes<'_>, role: Role, head: &Head) -> Result<(), Alloc
             notes.add("in chunks, and not opened")
         }
         MajorType::Bytes if role == Role::Certificates => add_certificate(notes, head),
+        MajorType::Bytes if role == Role::Encoded => notes.add("encoded CBOR"),
         _ => Ok(()),
     }
 }
@@ -188,7 +203,7 @@ pub(crate) fn push(
     notes.add(part.name)?;
     notes.add(coverage(frame))?;
     notes.add(detached(frame, head))?;
-    add_number(&mut notes, part.role, head, now)?;
+    add_number(&mut notes, frame, part.role, head, now)?;
     notes.add(unprotected(frame, part.role, head))?;
     add_title(&mut notes, part.role, head)?;
     add_bits(&mut notes, head)?;

@@ -137,11 +137,14 @@ fn embedding(
     })
 }
 
-/// Returns the role of the content of a byte string with this role, if it is a message, a token, or
-/// claims.
+/// Returns the role of the content of a byte string with this role, if it is a message, a token,
+/// claims, or encoded CBOR.
 fn held(alloc: Global, role: Role, content: &[u8]) -> Result<Option<Role>, AllocError> {
     if role == Role::Plain {
         return Ok(None);
+    }
+    if role == Role::Encoded {
+        return Ok(if is_item(content) { Some(Role::Any) } else { None });
     }
     let is_token = matches!(role, Role::Payload(true) | Role::Submodule);
     if begins_with_message(content) {
@@ -150,6 +153,9 @@ fn held(alloc: Global, role: Role, content: &[u8]) -> Result<Option<Role>, Alloc
             true => Some(Role::Any),
             false => None,
         });
+    }
+    if matches!(role, Role::Payload(_)) && begins_with_encoded(content) {
+        return Ok(if is_item(content) { Some(Role::Any) } else { None });
     }
     let is_claims = match role {
         Role::Payload(true) => is_item(content),
@@ -164,6 +170,14 @@ fn held(alloc: Global, role: Role, content: &[u8]) -> Result<Option<Role>, Alloc
 fn begins_with_message(bytes: &[u8]) -> bool {
     match read_head(bytes) {
         Ok((head, _)) => matches!(tag(&head), Some(16 | 17 | 18 | 61 | 96 | 97 | 98)),
+        Err(_) => false,
+    }
+}
+
+/// Returns true if the tag of encoded CBOR is at the front (RFC 8949, section 3.4.5.1).
+fn begins_with_encoded(bytes: &[u8]) -> bool {
+    match read_head(bytes) {
+        Ok((head, _)) => tag(&head) == Some(24),
         Err(_) => false,
     }
 }

@@ -2,6 +2,7 @@
 
 use crate::column::Line;
 use crate::cover::Cover;
+use crate::quotes::{push_isolated, shortened};
 use std::alloc::{AllocError, Global};
 
 /// The number of bytes in a row.
@@ -9,6 +10,19 @@ const BYTES: usize = 16;
 
 /// The most levels that are indented.
 const STEPS: usize = 32;
+
+/// The most bytes after the first row of a line that is shown short.
+const MORE: usize = 16;
+
+/// How lines are written as text.
+#[derive(Clone, Copy, Debug, PartialEq, Eq)]
+pub struct Style {
+    /// For a terminal: each line in the colour of its cover, and text strings isolated if a letter
+    /// next to them is written from right to left.
+    pub is_colored: bool,
+    /// With long strings and long rows of bytes cut, and their lengths.
+    pub is_short: bool,
+}
 
 /// Adds the indentation of a line.
 fn push_indentation(text: &mut String, depth: usize) -> Result<(), AllocError> {
@@ -61,12 +75,12 @@ fn push_bytes(alloc: Global, text: &mut String, bytes: &[u8]) -> Result<(), Allo
 
 /// Returns the terminal's code for the colour of the cover. It may be empty.
 ///
-/// Green is signed or authenticated, yellow a header that isn't. Cyan is a signature, a MAC or a
-/// ciphertext, red is refused.
+/// Green is covered, yellow a header that isn't. Cyan is a signature, a MAC or a ciphertext, red is
+/// refused.
 fn color(cover: Cover) -> &'static str {
     match cover {
         Cover::Plain => "",
-        Cover::Signed | Cover::Authenticated => "\u{1b}[32m",
+        Cover::Signed | Cover::Authenticated | Cover::Associated => "\u{1b}[32m",
         Cover::NotSigned | Cover::NotAuthenticated => "\u{1b}[33m",
         Cover::Seal => "\u{1b}[36m",
         Cover::Refused => "\u{1b}[1;31m",
@@ -76,31 +90,71 @@ fn color(cover: Cover) -> &'static str {
 /// The terminal's code that ends a colour.
 const END: &str = "\u{1b}[0m";
 
-/// Adds the line between `begin` and `end`: its bytes in rows, with its text and its note next to
-/// the first row.
-fn push_line(
+/// Adds the text and the note of the line, as a terminal shows them or as they are.
+fn push_meaning(
     alloc: Global,
     text: &mut String,
     line: &Line<'_>,
-    begin: &str,
-    end: &str,
+    style: Style,
 ) -> Result<(), AllocError> {
-    let (first, others) = line.bytes.split_at(line.bytes.len().min(BYTES));
-    text.push_str(begin)?;
-    push_bytes(alloc, text, first)?;
-    text.push_str("  ")?;
-    push_indentation(text, line.depth)?;
-    text.push_str(line.text.as_str())?;
-    push_note(text, line.note.as_str())?;
-    text.push_str(end)?;
-    text.push('\n')?;
-    for row in others.chunks(BYTES) {
+    let mut meaning = if style.is_short {
+        shortened(alloc, line.text.as_str())?
+    } else {
+        String::from_str(alloc, line.text.as_str())?
+    };
+    push_note(&mut meaning, line.note.as_str())?;
+    if style.is_colored {
+        push_isolated(text, meaning.as_str())
+    } else {
+        text.push_str(meaning.as_str())
+    }
+}
+
+/// Adds the bytes of the line after its first row, a row each, between `begin` and `end`.
+fn push_rows(
+    alloc: Global,
+    text: &mut String,
+    others: &[u8],
+    (begin, end): (&str, &str),
+    style: Style,
+) -> Result<(), AllocError> {
+    let most = if style.is_short { MORE } else { usize::MAX };
+    let (shown, left) = others.split_at(others.len().min(most));
+    for row in shown.chunks(BYTES) {
         text.push_str(begin)?;
         text.push_str(hex::encode(alloc, row)?.as_str())?;
         text.push_str(end)?;
         text.push('\n')?;
     }
-    Ok(())
+    if left.is_empty() {
+        return Ok(());
+    }
+    let count = left.len();
+    write!(text, "{begin}\u{2026} {count} more bytes{end}\n")
+}
+
+/// Adds the line: its bytes in rows, with its text and its note next to the first row.
+fn push_line(
+    alloc: Global,
+    text: &mut String,
+    line: &Line<'_>,
+    style: Style,
+) -> Result<(), AllocError> {
+    let begin = if style.is_colored {
+        color(line.cover)
+    } else {
+        ""
+    };
+    let end = if begin.is_empty() { "" } else { END };
+    let (first, others) = line.bytes.split_at(line.bytes.len().min(BYTES));
+    text.push_str(begin)?;
+    push_bytes(alloc, text, first)?;
+    text.push_str("  ")?;
+    push_indentation(text, line.depth)?;
+    push_meaning(alloc, text, line, style)?;
+    text.push_str(end)?;
+    text.push('\n')?;
+    push_rows(alloc, text, others, (begin, end), style)
 }
 
 /// Returns the lines with their bytes in hexadecimal, 16 in a row, and their notes as comments.
@@ -108,23 +162,21 @@ fn push_line(
 /// # Errors
 /// `AllocError` if an allocation fails.
 pub fn annotated(alloc: Global, lines: &[Line<'_>]) -> Result<String, AllocError> {
-    let mut text = String::new(alloc);
-    for line in lines {
-        push_line(alloc, &mut text, line, "", "")?;
-    }
-    Ok(text)
+    let style = Style {
+        is_colored: false,
+        is_short: false,
+    };
+    styled(alloc, lines, style)
 }
 
-/// Returns the same text as [`annotated`] for a terminal, each line in the colour of its cover.
+/// Returns the same text as [`annotated`] in another style.
 ///
 /// # Errors
 /// `AllocError` if an allocation fails.
-pub fn colored(alloc: Global, lines: &[Line<'_>]) -> Result<String, AllocError> {
+pub fn styled(alloc: Global, lines: &[Line<'_>], style: Style) -> Result<String, AllocError> {
     let mut text = String::new(alloc);
     for line in lines {
-        let begin = color(line.cover);
-        let end = if begin.is_empty() { "" } else { END };
-        push_line(alloc, &mut text, line, begin, end)?;
+        push_line(alloc, &mut text, line, style)?;
     }
     Ok(text)
 }

@@ -91,6 +91,52 @@ pub(crate) enum Role {
     Submodule,
     /// A certificate, or an array of several (RFC 9360, section 2).
     Certificates,
+    /// The byte string of tag 24, which is encoded CBOR (RFC 8949, section 3.4.5.1).
+    Encoded,
+    /// The authenticator data of a WebAuthn attestation object (W3C WebAuthn, section 6.1).
+    AuthenticatorData,
+}
+
+/// A text label that tells what its value is, in maps of WebAuthn and of mobile documents (ISO/IEC
+/// 18013-5).
+#[derive(Clone, Copy, Debug, PartialEq, Eq)]
+pub(crate) enum Word {
+    /// Any other label.
+    Other,
+    AuthData,
+    Documents,
+    IssuerAuth,
+    DeviceSignature,
+    DeviceMac,
+    DeviceKey,
+    ValueDigests,
+}
+
+/// Returns the word that the bytes of a text label are.
+pub(crate) fn word_of(label: &[u8]) -> Word {
+    match str::from_utf8(label) {
+        Ok("authData") => Word::AuthData,
+        Ok("documents") => Word::Documents,
+        Ok("issuerAuth") => Word::IssuerAuth,
+        Ok("deviceSignature") => Word::DeviceSignature,
+        Ok("deviceMac") => Word::DeviceMac,
+        Ok("deviceKey") => Word::DeviceKey,
+        Ok("valueDigests") => Word::ValueDigests,
+        _ => Word::Other,
+    }
+}
+
+/// Returns the place of the value under a word.
+fn word_value(word: Word) -> Part {
+    match word {
+        Word::AuthData => Part::named(Role::AuthenticatorData, ""),
+        Word::IssuerAuth | Word::DeviceSignature => {
+            Part::named(Role::Message(Message::Sign1, false), "")
+        }
+        Word::DeviceMac => Part::named(Role::Message(Message::Mac0, false), ""),
+        Word::DeviceKey => Part::named(Role::Key, ""),
+        Word::Documents | Word::ValueDigests | Word::Other => Part::named(Role::Any, ""),
+    }
 }
 
 /// A place in an array or a map.
@@ -136,6 +182,7 @@ pub(crate) fn under_tag(role: Role, number: u64) -> Role {
         17 => Role::Message(Message::Mac0, claims),
         18 => Role::Message(Message::Sign1, claims),
         19 => Role::Signature,
+        24 => Role::Encoded,
         61 => Role::Token,
         96 => Role::Message(Message::Encrypt, claims),
         97 => Role::Message(Message::Mac, claims),
@@ -258,10 +305,17 @@ fn claim_value(name: i64) -> Part {
 }
 
 /// Returns the place of a value in a map with this role. `label` is `None` if the label is no
-/// integer.
-pub(crate) fn value_of(role: Role, label: Option<i64>, key_type: Option<i64>) -> Part {
-    if role == Role::Submodules {
-        return Part::named(Role::Submodule, "");
+/// integer, and `word` is what it is as a text.
+pub(crate) fn value_of(
+    role: Role,
+    label: Option<i64>,
+    word: Word,
+    key_type: Option<i64>,
+) -> Part {
+    match role {
+        Role::Submodules => return Part::named(Role::Submodule, ""),
+        Role::Any if word != Word::Other => return word_value(word),
+        _ => {}
     }
     let Some(label) = label else {
         return label_of(role, None).without_names();

@@ -210,14 +210,9 @@ pub fn structure_notes(
 ///
 /// # Errors
 /// `AllocError` if an allocation fails.
-pub fn annotated_structures(
-    alloc: Global,
-    kind: Kind,
-    bytes: &[u8],
-    external_aad: &[u8],
-) -> Result<String, AllocError> {
+pub fn commented(alloc: Global, notes: &[String]) -> Result<String, AllocError> {
     let mut text = String::new(alloc);
-    for note in &structure_notes(alloc, kind, bytes, external_aad)? {
+    for note in notes {
         push_comment_line(&mut text, note.as_str())?;
     }
     Ok(text)

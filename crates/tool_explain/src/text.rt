@@ -4,20 +4,64 @@ use crate::head::{argument, is_shortest};
 use coset::cbor::head::{Head, MajorType};
 use coset::cbor::value::Float;
 use std::alloc::{AllocError, Global};
+use ucd_category::GeneralCategory;
+use ucd_derived::is_default_ignorable_code_point;
 
 /// Returns true if there are bytes, and each is a printable ASCII character.
 fn is_printable(bytes: &[u8]) -> bool {
     !bytes.is_empty() && bytes.iter().all(|b| b' ' <= *b && *b <= b'~')
 }
 
-/// Returns true if a terminal shows the character in its own place. It is then no control
-/// character, and doesn't change the direction of writing.
-fn is_shown(c: char) -> bool {
-    !c.is_control()
-        && !('\u{200b}'..='\u{200f}').contains(&c)
-        && !('\u{2028}'..='\u{202e}').contains(&c)
-        && !('\u{2066}'..='\u{2069}').contains(&c)
-        && c != '\u{feff}'
+/// Returns true if a reader sees the character in its own place.
+///
+/// Such a character is no control character, no format character and no separator of lines. It has
+/// a meaning in Unicode 18, is not for private use, and isn't left out where a font lacks it
+/// (Default_Ignorable_Code_Point).
+pub fn is_shown(c: char) -> bool {
+    if c.is_ascii() {
+        return !c.is_control();
+    }
+    let is_drawn = !matches!(
+        GeneralCategory::for_char(c),
+        GeneralCategory::Control
+            | GeneralCategory::Format
+            | GeneralCategory::LineSeparator
+            | GeneralCategory::ParagraphSeparator
+            | GeneralCategory::Surrogate
+            | GeneralCategory::PrivateUse
+            | GeneralCategory::Unassigned
+    );
+    is_drawn && !is_default_ignorable_code_point(c)
+}
+
+/// Adds the escape of a character, as in JSON (RFC 8259, section 7). A character above U+FFFF is
+/// escaped as two surrogates.
+fn push_escape(text: &mut String, c: char) -> Result<(), AllocError> {
+    let number = c as u32;
+    if number < 0x10000 {
+        return write!(text, "\\u{number:04x}");
+    }
+    let offset = number.saturating_sub(0x10000);
+    let high = (offset / 1024).saturating_add(0xd800);
+    let low = (offset % 1024).saturating_add(0xdc00);
+    write!(text, "\\u{high:04x}\\u{low:04x}")
+}
+
+/// Returns a file's name for people. It is in quotes if it has a space, a quote, a backslash, or a
+/// character that [`is_shown`] excludes. Such a character is escaped.
+///
+/// # Errors
+/// `AllocError` if an allocation fails.
+pub fn quoted_name(alloc: Global, name: &str) -> Result<String, AllocError> {
+    let is_plain = name
+        .chars()
+        .all(|c| is_shown(c) && !c.is_whitespace() && c != '"' && c != '\\');
+    if is_plain {
+        return String::from_str(alloc, name);
+    }
+    let mut text = String::new(alloc);
+    push_quoted(&mut text, name, '"')?;
+    Ok(text)
 }
 
 /// Adds the text in these quotes.
@@ -30,7 +74,7 @@ fn push_quoted(text: &mut String, content: &str, quote: char) -> Result<(), Allo
         } else if is_shown(c) {
             text.push(c)?;
         } else {
-            write!(text, "\\u{:04x}", c as u32)?;
+            push_escape(text, c)?;
         }
     }
     text.push(quote)

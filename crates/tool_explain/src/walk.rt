@@ -4,6 +4,7 @@
 ghost use Rattle.std.specs.Prelude.{◌≡◌, ◌≤◌, ◌+◌, ◌*◌, IfOk, OnOk};
 ghost use Rattle.tool_explain.specs.Column.{whole, shown};
 
+use crate::about::About;
 use crate::column::Column;
 use crate::cover::of_next;
 use crate::faults::Fault;
@@ -14,7 +15,7 @@ use crate::opening::{opened_part, opening, push_opening};
 use crate::paths::path;
 use crate::role::Role;
 use crate::text::{push_leaf, width_mark};
-use crate::{note, refusal};
+use crate::{authenticator, note, refusal};
 use coset::CoseError;
 use coset::cbor::de::Pull;
 use coset::cbor::head::{Head, read_head};
@@ -32,6 +33,8 @@ pub(crate) struct Walk<'a, 'e> {
     /// The whole input.
     pub(crate) bytes: &'a [u8],
     pub(crate) column: Column<'a>,
+    /// What the summary says of the input so far.
+    pub(crate) about: About,
     /// The open frames, from the input on. If the walk ended at a fault, the last frame has it.
     pub(crate) open: Vec<Frame>,
     /// The search for the fault.
@@ -77,6 +80,7 @@ impl<'a, 'e> Walk<'a, 'e> {
         Ok(Walk {
             bytes,
             column: Column::new(alloc, bytes),
+            about: About::new(alloc),
             open,
             hunt,
             now,
@@ -108,6 +112,7 @@ impl<'a, 'e> Walk<'a, 'e> {
         Ok(Walk {
             bytes,
             column: Column::new(alloc, bytes),
+            about: About::new(alloc),
             open,
             hunt,
             now,
@@ -339,10 +344,16 @@ impl<'a, 'e> Walk<'a, 'e> {
         let now = self.now;
         self.column.cover = of_next(&frame);
         note::push(&mut self.column.note, &frame, &part, head, now)?;
+        if part.role == Role::AuthenticatorData {
+            authenticator::push(alloc, &mut self.column.note, content(head, rest))?;
+        }
+        self.about
+            .see(&frame, opened_part(part, head, rest).role, head, now)?;
         let is_sought = self.hunt.is_in(alloc, &part, content(head, rest))?;
         let opened = opening(alloc, &frame, part, head, bytes, is_sought)?;
         let mut passed = frame;
         passed.pass(head, bytes.len());
+        passed.take_word(head, content(head, rest));
         match opened {
             Some(opened) => self.enter(alloc, passed, opened, head),
             None => self.leaf(alloc, passed, head, rest),

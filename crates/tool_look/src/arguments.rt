@@ -71,7 +71,7 @@ impl Arguments {
     fn takes_option(&mut self, alloc: Global, argument: &str) -> Result<bool, AllocError> {
         if let Some(moment) = argument.strip_prefix("--now=") {
             self.asked.now = moment.parse::<i64>().ok();
-            return Ok(self.asked.now.is_some());
+            return Ok(self.asked.now.is_some() || moment == "none");
         }
         if let Some(digits) = argument.strip_prefix("--external-aad=") {
             return self.takes_aad(alloc, digits);
@@ -83,7 +83,12 @@ impl Arguments {
             "--edn" => self.takes_form(Form::Plain),
             "--where" => self.takes_form(Form::Where),
             "--html" => self.takes_form(Form::Page),
+            "--json" => self.takes_form(Form::Json),
             "--to=hex" => self.takes_hexadecimal(),
+            "--short" => {
+                self.asked.is_short = true;
+                true
+            }
             _ => false,
         })
     }

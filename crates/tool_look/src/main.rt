@@ -13,7 +13,7 @@ use arguments::Arguments;
 use std::io::{ErrorKind, IsTerminal, Read};
 use std::process::ExitCode;
 use std::{env, fs, io};
-use tool_explain::push_comment;
+use tool_explain::{push_comment, quoted_name};
 use tool_view::{END, FRONT, Form, Shown, UNANSWERED, hexadecimal, look};
 
 /// The text for an argument that isn't understood.
@@ -23,9 +23,9 @@ or as h'..'; or base64 or base64url, also as b64'..' or behind Bearer.
 KIND is auto (what its tag says, or else what it can be), cwt (a web token, with claims as its payload), value, sign1, sign, mac,
 mac0, encrypt, encrypt0, countersignature, key, keyset, claims or kdf.
 With --to=hex the bytes alone are written, in hexadecimal; with --edn diagnostic notation alone; with --where only the offset of
-the fault, the path there, and the fault, or that the input is accepted; with --html a page. --now=SECONDS since 1970 began is
-when a token is looked at, and --external-aad=HEX is what goes with messages. --color=auto, always or never: auto is in a
-terminal, without NO_COLOR.
+the fault, the path there, and the fault, or that the input is accepted; with --html a page; with --json a line of JSON for each
+file. --short cuts long strings. --now=SECONDS since 1970 began is the moment for which a token's times are judged, or none, and
+--external-aad=HEX is what goes with messages. --color=auto, always or never: auto is in a terminal, without NO_COLOR.
 ";
 
 /// Returns true if standard output is a terminal that may have colours.
@@ -44,7 +44,7 @@ fn print_name(rt: &HostRuntime, name: &str) -> io::Result<()> {
     println!(rt; "{comment}")
 }
 
-/// Shows an input of that name, and returns the status.
+/// Shows an input of that name, which is quoted if it has to be, and returns the status.
 fn show(rt: &HostRuntime, arguments: &Arguments, input: &[u8], name: &str) -> io::Result<u8> {
     let asked = &arguments.asked;
     let Shown { said, text, status } = if arguments.is_hexadecimal {
@@ -57,7 +57,8 @@ fn show(rt: &HostRuntime, arguments: &Arguments, input: &[u8], name: &str) -> io
     } else {
         eprintln!(rt; "{name}: {said}")?;
     }
-    if !name.is_empty() && asked.form != Form::Page && !arguments.is_hexadecimal {
+    let is_text = !matches!(asked.form, Form::Page | Form::Json) && !arguments.is_hexadecimal;
+    if is_text && !name.is_empty() {
         print_name(rt, name)?;
     }
     print!(rt; "{text}")?;
@@ -66,11 +67,12 @@ fn show(rt: &HostRuntime, arguments: &Arguments, input: &[u8], name: &str) -> io
 
 /// Shows a file, and returns the status.
 fn show_file(rt: &HostRuntime, arguments: &Arguments, name: &str) -> io::Result<u8> {
+    let shown = quoted_name(rt.alloc(), name)?;
     match fs::read(rt, name) {
-        Ok(input) => show(rt, arguments, &input, name),
+        Ok(input) => show(rt, arguments, &input, shown.as_str()),
         Err(error) if error.kind() == ErrorKind::OutOfMemory => Err(error),
         Err(error) => {
-            eprintln!(rt; "error: {name}: {error}; nor is it a KIND")?;
+            eprintln!(rt; "error: {shown}: {error}; nor is it a KIND")?;
             Ok(UNANSWERED)
         }
     }
@@ -92,6 +94,7 @@ fn answer(rt: &HostRuntime, mut arguments: Arguments) -> io::Result<u8> {
             continue;
         }
         if argument.starts_with("--") {
+            let argument = quoted_name(rt.alloc(), argument)?;
             eprint!(rt; "error: {argument} isn't understood\n{USAGE}")?;
             return Ok(UNANSWERED);
         }

@@ -72,5 +72,6 @@ pub(crate) fn asked(
         now,
         external_aad: Vec::from_slice(alloc, external_aad)?,
         is_colored: false,
+        is_short: false,
     })
 }

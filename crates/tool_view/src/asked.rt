@@ -12,6 +12,8 @@ pub enum Form {
     Page,
     /// The same lines for a program that shows them.
     Rows,
+    /// The same lines as an object in JSON, for scripts.
+    Json,
     /// Diagnostic notation alone.
     Plain,
     /// The place of the fault, and the fault.
@@ -32,11 +34,13 @@ pub struct Asked {
     pub external_aad: Vec<u8>,
     /// Whether lines are written in colours.
     pub is_colored: bool,
+    /// Whether long strings and rows of bytes are cut.
+    pub is_short: bool,
 }
 
 impl Asked {
     /// Returns the default options: the kind by the tag, bytes and notes, no moment, an empty
-    /// `external_aad`, no colours.
+    /// `external_aad`, no colours, nothing cut.
     pub fn new(alloc: Global) -> Asked {
         Asked {
             kind: Kind::Auto,
@@ -44,6 +48,7 @@ impl Asked {
             now: None,
             external_aad: Vec::new(alloc),
             is_colored: false,
+            is_short: false,
         }
     }
 }

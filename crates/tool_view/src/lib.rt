@@ -3,9 +3,11 @@
 #![tactic(auto)]
 
 mod asked;
+mod json;
 mod page;
 mod respelled;
 mod rows;
+mod sequence;
 mod shown;
 
 pub use asked::{Asked, Form};

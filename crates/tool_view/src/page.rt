@@ -1,13 +1,15 @@
 //! Lines as an HTML page, without scripts and outside links.
 
 use std::alloc::{AllocError, Global};
-use tool_explain::{Cover, Line};
+use tool_explain::{Cover, Line, Quoted, Quotes, shortened};
 
 /// The part of the page before all inputs.
 pub const FRONT: &str = r##"<!DOCTYPE html>
 <html lang="en">
 <head>
 <meta charset="utf-8">
+<meta http-equiv="Content-Security-Policy" content="default-src 'none'; style-src 'unsafe-inline'">
+<meta name="color-scheme" content="light dark">
 <meta name="viewport" content="width=device-width, initial-scale=1">
 <title>CBOR and COSE, taken apart</title>
 <style>
@@ -25,7 +27,7 @@ summary::-webkit-details-marker { display: none; }
 summary > span + span::before { content: "\25BE\00A0"; color: #777; }
 details:not([open]) > summary > span + span::before { content: "\25B8\00A0"; }
 em { color: #444; }
-.signed { border-left: 6px solid #1a7f37; background: #e9f7ec; }
+.covered { border-left: 6px solid #1a7f37; background: #e9f7ec; }
 .open { border-left: 6px dashed #b35900; background: #fff4e5; }
 .seal { border-left: 6px double #0550ae; background: #eaf2fd; }
 .refused { border-left: 6px solid #b00020; background: #fdeaed; font-weight: bold; }
@@ -37,14 +39,23 @@ em { color: #444; }
 .row { grid-template-columns: 1fr auto; }
 .row > span + span { grid-column: 1 / 3; }
 }
+@media (prefers-color-scheme: dark) {
+body { color: #e6e6e6; background: #161616; }
+.row code:first-child, .row > span, em, summary > span + span::before { color: #c4c4c4; }
+.row > span + span { color: #e6e6e6; }
+.covered { border-left-color: #3fb950; background: #12301c; }
+.open { border-left-color: #d29922; background: #3a2a10; }
+.seal { border-left-color: #58a6ff; background: #14263d; }
+.refused { border-left-color: #ff7b72; background: #42171c; }
+}
 </style>
 </head>
 <body>
 <h1>CBOR and COSE, taken apart</h1>
 <p>Bytes are on the left, and what they are is on the right. A line with a triangle folds what is in it.</p>
 <ul>
-<li class="signed">solid: signed or authenticated</li>
-<li class="open">dashed: a header that is neither</li>
+<li class="covered">solid: covered by a signature, a MAC or a ciphertext</li>
+<li class="open">dashed: a header that nothing covers</li>
 <li class="seal">double: a signature, a MAC or a ciphertext</li>
 <li class="refused">bold: refused</li>
 </ul>
@@ -56,21 +67,49 @@ pub const END: &str = "</body>\n</html>\n";
 /// The most levels that are indented.
 const STEPS: usize = 32;
 
+/// The most bytes of a line that is shown short.
+const BYTES: usize = 32;
+
 /// The most levels of lines that fold. Deeper lines don't fold.
 const FOLDS: usize = 100;
 
-/// Adds the text, with the characters escaped that HTML reserves, and control characters replaced.
+/// Adds the character, escaped if HTML reserves it, or replaced if it is a control character.
+fn push_character(page: &mut String, c: char) -> Result<(), AllocError> {
+    match c {
+        '&' => page.push_str("&amp;"),
+        '<' => page.push_str("&lt;"),
+        '>' => page.push_str("&gt;"),
+        '"' => page.push_str("&quot;"),
+        '\'' => page.push_str("&#39;"),
+        c if c.is_control() => page.push('\u{fffd}'),
+        c => page.push(c),
+    }
+}
+
+/// Adds the text, with its characters escaped.
 fn push_escaped(page: &mut String, text: &str) -> Result<(), AllocError> {
     for c in text.chars() {
-        match c {
-            '&' => page.push_str("&amp;")?,
-            '<' => page.push_str("&lt;")?,
-            '>' => page.push_str("&gt;")?,
-            '"' => page.push_str("&quot;")?,
-            '\'' => page.push_str("&#39;")?,
-            c if c.is_control() => page.push('\u{fffd}')?,
-            c => page.push(c)?,
+        push_character(page, c)?;
+    }
+    Ok(())
+}
+
+/// Adds diagnostic notation, with its characters escaped. Each text string is isolated, so that
+/// letters that are written from right to left can't change places with what is next to it.
+fn push_isolated(page: &mut String, text: &str) -> Result<(), AllocError> {
+    let mut quotes = Quotes::new();
+    for c in text.chars() {
+        let part = quotes.pass(c);
+        if part == Quoted::Opens && c == '"' {
+            page.push_str("<bdi>")?;
         }
+        push_character(page, c)?;
+        if part == Quoted::Closes && c == '"' {
+            page.push_str("</bdi>")?;
+        }
+    }
+    if quotes.is_in_text() {
+        page.push_str("</bdi>")?;
     }
     Ok(())
 }
@@ -79,11 +118,28 @@ fn push_escaped(page: &mut String, text: &str) -> Result<(), AllocError> {
 fn class(cover: Cover) -> &'static str {
     match cover {
         Cover::Plain => "",
-        Cover::Signed | Cover::Authenticated => " signed",
+        Cover::Signed | Cover::Authenticated | Cover::Associated => " covered",
         Cover::NotSigned | Cover::NotAuthenticated => " open",
         Cover::Seal => " seal",
         Cover::Refused => " refused",
     }
+}
+
+/// Adds the bytes in hexadecimal. With `is_short`, no more than [`BYTES`] of them.
+fn push_digits(
+    alloc: Global,
+    page: &mut String,
+    bytes: &[u8],
+    is_short: bool,
+) -> Result<(), AllocError> {
+    let most = if is_short { BYTES } else { usize::MAX };
+    let (shown, left) = bytes.split_at(bytes.len().min(most));
+    page.push_str(hex::encode(alloc, shown)?.as_str())?;
+    if left.is_empty() {
+        return Ok(());
+    }
+    let count = left.len();
+    write!(page, "\u{2026} {count} more bytes")
 }
 
 /// Adds a line in an element of that name: its bytes, its cover in words, its text and its note.
@@ -92,17 +148,21 @@ fn push_row(
     page: &mut String,
     line: &Line<'_>,
     name: &str,
+    is_short: bool,
 ) -> Result<(), AllocError> {
     let (class, depth) = (class(line.cover), line.depth.min(STEPS));
-    let (digits, words) = (hex::encode(alloc, line.bytes)?, line.cover.text());
-    write!(
-        page,
-        "<{name} class=\"row{class}\"><code>{digits}</code><span>{words}</span>"
-    )?;
+    let words = line.cover.text();
+    write!(page, "<{name} class=\"row{class}\"><code>")?;
+    push_digits(alloc, page, line.bytes, is_short)?;
+    write!(page, "</code><span>{words}</span>")?;
     write!(page, "<span style=\"padding-left:{depth}em\"><code>")?;
-    push_escaped(page, line.text.as_str())?;
+    if is_short {
+        push_isolated(page, shortened(alloc, line.text.as_str())?.as_str())?;
+    } else {
+        push_isolated(page, line.text.as_str())?;
+    }
     page.push_str("</code> <em>")?;
-    push_escaped(page, line.note.as_str())?;
+    push_isolated(page, line.note.as_str())?;
     write!(page, "</em></span></{name}>\n")
 }
 
@@ -128,14 +188,15 @@ fn push_line(
     folds: &mut Vec<usize>,
     line: &Line<'_>,
     next_depth: usize,
+    is_short: bool,
 ) -> Result<(), AllocError> {
     end_folds(page, folds, line.depth.saturating_add(1))?;
     if line.depth < next_depth && folds.len() < FOLDS {
         folds.push(line.depth)?;
         page.push_str("<details open>")?;
-        return push_row(alloc, page, line, "summary");
+        return push_row(alloc, page, line, "summary", is_short);
     }
-    push_row(alloc, page, line, "div")?;
+    push_row(alloc, page, line, "div", is_short)?;
     end_folds(page, folds, line.depth)
 }
 
@@ -148,17 +209,22 @@ fn depth_at(lines: &[Line<'_>], index: usize) -> usize {
 }
 
 /// Adds the lines.
-fn push_lines(alloc: Global, page: &mut String, lines: &[Line<'_>]) -> Result<(), AllocError> {
+fn push_lines(
+    alloc: Global,
+    page: &mut String,
+    lines: &[Line<'_>],
+    is_short: bool,
+) -> Result<(), AllocError> {
     let mut folds: Vec<usize> = Vec::new(alloc);
     for (index, line) in lines.iter().enumerate() {
         let next_depth = depth_at(lines, index.saturating_add(1));
-        push_line(alloc, page, &mut folds, line, next_depth)?;
+        push_line(alloc, page, &mut folds, line, next_depth, is_short)?;
     }
     end_folds(page, &mut folds, 0)
 }
 
 /// Returns the part of the page for an input: its name, how it was read, its lines, and the notes
-/// under them.
+/// under them. With `is_short`, long strings and bytes of lines are cut.
 ///
 /// # Errors
 /// `AllocError` if an allocation fails.
@@ -168,13 +234,14 @@ pub fn section(
     said: &str,
     lines: &[Line<'_>],
     notes: &[String],
+    is_short: bool,
 ) -> Result<String, AllocError> {
     let mut page = String::from_str(alloc, "<section>\n<h2>")?;
     push_escaped(&mut page, name)?;
     page.push_str("</h2>\n<p>")?;
-    push_escaped(&mut page, said)?;
+    push_isolated(&mut page, said)?;
     page.push_str("</p>\n")?;
-    push_lines(alloc, &mut page, lines)?;
+    push_lines(alloc, &mut page, lines, is_short)?;
     for note in notes {
         page.push_str("<p><code>")?;
         push_escaped(&mut page, note.as_str())?;

@@ -8,7 +8,7 @@ fn letter(cover: Cover) -> char {
     match cover {
         Cover::Plain => '-',
         Cover::Signed => 's',
-        Cover::Authenticated => 'a',
+        Cover::Authenticated | Cover::Associated => 'a',
         Cover::NotSigned => 'n',
         Cover::NotAuthenticated => 'u',
         Cover::Seal => 'c',
@@ -31,18 +31,21 @@ fn push_row(alloc: Global, text: &mut String, line: &Line<'_>) -> Result<(), All
     text.push('\n')
 }
 
-/// Returns the rows: one that says how the input was read, one for each line, and one for each
-/// note, which begins with `=`.
+/// Returns the rows: one that says how the input was read, with a summary after a tab, one for each
+/// line, and one for each note, which begins with `=`.
 ///
 /// # Errors
 /// `AllocError` if an allocation fails.
 pub fn rows(
     alloc: Global,
     said: &str,
+    summary: &str,
     lines: &[Line<'_>],
     notes: &[String],
 ) -> Result<String, AllocError> {
     let mut text = String::from_str(alloc, said)?;
+    text.push('\t')?;
+    text.push_str(summary)?;
     text.push('\n')?;
     for line in lines {
         push_row(alloc, &mut text, line)?;

@@ -6,13 +6,15 @@ ghost use Rattle.tool_explain.specs.declared.kind.Kind.TheVariants.{Auto};
 ghost use Rattle.tool_view.specs.Accepted.{Accepts, AcceptsInput};
 
 use crate::asked::{Asked, Form};
+use crate::json::{Told, object};
 use crate::page::section;
 use crate::rows::rows;
+use crate::sequence::{items, mark, push_item};
 use coset::CoseError;
 use std::alloc::{AllocError, Global};
 use tool_explain::{
-    Cover, Kind, Line, annotated, annotated_structures, colored, explain, explain_whole, fault,
-    fitting, notation, structure_notes,
+    Kind, Line, Style, commented, explain, explain_whole, fault, fitting, notation,
+    shortened_note, structure_notes, styled,
 };
 use tool_spelled::{Spelling, line_and_column, text_of};
 
@@ -119,29 +121,21 @@ fn begins_with_tag(bytes: &[u8]) -> bool {
     }
 }
 
-/// Adds that the bytes are shown as the first of these kinds, and which other kinds read them.
-fn push_fitting(said: &mut String, kinds: &[Kind]) -> Result<(), AllocError> {
-    let Some((first, others)) = kinds.split_first() else {
-        return said.push_str("; it has no tag, and is shown as CBOR: no other KIND fits it");
-    };
-    let name = first.name();
-    write!(said, "; it has no tag, and is shown as {name}")?;
-    let mut separator = ", which could also be ";
-    for kind in others {
-        said.push_str(separator)?;
-        said.push_str(kind.name())?;
-        separator = " or ";
+/// Adds all kinds but the first.
+fn push_others(kinds: &[Kind], others: &mut Vec<Kind>) -> Result<(), AllocError> {
+    for kind in kinds.iter().skip(1) {
+        others.push(*kind)?;
     }
     Ok(())
 }
 
 /// Returns the kind by which the bytes are shown. If neither `asked` nor a tag says it, this is the
-/// first kind that reads them, otherwise `Auto`. If the bytes are one item, `said` tells which.
+/// first kind that reads them, otherwise `Auto`. Then `others` get the other kinds that do.
 fn kind_of(
     alloc: Global,
     asked: &Asked,
     bytes: &[u8],
-    said: &mut String,
+    others: &mut Vec<Kind>,
 ) -> Result<Kind, AllocError>
     ensures { IfOk result
         (λ k. (asked.entry.now.kind ≡ Auto → ⊥) → k ≡ asked.entry.now.kind) }
@@ -152,7 +146,7 @@ fn kind_of(
     match Kind::Value.refusal(alloc, bytes) {
         None => {
             let kinds = fitting(alloc, bytes)?;
-            push_fitting(said, &kinds)?;
+            push_others(&kinds, others)?;
             Ok(kinds.first().copied().unwrap_or(Kind::Auto))
         }
         Some(CoseError::OutOfMemory) => Err(AllocError),
@@ -179,82 +173,244 @@ fn fault_line(alloc: Global, kind: Kind, bytes: &[u8]) -> Result<(String, u8), A
     Ok((text, REFUSED))
 }
 
-/// Returns the lines as text, followed by comments with the structures that are signed,
-/// authenticated, or go with the ciphertext.
-fn annotated_text(
+/// Returns the structures that are signed, authenticated, or go with the ciphertext. They are cut if
+/// `asked` says so.
+fn notes_of(
     alloc: Global,
     asked: &Asked,
     kind: Kind,
     bytes: &[u8],
-    lines: &[Line<'_>],
+) -> Result<Vec<String>, AllocError> {
+    let notes = structure_notes(alloc, kind, bytes, &asked.external_aad)?;
+    if !asked.is_short || asked.form == Form::Json {
+        return Ok(notes);
+    }
+    let mut short = Vec::new(alloc);
+    for note in &notes {
+        short.push(shortened_note(alloc, note.as_str())?)?;
+    }
+    Ok(short)
+}
+
+/// The lines of an input, the notes under them, and the summary.
+#[derive(Drop)]
+struct Answer<'a> {
+    lines: Vec<Line<'a>>,
+    notes: Vec<String>,
+    summary: String,
+}
+
+/// Returns the lines as text, followed by the notes as comments.
+fn annotated_text(
+    alloc: Global,
+    asked: &Asked,
+    answer: &Answer<'_>,
 ) -> Result<String, AllocError> {
-    let mut text = if asked.is_colored {
-        colored(alloc, lines)?
-    } else {
-        annotated(alloc, lines)?
+    let style = Style {
+        is_colored: asked.is_colored,
+        is_short: asked.is_short,
     };
-    let comments = annotated_structures(alloc, kind, bytes, &asked.external_aad)?;
-    text.push_str(comments.as_str())?;
+    let mut text = styled(alloc, &answer.lines, style)?;
+    text.push_str(commented(alloc, &answer.notes)?.as_str())?;
     Ok(text)
 }
 
-/// Returns the lines in the form that `asked` has, and the status.
+/// Returns the answer as an object in JSON. The bytes are of `kind`, unless `status` says that they
+/// were refused.
+fn json_of(
+    alloc: Global,
+    kind: Kind,
+    bytes: &[u8],
+    answer: &Answer<'_>,
+    (name, said): (&str, &str),
+    status: u8,
+) -> Result<String, AllocError> {
+    let refusal = fault(alloc, kind, bytes)?;
+    let told = Told {
+        name,
+        read_as: said,
+        summary: answer.summary.as_str(),
+        kind: kind.name(),
+        status,
+    };
+    object(alloc, told, &answer.lines, &answer.notes, refusal.as_ref())
+}
+
+/// Returns the answer in the form that `asked` has. Adds the summary to `said`.
+fn answer_text(
+    alloc: Global,
+    asked: &Asked,
+    (kind, bytes): (Kind, &[u8]),
+    answer: &Answer<'_>,
+    said: &mut String,
+    name: &str,
+    status: u8,
+) -> Result<String, AllocError> {
+    let summary = answer.summary.as_str();
+    let text = match asked.form {
+        Form::Rows => rows(alloc, said.as_str(), summary, &answer.lines, &answer.notes)?,
+        Form::Json => json_of(alloc, kind, bytes, answer, (name, said.as_str()), status)?,
+        Form::Page => {
+            let said = format!(in alloc; "{said}. {summary}")?;
+            section(alloc, name, said.as_str(), &answer.lines, &answer.notes, asked.is_short)?
+        }
+        Form::Plain => notation(alloc, &answer.lines)?,
+        _ => annotated_text(alloc, asked, answer)?,
+    };
+    push_sentence(said, summary)?;
+    Ok(text)
+}
+
+/// Returns the lines in the form that `asked` has, and the status. Adds their summary to `said`.
 fn lines_of(
     alloc: Global,
     asked: &Asked,
     kind: Kind,
     bytes: &[u8],
-    said: &str,
+    others: &[Kind],
+    said: &mut String,
     name: &str,
 ) -> Result<(String, u8), AllocError>
     ensures { IfOk result (λ r. r.1 ≡ 0 → JudgesAs kind bytes.now None) }
 {
     let explained = explain_whole(alloc, kind, bytes, asked.now)?;
-    let lines = &explained.lines;
-    let text = match asked.form {
-        Form::Page => {
-            let notes = structure_notes(alloc, kind, bytes, &asked.external_aad)?;
-            section(alloc, name, said, lines, &notes)?
-        }
-        Form::Rows => {
-            let notes = structure_notes(alloc, kind, bytes, &asked.external_aad)?;
-            rows(alloc, said, lines, &notes)?
-        }
-        _ => annotated_text(alloc, asked, kind, bytes, lines)?,
-    };
     let status = status_of(explained.error.is_some());
+    let summary = explained.summary(alloc, others, asked.now)?;
+    let answer = Answer {
+        lines: explained.lines,
+        notes: notes_of(alloc, asked, kind, bytes)?,
+        summary,
+    };
+    let text = answer_text(alloc, asked, (kind, bytes), &answer, said, name, status)?;
     Ok((text, status))
 }
 
-/// Adds where and why the input was refused, as the last line notes it, if it was refused.
-fn push_refusal(said: &mut String, lines: &[Line<'_>]) -> Result<(), AllocError> {
-    match lines.last() {
-        Some(line) if line.cover == Cover::Refused => {
-            said.push_str("; ")?;
-            said.push_str(line.note.as_str())
-        }
-        _ => Ok(()),
-    }
+/// Adds the summary of an input after the words on how it was read.
+fn push_sentence(said: &mut String, summary: &str) -> Result<(), AllocError> {
+    said.push_str(". ")?;
+    said.push_str(summary)
+}
+
+/// Adds the summary of an input whose lines aren't shown.
+fn push_summary(
+    alloc: Global,
+    asked: &Asked,
+    kind: Kind,
+    bytes: &[u8],
+    others: &[Kind],
+    said: &mut String,
+) -> Result<(), AllocError> {
+    let explained = explain_whole(alloc, kind, bytes, asked.now)?;
+    let summary = explained.summary(alloc, others, asked.now)?;
+    push_sentence(said, summary.as_str())
 }
 
 /// Returns diagnostic notation alone, and the status. If the input is refused, the notation ends
-/// before the fault, and `said` tells where and why.
+/// before the fault.
 fn notation_of(
     alloc: Global,
     asked: &Asked,
     kind: Kind,
     bytes: &[u8],
-    said: &mut String,
 ) -> Result<(String, u8), AllocError>
     ensures { IfOk result (λ r. r.1 ≡ 0 → JudgesAs kind bytes.now None) }
 {
     let explained = explain(alloc, kind, bytes, asked.now)?;
-    push_refusal(said, &explained.lines)?;
     let status = status_of(explained.error.is_some());
     Ok((notation(alloc, &explained.lines)?, status))
 }
 
+/// Adds lines and notes.
+fn add<'a>(
+    answer: &mut Answer<'a>,
+    lines: Vec<Line<'a>>,
+    notes: Vec<String>,
+) -> Result<(), AllocError> {
+    for line in lines {
+        answer.lines.push(line)?;
+    }
+    for note in notes {
+        answer.notes.push(note)?;
+    }
+    Ok(())
+}
+
+/// Adds the lines and the summary of one item of a sequence of `count` items. `number` counts from
+/// 1, and the item begins at `offset`.
+fn add_item<'a>(
+    alloc: Global,
+    asked: &Asked,
+    item: &'a [u8],
+    (number, count, offset): (usize, usize, usize),
+    answer: &mut Answer<'a>,
+) -> Result<(), AllocError> {
+    let mut others = Vec::new(alloc);
+    let kind = kind_of(alloc, asked, item, &mut others)?;
+    let explained = explain_whole(alloc, kind, item, asked.now)?;
+    let summary = explained.summary(alloc, &others, asked.now)?;
+    push_item(&mut answer.summary, number, count, summary.as_str())?;
+    let mut lines = if asked.form == Form::Plain {
+        explain(alloc, kind, item, asked.now)?.lines
+    } else {
+        explained.lines
+    };
+    mark(alloc, &mut lines, number, count, offset)?;
+    let notes = notes_of(alloc, asked, kind, item)?;
+    add(answer, lines, notes)
+}
+
+/// Returns the output for a sequence of these items. Adds its summary to `said`.
+fn sequence(
+    alloc: Global,
+    asked: &Asked,
+    bytes: &[u8],
+    items: &[&[u8]],
+    said: &mut String,
+    name: &str,
+) -> Result<String, AllocError> {
+    let count = items.len();
+    let mut answer = Answer {
+        lines: Vec::new(alloc),
+        notes: Vec::new(alloc),
+        summary: format!(in alloc; "A sequence of {count} items.")?,
+    };
+    let (mut number, mut offset) = (0usize, 0usize);
+    for item in items {
+        number = number.saturating_add(1);
+        add_item(alloc, asked, item, (number, count, offset), &mut answer)?;
+        offset = offset.saturating_add(item.len());
+    }
+    answer_text(alloc, asked, (Kind::Auto, bytes), &answer, said, name, REFUSED)
+}
+
+/// Returns the output for bytes that should be one item. `said` tells how the input was read.
+fn look_at_item(
+    alloc: Global,
+    asked: &Asked,
+    bytes: &[u8],
+    mut said: String,
+    name: &str,
+) -> Result<Shown, AllocError>
+    ensures { IfOk result
+        (λ shown. shown.status ≡ 0 → Accepts asked.entry.now.kind bytes.now) }
+{
+    let mut others = Vec::new(alloc);
+    let kind = kind_of(alloc, asked, bytes, &mut others)?;
+    if matches!(asked.form, Form::Plain | Form::Where) {
+        push_summary(alloc, asked, kind, bytes, &others, &mut said)?;
+    }
+    let (text, status) = match asked.form {
+        Form::Annotated | Form::Page | Form::Rows | Form::Json => {
+            lines_of(alloc, asked, kind, bytes, &others, &mut said, name)?
+        }
+        Form::Plain => notation_of(alloc, asked, kind, bytes)?,
+        Form::Where => fault_line(alloc, kind, bytes)?,
+    };
+    Ok(Shown { said, text, status })
+}
+
 /// Returns the output for the bytes of an input of that name. `said` tells how the input was read.
+/// A sequence is shown item by item, unless `asked` names a kind.
 fn look_at(
     alloc: Global,
     asked: &Asked,
@@ -265,15 +421,32 @@ fn look_at(
     ensures { IfOk result
         (λ shown. shown.status ≡ 0 → Accepts asked.entry.now.kind bytes.now) }
 {
-    let kind = kind_of(alloc, asked, bytes, &mut said)?;
-    let (text, status) = match asked.form {
-        Form::Annotated | Form::Page | Form::Rows => {
-            lines_of(alloc, asked, kind, bytes, said.as_str(), name)?
-        }
-        Form::Plain => notation_of(alloc, asked, kind, bytes, &mut said)?,
-        Form::Where => fault_line(alloc, kind, bytes)?,
+    if asked.kind != Kind::Auto || asked.form == Form::Where {
+        return look_at_item(alloc, asked, bytes, said, name);
+    }
+    let items = items(alloc, bytes)?;
+    if items.len() < 2 {
+        return look_at_item(alloc, asked, bytes, said, name);
+    }
+    // A decoder of one item refuses a sequence.
+    let text = sequence(alloc, asked, bytes, &items, &mut said, name)?;
+    Ok(Shown {
+        said,
+        text,
+        status: REFUSED,
+    })
+}
+
+/// Returns the object of an input that spells no bytes.
+fn unread(alloc: Global, name: &str, said: &str) -> Result<String, AllocError> {
+    let told = Told {
+        name,
+        read_as: said,
+        summary: "",
+        kind: "",
+        status: REFUSED,
     };
-    Ok(Shown { said, text, status })
+    object(alloc, told, &[], &[], None)
 }
 
 /// Returns the output for an input of that name.
@@ -296,8 +469,9 @@ pub fn look(alloc: Global, asked: &Asked, input: &[u8], name: &str) -> Result<Sh
             let offset = spelled.offset.saturating_add(place.0);
             let said = misspelled(alloc, spelled.spelling, input, offset)?;
             let text = match asked.form {
-                Form::Page => section(alloc, name, said.as_str(), &[], &[])?,
-                Form::Rows => rows(alloc, said.as_str(), &[], &[])?,
+                Form::Page => section(alloc, name, said.as_str(), &[], &[], false)?,
+                Form::Rows => rows(alloc, said.as_str(), "", &[], &[])?,
+                Form::Json => unread(alloc, name, said.as_str())?,
                 _ => String::new(alloc),
             };
             Ok(Shown {

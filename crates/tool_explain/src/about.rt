@@ -1,0 +1,203 @@
+//! The facts that a summary tells, as the walk finds them.
+
+use crate::frame::{Container, Frame};
+use crate::head::tag;
+use crate::moment::moment;
+use crate::role::{Message, Role, Word, title};
+use coset::cbor::head::{Head, MajorType};
+use coset::cwt::Timestamp;
+use std::alloc::{AllocError, Global};
+
+/// The most messages and claims inside that are named.
+const NAMED: usize = 6;
+
+/// The least bytes of authenticator data (W3C WebAuthn, section 6.1).
+const AUTH_DATA: u64 = 37;
+
+/// The numbers of the parts that have to be checked with a key.
+#[derive(Clone, Copy, Debug)]
+pub(crate) struct Seals {
+    pub(crate) signatures: usize,
+    pub(crate) countersignatures: usize,
+    pub(crate) macs: usize,
+    pub(crate) ciphertexts: usize,
+}
+
+/// The facts that a summary tells.
+#[derive(Drop)]
+pub(crate) struct About {
+    /// The tags before the first item that is no tag.
+    pub(crate) tags: Vec<u64>,
+    /// The role of that item, and its major type.
+    pub(crate) item: Option<(Role, MajorType)>,
+    /// The name of the format of which the item is, by the labels of its maps.
+    pub(crate) format: Option<&'static str>,
+    /// Whether a label says that an array of documents was seen.
+    has_documents: bool,
+    /// The messages and claims inside it, by name and in order, but no more than [`NAMED`].
+    pub(crate) inside: Vec<&'static str>,
+    pub(crate) seals: Seals,
+    /// Whether a payload or a ciphertext is detached.
+    pub(crate) is_detached: bool,
+    /// The claims of which the times are below: the number of input bytes after the map's head.
+    claims: Option<usize>,
+    pub(crate) expiry: Option<Timestamp>,
+    pub(crate) start: Option<Timestamp>,
+    pub(crate) issued: Option<Timestamp>,
+    /// Whether other claims have expired.
+    pub(crate) others_expired: bool,
+}
+
+impl About {
+    /// Returns the facts before the first item.
+    pub(crate) fn new(alloc: Global) -> About {
+        About {
+            tags: Vec::new(alloc),
+            item: None,
+            format: None,
+            has_documents: false,
+            inside: Vec::new(alloc),
+            seals: Seals {
+                signatures: 0,
+                countersignatures: 0,
+                macs: 0,
+                ciphertexts: 0,
+            },
+            is_detached: false,
+            claims: None,
+            expiry: None,
+            start: None,
+            issued: None,
+            others_expired: false,
+        }
+    }
+
+    /// Takes the facts of the next item of the frame, which has this role and this head.
+    ///
+    /// # Errors
+    /// `AllocError` if an allocation fails.
+    pub(crate) fn see(
+        &mut self,
+        frame: &Frame,
+        role: Role,
+        head: &Head,
+        now: Option<i64>,
+    ) -> Result<(), AllocError> {
+        if self.item.is_some() {
+            self.see_inside(frame, role, head)?;
+        } else if let Some(number) = tag(head) {
+            self.tags.push(number)?;
+            return Ok(());
+        } else {
+            self.item = Some((role, head.major_type));
+        }
+        self.see_word(frame, head)?;
+        self.see_seal(frame, role, head);
+        if frame.role == Role::Claims && frame.is_at_value() {
+            self.see_time(frame, role, head, now);
+        }
+        Ok(())
+    }
+
+    /// Takes the name of a message or claims inside the input's item.
+    fn see_inside(&mut self, frame: &Frame, role: Role, head: &Head) -> Result<(), AllocError> {
+        if self.inside.len() >= NAMED {
+            return Ok(());
+        }
+        let name = match (role, head.major_type) {
+            (Role::Claims, MajorType::Map) if matches!(frame.role, Role::Header(_)) => {
+                "claims in a header"
+            }
+            (Role::Claims, MajorType::Map) if frame.role != Role::Submodules => title(role),
+            (Role::Message(_, _), MajorType::Array) => title(role),
+            _ => return Ok(()),
+        };
+        self.inside.push(name)?;
+        Ok(())
+    }
+
+    /// Takes the format that the label of the next value tells.
+    fn see_word(&mut self, frame: &Frame, head: &Head) -> Result<(), AllocError> {
+        if !frame.is_at_value() || frame.role != Role::Any {
+            return Ok(());
+        }
+        let count = head.number().unwrap_or(0);
+        let format = match (frame.word, head.major_type) {
+            (Word::Documents, MajorType::Array) => {
+                self.has_documents = true;
+                return Ok(());
+            }
+            (Word::AuthData, MajorType::Bytes) if AUTH_DATA <= count => {
+                "WebAuthn attestation object"
+            }
+            (Word::IssuerAuth, MajorType::Array) if count != 4 => return Ok(()),
+            (Word::IssuerAuth, MajorType::Array) if self.has_documents => "mdoc DeviceResponse",
+            (Word::IssuerAuth, MajorType::Array) => "mdoc IssuerSigned",
+            (Word::ValueDigests, MajorType::Map) => "mdoc MobileSecurityObject",
+            _ => return Ok(()),
+        };
+        let is_outer = matches!(self.item, Some((Role::Any, MajorType::Map)));
+        if is_outer && self.format.is_none() {
+            self.format = Some(format);
+        } else if frame.word == Word::ValueDigests && self.inside.len() < NAMED {
+            self.inside.push("a MobileSecurityObject")?;
+        }
+        Ok(())
+    }
+
+    /// Counts a signature, a MAC or a ciphertext.
+    fn see_seal(&mut self, frame: &Frame, role: Role, head: &Head) {
+        let seals = &mut self.seals;
+        if role == Role::Signature && head.major_type == MajorType::Array {
+            if frame.role == Role::Signatures {
+                seals.signatures = seals.signatures.saturating_add(1);
+            } else {
+                seals.countersignatures = seals.countersignatures.saturating_add(1);
+            }
+        }
+        if matches!(frame.role, Role::Header(_)) && matches!(frame.value_label(), Some(9 | 12)) {
+            seals.countersignatures = seals.countersignatures.saturating_add(1);
+        }
+        if frame.container != Container::Array {
+            return;
+        }
+        match (frame.role, frame.index) {
+            (Role::Message(Message::Sign1, _), 3) => {
+                seals.signatures = seals.signatures.saturating_add(1);
+            }
+            (Role::Message(Message::Mac0 | Message::Mac, _), 3) => {
+                seals.macs = seals.macs.saturating_add(1);
+            }
+            (Role::Message(Message::Encrypt0 | Message::Encrypt, _), 2) => {
+                seals.ciphertexts = seals.ciphertexts.saturating_add(1);
+            }
+            _ => {}
+        }
+        let is_content = matches!((frame.role, frame.index), (Role::Message(_, _), 2));
+        self.is_detached = self.is_detached || is_content && head.is_null();
+    }
+
+    /// Takes a time of claims. The first claims with a time give the times of the summary.
+    fn see_time(&mut self, frame: &Frame, role: Role, head: &Head, now: Option<i64>) {
+        if !matches!(role, Role::Expiry | Role::Start | Role::Time) {
+            return;
+        }
+        let Some(timestamp) = moment(head) else {
+            return;
+        };
+        if self.claims.is_none() {
+            self.claims = Some(frame.id);
+        }
+        let is_first = self.claims == Some(frame.id);
+        match role {
+            Role::Expiry if is_first => self.expiry = Some(timestamp),
+            Role::Start if is_first => self.start = Some(timestamp),
+            Role::Time if is_first => self.issued = Some(timestamp),
+            Role::Expiry => {
+                let is_over = matches!(now, Some(now) if !timestamp.is_after(now));
+                self.others_expired = self.others_expired || is_over;
+            }
+            _ => {}
+        }
+    }
+}

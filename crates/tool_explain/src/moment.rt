@@ -1,0 +1,91 @@
+//! Moments and how far they are from another.
+
+use crate::head::integer;
+use crate::text::float;
+use coset::cbor::head::Head;
+use coset::cwt::Timestamp;
+use std::alloc::{AllocError, Global};
+use std::num::saturating_f64_to_i64;
+
+/// The units of distances: their seconds and their names. Months and years have their mean length
+/// in the Gregorian calendar.
+const UNITS: [(u64, &str); 5] = [
+    (31_556_952, "years"),
+    (2_629_746, "months"),
+    (86_400, "days"),
+    (3_600, "hours"),
+    (60, "minutes"),
+];
+
+/// Returns the moment with this head, if it is a number.
+pub(crate) fn moment(head: &Head) -> Option<Timestamp> {
+    if head.is_float() {
+        return Some(Timestamp::FractionalSeconds(float(head)));
+    }
+    Some(Timestamp::WholeSeconds(integer(head)?))
+}
+
+/// Returns the whole seconds of a moment since 1970 began, or `None` for a float that is no moment.
+fn seconds_of(timestamp: &Timestamp) -> Option<i64> {
+    match timestamp {
+        Timestamp::WholeSeconds(seconds) => Some(*seconds),
+        Timestamp::FractionalSeconds(seconds) => {
+            let seconds = seconds.to_f64();
+            if seconds.is_finite() {
+                Some(saturating_f64_to_i64(seconds))
+            } else {
+                None
+            }
+        }
+    }
+}
+
+/// Returns a distance in the largest unit of which it has at least two.
+fn in_units(seconds: u64) -> (u64, &'static str) {
+    for (length, name) in UNITS {
+        let count = seconds.checked_div(length).unwrap_or(0);
+        if 2 <= count {
+            return (count, name);
+        }
+    }
+    (seconds, if seconds == 1 { "second" } else { "seconds" })
+}
+
+/// Adds how far a moment is from `now`, after a comma: `, 3 days ago` or `, in 3 days`. Adds
+/// nothing for a float that is no moment.
+///
+/// # Errors
+/// `AllocError` if an allocation fails.
+pub(crate) fn push_distance(
+    text: &mut String,
+    timestamp: &Timestamp,
+    now: i64,
+) -> Result<(), AllocError> {
+    let Some(seconds) = seconds_of(timestamp) else {
+        return Ok(());
+    };
+    let (count, unit) = in_units(seconds.abs_diff(now));
+    if now < seconds {
+        write!(text, ", in {count} {unit}")
+    } else {
+        write!(text, ", {count} {unit} ago")
+    }
+}
+
+/// Adds the date of a moment to the minute, `2013-03-21 20:04 UTC`. A moment without such a date
+/// is a number of seconds.
+///
+/// # Errors
+/// `AllocError` if an allocation fails.
+pub(crate) fn push_date(
+    alloc: Global,
+    text: &mut String,
+    timestamp: &Timestamp,
+) -> Result<(), AllocError> {
+    let whole = format!(in alloc; "{timestamp}")?;
+    let Some((day, time)) = whole.split_once('T') else {
+        return text.push_str(whole.as_str());
+    };
+    let (minute, _) = time.rsplit_once(':').unwrap_or((time, ""));
+    write!(text, "{day} {minute} UTC")
+}

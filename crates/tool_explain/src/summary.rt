@@ -1,0 +1,245 @@
+//! What is known of an input, in a few short sentences.
+
+use crate::about::{About, Seals};
+use crate::apart::Explained;
+use crate::cover::Cover;
+use crate::kind::Kind;
+use crate::moment::{push_date, push_distance};
+use crate::role::{Role, title};
+use coset::cbor::head::MajorType;
+use coset::cwt::Timestamp;
+use std::alloc::{AllocError, Global};
+
+/// The most tags that are named.
+const TAGS: usize = 8;
+
+/// The tag of a web token (RFC 8392, section 6).
+const CWT: u64 = 61;
+
+/// Returns the standard's name of an item with this role and major type.
+fn item_name(role: Role, major_type: MajorType) -> &'static str {
+    match role {
+        Role::Signature => return "COSE_Countersignature",
+        Role::Claims => return "CWT claims",
+        _ => {}
+    }
+    let name = title(role);
+    if !name.is_empty() {
+        return name;
+    }
+    match major_type {
+        MajorType::Unsigned | MajorType::Negative => "CBOR integer",
+        MajorType::Bytes => "CBOR byte string",
+        MajorType::Text => "CBOR text string",
+        MajorType::Array => "CBOR array",
+        MajorType::Map => "CBOR map",
+        MajorType::Tag => "CBOR tag",
+        MajorType::Simple => "CBOR simple value or float",
+    }
+}
+
+/// Adds the tags around the item.
+fn push_tags(text: &mut String, tags: &[u64]) -> Result<(), AllocError> {
+    text.push_str(if tags.len() == 1 { "tag " } else { "tags " })?;
+    let mut separator = "";
+    for tag in tags.iter().take(TAGS) {
+        text.push_str(separator)?;
+        write!(text, "{tag}")?;
+        separator = ", ";
+    }
+    if TAGS < tags.len() {
+        text.push_str(" and more")?;
+    }
+    Ok(())
+}
+
+/// Adds the other kinds that the input could be.
+fn push_others(text: &mut String, others: &[Kind]) -> Result<(), AllocError> {
+    let mut separator = "could also be ";
+    for kind in others {
+        text.push_str(separator)?;
+        text.push_str(title(kind.role()))?;
+        separator = " or ";
+    }
+    Ok(())
+}
+
+/// Adds remarks on the item in brackets: its tags, that a message has none, and other kinds that it
+/// could be.
+fn push_remarks(text: &mut String, about: &About, others: &[Kind]) -> Result<(), AllocError> {
+    let is_message = matches!(about.item, Some((Role::Message(_, _), _)));
+    let mut close = "";
+    if !about.tags.is_empty() {
+        text.push_str(" (")?;
+        push_tags(text, &about.tags)?;
+        close = ")";
+    } else if is_message {
+        text.push_str(" (no tag")?;
+        close = ")";
+    }
+    if !others.is_empty() {
+        text.push_str(if close.is_empty() { " (" } else { "; " })?;
+        push_others(text, others)?;
+        close = ")";
+    }
+    text.push_str(close)
+}
+
+/// Adds the messages and claims inside the item.
+fn push_inside(text: &mut String, inside: &[&'static str]) -> Result<(), AllocError> {
+    let mut before_message = " with a nested ";
+    for name in inside {
+        if name.starts_with("COSE_") {
+            text.push_str(before_message)?;
+            before_message = " with a nested ";
+        } else {
+            text.push_str(" with ")?;
+            before_message = " and a nested ";
+        }
+        text.push_str(name)?;
+    }
+    Ok(())
+}
+
+/// Adds the name of the item, its tags, and the messages and claims inside it.
+fn push_item(text: &mut String, about: &About, others: &[Kind]) -> Result<(), AllocError> {
+    let Some((role, major_type)) = about.item else {
+        text.push_str("Input")?;
+        return push_remarks(text, about, others);
+    };
+    if about.tags.contains(&CWT) {
+        text.push_str("CWT: ")?;
+    }
+    match about.format {
+        Some(format) => text.push_str(format)?,
+        None => text.push_str(item_name(role, major_type))?,
+    }
+    push_remarks(text, about, others)?;
+    push_inside(text, &about.inside)
+}
+
+/// Adds that one or several parts, such as signatures, were not checked.
+fn push_unchecked(
+    text: &mut String,
+    count: usize,
+    one: &str,
+    several: &str,
+) -> Result<(), AllocError> {
+    match count {
+        0 => Ok(()),
+        1 => write!(text, " {one} not checked."),
+        _ => write!(text, " {count} {several} not checked."),
+    }
+}
+
+/// Adds what was not checked, because it needs a key.
+fn push_seals(text: &mut String, about: &About) -> Result<(), AllocError> {
+    let Seals {
+        signatures,
+        countersignatures,
+        macs,
+        ciphertexts,
+    } = about.seals;
+    if about.is_detached {
+        text.push_str(" Content detached.")?;
+    }
+    push_unchecked(text, signatures, "Signature", "signatures")?;
+    push_unchecked(text, countersignatures, "Countersignature", "countersignatures")?;
+    push_unchecked(text, macs, "MAC", "MACs")?;
+    if 0 < ciphertexts {
+        text.push_str(" Not decrypted.")?;
+    }
+    Ok(())
+}
+
+/// Adds a sentence about a moment.
+fn push_moment(
+    alloc: Global,
+    text: &mut String,
+    words: &str,
+    timestamp: &Timestamp,
+    now: i64,
+) -> Result<(), AllocError> {
+    text.push_str(words)?;
+    push_date(alloc, text, timestamp)?;
+    push_distance(text, timestamp, now)?;
+    text.push('.')
+}
+
+/// Adds the claims' times, judged by `now` (RFC 8392, sections 3.1.4 to 3.1.6).
+fn push_times(
+    alloc: Global,
+    text: &mut String,
+    about: &About,
+    now: i64,
+) -> Result<(), AllocError> {
+    if let Some(expiry) = &about.expiry {
+        let words = if expiry.is_after(now) {
+            " Expires "
+        } else {
+            " Expired "
+        };
+        push_moment(alloc, text, words, expiry, now)?;
+    }
+    match &about.start {
+        Some(start) if start.is_after(now) => {
+            push_moment(alloc, text, " Not valid before ", start, now)?;
+        }
+        _ => {}
+    }
+    match &about.issued {
+        Some(issued) if issued.is_after(now) => {
+            push_moment(alloc, text, " Issued in the future, ", issued, now)?;
+        }
+        _ => {}
+    }
+    if about.others_expired {
+        text.push_str(" Nested claims expired.")?;
+    }
+    Ok(())
+}
+
+impl Explained<'_> {
+    /// Returns why and where the first line that was refused was refused, without other remarks on
+    /// it.
+    fn refusal(&self) -> Option<&str> {
+        for line in &self.lines {
+            if line.cover == Cover::Refused {
+                let note = line.note.as_str();
+                return Some(note.split_once("; ").unwrap_or((note, "")).0);
+            }
+        }
+        None
+    }
+
+    /// Returns a summary of the input in a few short sentences.
+    ///
+    /// It names the item and its tags, and the messages and claims inside it. It says that no
+    /// signature or MAC was checked, and judges the claims' times by `now`. `others` are other
+    /// kinds that the input could be. If the input was refused, the summary says where and why
+    /// instead.
+    ///
+    /// # Errors
+    /// `AllocError` if an allocation fails.
+    pub fn summary(
+        &self,
+        alloc: Global,
+        others: &[Kind],
+        now: Option<i64>,
+    ) -> Result<String, AllocError> {
+        let (mut text, about) = (String::new(alloc), &self.about);
+        push_item(&mut text, about, others)?;
+        text.push_str(", ")?;
+        if let Some(refusal) = self.refusal() {
+            text.push_str(refusal)?;
+            text.push('.')?;
+            return Ok(text);
+        }
+        text.push_str("well-formed.")?;
+        push_seals(&mut text, about)?;
+        if let Some(now) = now {
+            push_times(alloc, &mut text, about, now)?;
+        }
+        Ok(text)
+    }
+}
