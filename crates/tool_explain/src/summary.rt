@@ -41,13 +41,14 @@ fn item_name(role: Role, major_type: MajorType) -> &'static str {
 /// Adds the tags around the item.
 fn push_tags(text: &mut String, tags: &[u64]) -> Result<(), AllocError> {
     text.push_str(if tags.len() == 1 { "tag " } else { "tags " })?;
+    let (shown, more) = tags.split_at(TAGS.min(tags.len()));
     let mut separator = "";
-    for tag in tags.iter().take(TAGS) {
+    for tag in shown {
         text.push_str(separator)?;
         write!(text, "{tag}")?;
         separator = ", ";
     }
-    if TAGS < tags.len() {
+    if !more.is_empty() {
         text.push_str(" and more")?;
     }
     Ok(())
