@@ -49,11 +49,7 @@ fn push_flags(note: &mut String, flags: u8) -> Result<(), AllocError> {
 
 /// Adds the attested credential data at the front of the rest: AAGUID, credential id and public
 /// key. Returns false if it ends too early.
-fn push_credential(
-    alloc: Global,
-    note: &mut String,
-    mut rest: &[u8],
-) -> Result<bool, AllocError> {
+fn push_credential(alloc: Global, note: &mut String, mut rest: &[u8]) -> Result<bool, AllocError> {
     let (Some(aaguid), Some(length)) = (take(&mut rest, 16), take(&mut rest, 2)) else {
         return Ok(false);
     };
@@ -65,7 +61,10 @@ fn push_credential(
     match Pull::new(rest) {
         Ok((key, behind)) => {
             let (length, left) = (key.slice().len(), behind.len());
-            write!(note, ", COSE_Key of {length} bytes, {left} bytes of extensions")?;
+            write!(
+                note,
+                ", COSE_Key of {length} bytes, {left} bytes of extensions"
+            )?;
             Ok(true)
         }
         Err(_) => Ok(false),

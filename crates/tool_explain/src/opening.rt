@@ -144,7 +144,11 @@ fn held(alloc: Global, role: Role, content: &[u8]) -> Result<Option<Role>, Alloc
         return Ok(None);
     }
     if role == Role::Encoded {
-        return Ok(if is_item(content) { Some(Role::Any) } else { None });
+        return Ok(if is_item(content) {
+            Some(Role::Any)
+        } else {
+            None
+        });
     }
     let is_token = matches!(role, Role::Payload(true) | Role::Submodule);
     if begins_with_message(content) {
@@ -155,7 +159,11 @@ fn held(alloc: Global, role: Role, content: &[u8]) -> Result<Option<Role>, Alloc
         });
     }
     if matches!(role, Role::Payload(_)) && begins_with_encoded(content) {
-        return Ok(if is_item(content) { Some(Role::Any) } else { None });
+        return Ok(if is_item(content) {
+            Some(Role::Any)
+        } else {
+            None
+        });
     }
     let is_claims = match role {
         Role::Payload(true) => is_item(content),

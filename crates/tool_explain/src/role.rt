@@ -306,12 +306,7 @@ fn claim_value(name: i64) -> Part {
 
 /// Returns the place of a value in a map with this role. `label` is `None` if the label is no
 /// integer, and `word` is what it is as a text.
-pub(crate) fn value_of(
-    role: Role,
-    label: Option<i64>,
-    word: Word,
-    key_type: Option<i64>,
-) -> Part {
+pub(crate) fn value_of(role: Role, label: Option<i64>, word: Word, key_type: Option<i64>) -> Part {
     match role {
         Role::Submodules => return Part::named(Role::Submodule, ""),
         Role::Any if word != Word::Other => return word_value(word),

@@ -145,7 +145,12 @@ fn push_seals(text: &mut String, about: &About) -> Result<(), AllocError> {
         text.push_str(" Content detached.")?;
     }
     push_unchecked(text, signatures, "Signature", "signatures")?;
-    push_unchecked(text, countersignatures, "Countersignature", "countersignatures")?;
+    push_unchecked(
+        text,
+        countersignatures,
+        "Countersignature",
+        "countersignatures",
+    )?;
     push_unchecked(text, macs, "MAC", "MACs")?;
     if 0 < ciphertexts {
         text.push_str(" Not decrypted.")?;
@@ -168,12 +173,7 @@ fn push_moment(
 }
 
 /// Adds the claims' times, judged by `now` (RFC 8392, sections 3.1.4 to 3.1.6).
-fn push_times(
-    alloc: Global,
-    text: &mut String,
-    about: &About,
-    now: i64,
-) -> Result<(), AllocError> {
+fn push_times(alloc: Global, text: &mut String, about: &About, now: i64) -> Result<(), AllocError> {
     if let Some(expiry) = &about.expiry {
         let words = if expiry.is_after(now) {
             " Expires "

@@ -53,9 +53,7 @@ fn push_escape(text: &mut String, c: char) -> Result<(), AllocError> {
 /// # Errors
 /// `AllocError` if an allocation fails.
 pub fn quoted_name(alloc: Global, name: &str) -> Result<String, AllocError> {
-    let is_plain = name
-        .chars()
-        .all(|c| is_shown(c) && !c.is_whitespace() && c != '"' && c != '\\');
+    let is_plain = name.chars().all(|c| is_shown(c) && !c.is_whitespace() && c != '"' && c != '\\');
     if is_plain {
         return String::from_str(alloc, name);
     }

@@ -39,7 +39,10 @@ fn push_bytes(text: &mut String, bytes: &[u8]) -> Result<(), AllocError> {
 /// Adds an algorithm.
 fn push_algorithm(text: &mut String, algorithm: &Option<Algorithm>) -> Result<(), AllocError> {
     match algorithm {
-        Some(RegisteredLabelWithPrivate::Assigned(assigned)) => push_number(text, assigned.to_i64()),
+        Some(RegisteredLabelWithPrivate::Assigned(assigned)) => push_number(
+            text,
+            assigned.to_i64(),
+        ),
         Some(RegisteredLabelWithPrivate::PrivateUse(number)) => push_number(text, *number),
         Some(RegisteredLabelWithPrivate::Text(name)) => push_quoted(text, name.as_str()),
         None => text.push('-'),
@@ -61,7 +64,9 @@ fn push_name(text: &mut String, seal: &Seal) -> Result<(), AllocError> {
         Part::CountersignatureV2(index) => {
             write!(text, "version 2 countersignature {index} of the message")
         }
-        Part::AbbreviatedV2 => text.push_str("version 2 abbreviated countersignature of the message"),
+        Part::AbbreviatedV2 => text.push_str(
+            "version 2 abbreviated countersignature of the message",
+        ),
     }
 }
 
@@ -116,12 +121,7 @@ fn push_curve(text: &mut String, curve: Option<&Value>) -> Result<(), AllocError
 }
 
 /// Adds a member that is a byte string, or a sign.
-fn push_member(
-    text: &mut String,
-    key: &CoseKey,
-    label: i64,
-    name: &str,
-) -> Result<(), AllocError> {
+fn push_member(text: &mut String, key: &CoseKey, label: i64, name: &str) -> Result<(), AllocError> {
     let Some(value) = key.get(&Label::Int(label)) else {
         return Ok(());
     };

@@ -54,7 +54,10 @@ fn push_lines(alloc: Global, json: &mut String, lines: &[Line<'_>]) -> Result<()
     let (mut offset, mut separator) = (0usize, "");
     for line in lines {
         let (depth, digits) = (line.depth, hex::encode(alloc, line.bytes)?);
-        write!(json, "{separator}{{\"offset\": {offset}, \"bytes\": \"{digits}\", \"depth\": {depth}")?;
+        write!(
+            json,
+            "{separator}{{\"offset\": {offset}, \"bytes\": \"{digits}\", \"depth\": {depth}"
+        )?;
         push_member(json, ", ", "text", line.text.as_str())?;
         push_member(json, ", ", "note", line.note.as_str())?;
         push_member(json, ", ", "cover", cover_name(line.cover))?;

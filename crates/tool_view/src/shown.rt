@@ -13,8 +13,8 @@ use crate::sequence::{items, mark, push_item};
 use coset::CoseError;
 use std::alloc::{AllocError, Global};
 use tool_explain::{
-    Kind, Line, Style, commented, explain, explain_whole, fault, fitting, notation,
-    shortened_note, structure_notes, styled,
+    Kind, Line, Style, commented, explain, explain_whole, fault, fitting, notation, shortened_note,
+    structure_notes, styled,
 };
 use tool_spelled::{Spelling, line_and_column, text_of};
 
@@ -201,11 +201,7 @@ struct Answer<'a> {
 }
 
 /// Returns the lines as text, followed by the notes as comments.
-fn annotated_text(
-    alloc: Global,
-    asked: &Asked,
-    answer: &Answer<'_>,
-) -> Result<String, AllocError> {
+fn annotated_text(alloc: Global, asked: &Asked, answer: &Answer<'_>) -> Result<String, AllocError> {
     let style = Style {
         is_colored: asked.is_colored,
         is_short: asked.is_short,
@@ -252,7 +248,14 @@ fn answer_text(
         Form::Json => json_of(alloc, kind, bytes, answer, (name, said.as_str()), status)?,
         Form::Page => {
             let said = format!(in alloc; "{said}. {summary}")?;
-            section(alloc, name, said.as_str(), &answer.lines, &answer.notes, asked.is_short)?
+            section(
+                alloc,
+                name,
+                said.as_str(),
+                &answer.lines,
+                &answer.notes,
+                asked.is_short,
+            )?
         }
         Form::Plain => notation(alloc, &answer.lines)?,
         _ => annotated_text(alloc, asked, answer)?,
@@ -380,7 +383,15 @@ fn sequence(
         add_item(alloc, asked, item, (number, count, offset), &mut answer)?;
         offset = offset.saturating_add(item.len());
     }
-    answer_text(alloc, asked, (Kind::Auto, bytes), &answer, said, name, REFUSED)
+    answer_text(
+        alloc,
+        asked,
+        (Kind::Auto, bytes),
+        &answer,
+        said,
+        name,
+        REFUSED,
+    )
 }
 
 /// Returns the output for bytes that should be one item. `said` tells how the input was read.
