@@ -394,6 +394,11 @@ fn sequence(
     )
 }
 
+/// Returns true if the output has no place for the summary.
+fn is_said_apart(form: Form) -> bool {
+    matches!(form, Form::Plain | Form::Where)
+}
+
 /// Returns the output for bytes that should be one item. `said` tells how the input was read.
 fn look_at_item(
     alloc: Global,
@@ -407,7 +412,7 @@ fn look_at_item(
 {
     let mut others = Vec::new(alloc);
     let kind = kind_of(alloc, asked, bytes, &mut others)?;
-    if matches!(asked.form, Form::Plain | Form::Where) {
+    if is_said_apart(asked.form) {
         push_summary(alloc, asked, kind, bytes, &others, &mut said)?;
     }
     let (text, status) = match asked.form {
