@@ -1,6 +1,12 @@
 //! The seals of a message, and of the messages in its payload.
 
-use crate::countersigned::{first_version, second_version, with_abbreviated};
+ghost use Rattle.std.specs.Prelude.{◌≡◌, ◌≤◌, ◌++◌, List, IfOk, IfSome, Ok};
+ghost use Rattle.std.specs.List.{All};
+ghost use Rattle.tool_seals.specs.Seals.{IsOutermost, IsPart};
+ghost use Rattle.tool_seals.specs.declared.message.Message.{Message};
+ghost use Rattle.tool_seals.specs.declared.seal.Seal.{Seal};
+
+use crate::countersigned::{abbreviated, first_version, second_version};
 use crate::message::{Message, read_outermost, read_tagged};
 use crate::own::own_seals;
 use crate::seal::Seal;
@@ -34,24 +40,39 @@ pub struct Seals {
     pub has_more: bool,
 }
 
+/// Returns the two lists as one.
+///
+/// # Errors
+/// `AllocError` if an allocation fails.
+fn joined(mut list: Vec<Seal>, mut more: Vec<Seal>) -> Result<Vec<Seal>, AllocError>
+    ensures { IfOk result (λ l. l.items ≡ list.items ++ more.items) }
+{
+    list.append(&mut more)?;
+    Ok(list)
+}
+
 /// Returns the seals of one message: its own, and its countersignatures. Of each list, they are the
 /// first 17 at most.
 ///
 /// # Errors
 /// `OutOfMemory` if an allocation fails.
-fn of_message(asked: &Asked<'_>, message: &Message) -> Result<Vec<Seal>> {
+fn of_message(asked: &Asked<'_>, message: &Message) -> Result<Vec<Seal>>
+    ensures { IfOk result (λ l. All (IsPart asked.now.layer message.now
+        asked.now.external_aad.now) l.items) }
+{
     let target = message.target();
-    let list = own_seals(asked, message)?;
-    let list = first_version(asked, &target, list)?;
-    let list = second_version(asked, &target, list)?;
-    with_abbreviated(asked, &target, list)
+    let list = joined(own_seals(asked, message)?, first_version(asked, &target)?)?;
+    let list = joined(list, second_version(asked, &target)?)?;
+    Ok(joined(list, abbreviated(asked, &target)?)?)
 }
 
 /// Returns the result, or `None` if it is an error of the input.
 ///
 /// # Errors
 /// `AllocError` if an allocation failed.
-fn unless_refused<T: Drop>(answer: Result<T>) -> Result<Option<T>, AllocError> {
+fn unless_refused<T: Drop>(answer: Result<T>) -> Result<Option<T>, AllocError>
+    ensures { IfOk result (λ o. IfSome o (λ x. answer ≡ Ok x)) }
+{
     match answer {
         Ok(value) => Ok(Some(value)),
         Err(CoseError::OutOfMemory) => Err(AllocError),
@@ -64,7 +85,10 @@ fn unless_refused<T: Drop>(answer: Result<T>) -> Result<Option<T>, AllocError> {
 ///
 /// # Errors
 /// `AllocError` if an allocation failed.
-fn seals_in(asked: &Asked<'_>, message: &Message) -> Result<Vec<Seal>, AllocError> {
+fn seals_in(asked: &Asked<'_>, message: &Message) -> Result<Vec<Seal>, AllocError>
+    ensures { IfOk result (λ l. All (IsPart asked.now.layer message.now
+        asked.now.external_aad.now) l.items) }
+{
     match of_message(asked, message) {
         Ok(list) => Ok(list),
         Err(CoseError::OutOfMemory) => Err(AllocError),
@@ -92,7 +116,10 @@ fn with_inner(
     external_aad: &[u8],
     mut list: Vec<Seal>,
     payload: Option<Vec<u8>>,
-) -> Result<Vec<Seal>, AllocError> {
+) -> Result<Vec<Seal>, AllocError>
+    ensures { IfOk result (λ l. (inner : List Seal) × (l.items ≡ list.items ++ inner)
+        × All (λ s. 1 ≤ s.layer) inner) }
+{
     let mut next = nested(alloc, payload)?;
     for layer in 1..MAX_LAYERS {
         let Some(message) = next else {
@@ -103,8 +130,7 @@ fn with_inner(
             layer,
             external_aad,
         };
-        let mut inner = seals_in(&asked, &message)?;
-        list.append(&mut inner)?;
+        list = joined(list, seals_in(&asked, &message)?)?;
         next = nested(alloc, message.into_payload())?;
     }
     Ok(list)
@@ -127,7 +153,11 @@ pub fn seals(
     form: Option<Form>,
     bytes: &[u8],
     external_aad: &[u8],
-) -> Result<Option<Seals>, AllocError> {
+) -> Result<Option<Seals>, AllocError>
+    // Each signature and MAC of the outermost message is over its structure.
+    ensures { IfOk result (λ o. IfSome o (λ all. (m : Message) × IsOutermost form bytes.now m
+        × All (λ s. s.layer ≡ 0 → IsPart 0 m external_aad.now s) all.seals.items)) }
+{
     let Some(message) = unless_refused(read_outermost(alloc, form, bytes))? else {
         return Ok(None);
     };
