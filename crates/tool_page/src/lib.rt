@@ -75,5 +75,13 @@ pub extern "C" fn page_seals(
     ensures { (r : Result ℕ Unanswered) × (result ≡ number_of r) × Tells
         (λ s. s ≤ 1) out.old out.new len.new r }
 {
-    number_of(judged(alloc, message_form(kind), input, keys, external_aad, out, len))
+    number_of(judged(
+        alloc,
+        message_form(kind),
+        input,
+        keys,
+        external_aad,
+        out,
+        len,
+    ))
 }

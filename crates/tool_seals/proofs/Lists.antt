@@ -48,4 +48,4 @@ outermost_parts m aad n xs inner all is own deeper =
     (all_joined (λ s. s.layer ≡ 0 → IsPart 0 m aad s) xs inner all is
     (all_weaker (IsPart 0 m aad) (λ s. s.layer ≡ 0 → IsPart 0 m aad s) xs (λ s h outer. h) own)
     (all_weaker (λ s. 1 ≤ s.layer) (λ s. s.layer ≡ 0 → IsPart 0 m aad s) inner (λ s h outer. let below : 1 ≤ s.layer = h in
-        let none : s.layer ≡ 0 = outer in absurd (omega (arith, below, none))) deeper))
+    let none : s.layer ≡ 0 = outer in absurd (omega (arith, below, none))) deeper))

@@ -50,24 +50,54 @@ impl Message {
         let (protected, unprotected, content, other) = match self {
             Message::Sign1(message) => {
                 let other: &[u8] = &message.signature;
-                (&message.protected, &message.unprotected, &message.payload, Some(other))
+                (
+                    &message.protected,
+                    &message.unprotected,
+                    &message.payload,
+                    Some(other),
+                )
             }
             Message::Mac0(message) => {
                 let other: &[u8] = &message.tag;
-                (&message.protected, &message.unprotected, &message.payload, Some(other))
+                (
+                    &message.protected,
+                    &message.unprotected,
+                    &message.payload,
+                    Some(other),
+                )
             }
             Message::Mac(message) => {
                 let other: &[u8] = &message.tag;
-                (&message.protected, &message.unprotected, &message.payload, Some(other))
+                (
+                    &message.protected,
+                    &message.unprotected,
+                    &message.payload,
+                    Some(other),
+                )
             }
             Message::Sign(message) => {
-                (&message.protected, &message.unprotected, &message.payload, None)
+                (
+                    &message.protected,
+                    &message.unprotected,
+                    &message.payload,
+                    None,
+                )
             }
             Message::Encrypt0(message) => {
-                (&message.protected, &message.unprotected, &message.ciphertext, None)
+                (
+                    &message.protected,
+                    &message.unprotected,
+                    &message.ciphertext,
+                    None,
+                )
             }
             Message::Encrypt(message) => {
-                (&message.protected, &message.unprotected, &message.ciphertext, None)
+                (
+                    &message.protected,
+                    &message.unprotected,
+                    &message.ciphertext,
+                    None,
+                )
             }
         };
         Target {

@@ -178,11 +178,17 @@ pub(crate) fn own_seals(asked: &Asked<'_>, message: &Message) -> Result<Vec<Seal
         Message::Sign(message) => signers(asked, message),
         Message::Encrypt0(message) => {
             let (protected, unprotected) = (&message.protected, &message.unprotected);
-            alone(asked, ciphertext(asked, Form::Encrypt0, protected, unprotected)?)
+            alone(
+                asked,
+                ciphertext(asked, Form::Encrypt0, protected, unprotected)?,
+            )
         }
         Message::Encrypt(message) => {
             let (protected, unprotected) = (&message.protected, &message.unprotected);
-            alone(asked, ciphertext(asked, Form::Encrypt, protected, unprotected)?)
+            alone(
+                asked,
+                ciphertext(asked, Form::Encrypt, protected, unprotected)?,
+            )
         }
     }
 }

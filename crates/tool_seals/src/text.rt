@@ -39,7 +39,10 @@ fn push_bytes(text: &mut String, bytes: &[u8]) -> Result<(), AllocError> {
 /// Adds an algorithm.
 fn push_algorithm(text: &mut String, algorithm: &Option<Algorithm>) -> Result<(), AllocError> {
     match algorithm {
-        Some(RegisteredLabelWithPrivate::Assigned(assigned)) => push_number(text, assigned.to_i64()),
+        Some(RegisteredLabelWithPrivate::Assigned(assigned)) => push_number(
+            text,
+            assigned.to_i64(),
+        ),
         Some(RegisteredLabelWithPrivate::PrivateUse(number)) => push_number(text, *number),
         Some(RegisteredLabelWithPrivate::Text(name)) => push_quoted(text, name.as_str()),
         None => text.push('-'),
@@ -61,7 +64,9 @@ fn push_name(text: &mut String, seal: &Seal) -> Result<(), AllocError> {
         Part::CountersignatureV2(index) => {
             write!(text, "version 2 countersignature {index} of the message")
         }
-        Part::AbbreviatedV2 => text.push_str("version 2 abbreviated countersignature of the message"),
+        Part::AbbreviatedV2 => text.push_str(
+            "version 2 abbreviated countersignature of the message",
+        ),
     }
 }
 
@@ -115,25 +120,28 @@ fn push_curve(text: &mut String, curve: Option<&Value>) -> Result<(), AllocError
     }
 }
 
-/// Adds a member that is a byte string, or a sign.
-fn push_member(
-    text: &mut String,
-    key: &CoseKey,
-    label: i64,
-    name: &str,
-) -> Result<(), AllocError> {
+/// Adds a member that is a byte string.
+fn push_member(text: &mut String, key: &CoseKey, label: i64, name: &str) -> Result<(), AllocError> {
     let Some(value) = key.get(&Label::Int(label)) else {
         return Ok(());
     };
-    if let Some(bytes) = value.as_bytes() {
-        write!(text, "\t{name}=")?;
-        return text.push_str(hex::encode(*text.allocator(), bytes.as_slice())?.as_str());
-    }
-    match value.as_bool() {
-        Some(sign) => {
-            let sign = u8::from(sign);
-            write!(text, "\t{name}=sign{sign}")
+    match value.as_bytes() {
+        Some(bytes) => {
+            write!(text, "\t{name}=")?;
+            text.push_str(hex::encode(*text.allocator(), bytes.as_slice())?.as_str())
         }
+        None => Ok(()),
+    }
+}
+
+/// Adds y, if it is the sign of a compressed point.
+fn push_sign(text: &mut String, key: &CoseKey) -> Result<(), AllocError> {
+    let Some(value) = key.get(&Label::Int(Ec2KeyParameter::Y.to_i64())) else {
+        return Ok(());
+    };
+    match value.as_bool() {
+        Some(true) => text.push_str("\ty=sign1"),
+        Some(false) => text.push_str("\ty=sign0"),
         None => Ok(()),
     }
 }
@@ -143,7 +151,8 @@ fn push_members(text: &mut String, key: &CoseKey) -> Result<(), AllocError> {
     match key.kty {
         RegisteredLabel::Assigned(KeyType::EC2) | RegisteredLabel::Assigned(KeyType::OKP) => {
             push_member(text, key, Ec2KeyParameter::X.to_i64(), "x")?;
-            push_member(text, key, Ec2KeyParameter::Y.to_i64(), "y")
+            push_member(text, key, Ec2KeyParameter::Y.to_i64(), "y")?;
+            push_sign(text, key)
         }
         RegisteredLabel::Assigned(KeyType::RSA) => {
             push_member(text, key, RsaKeyParameter::N.to_i64(), "n")?;

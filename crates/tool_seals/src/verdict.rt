@@ -124,8 +124,8 @@ fn is_fitting(key: &CoseKey, sealed: &Sealed<'_>) -> bool
     }
 }
 
-/// Returns the reason against a key that doesn't fit. Each member is replaced by one that fits: first
-/// all at once, and then all but one.
+/// Returns the reason against a key that doesn't fit. Its `alg`, `key_ops` and kid are replaced by
+/// some that fit. Then they are put back, one after another.
 fn reason(
     alloc: Global,
     sealed: &Sealed<'_>,
