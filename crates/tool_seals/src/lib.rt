@@ -50,6 +50,6 @@ mod verdict;
 
 pub use keys::{Keys, keys_from_slice};
 pub use seal::{Part, Seal};
-pub use seals::{Seals, seals};
+pub use seals::{Seals, seals_of};
 pub use text::described;
-pub use verdict::{Verdict, verdict};
+pub use verdict::{Verdict, judge};

@@ -6,8 +6,9 @@ ghost use Rattle.std.specs.List.{All};
 ghost use Rattle.coset.specs.Mac.{mac_structure_of, mac_view};
 ghost use Rattle.coset.specs.Mac0.{mac0_structure, mac0_view};
 ghost use Rattle.coset.specs.RecipientViews.{recipient_view};
+ghost use Rattle.coset.specs.Sign.{sign_view, signer_structure};
 ghost use Rattle.coset.specs.Sign1.{sign1_structure, sign1_view};
-ghost use Rattle.coset.specs.Views.{header_view};
+ghost use Rattle.coset.specs.Views.{header_view, signature_view};
 ghost use Rattle.tool_seals.specs.Seals.{Covers, IsPart, IsSignatureOf, IsTagOf, only_header};
 ghost use Rattle.tool_seals.specs.declared.message.Message.TheVariants as messages;
 ghost use Rattle.tool_seals.specs.declared.seal.Part.TheVariants as part;
@@ -16,7 +17,8 @@ use crate::message::Message;
 use crate::seal::{Part, Seal};
 use crate::seals::{Asked, MOST};
 use coset::{
-    CoseMac, CoseMac0, CoseRecipient, CoseSign, CoseSign1, Header, ProtectedHeader, Result,
+    CoseMac, CoseMac0, CoseRecipient, CoseSign, CoseSign1, CoseSignature, Header, ProtectedHeader,
+    Result,
 };
 use cwt_keys::Form;
 
@@ -94,6 +96,25 @@ fn of_mac(asked: &Asked<'_>, message: &CoseMac) -> Result<Seal>
     })
 }
 
+/// Returns the bytes that this signature of the message covers, unless the payload is detached.
+fn signer_bytes(
+    asked: &Asked<'_>,
+    message: &CoseSign,
+    signed: &CoseSignature,
+) -> Result<Option<Vec<u8>>>
+    ensures { IfOk result (λ o. Covers (sign_view message.now).payload
+        (signer_structure (sign_view message.now) (signature_view signed.now)
+        asked.now.external_aad.now) (option_map (λ b. b.items) o)) }
+{
+    match &message.payload {
+        Some(_) => {
+            let structure = message.tbs_data(asked.alloc, asked.external_aad, signed)?;
+            Ok(Some(structure))
+        }
+        None => Ok(None),
+    }
+}
+
 /// Returns the signature at this index of a message with a list of signatures, or `None` if it has
 /// none there.
 fn of_signer(asked: &Asked<'_>, message: &CoseSign, index: usize) -> Result<Option<Seal>>
@@ -103,10 +124,6 @@ fn of_signer(asked: &Asked<'_>, message: &CoseSign, index: usize) -> Result<Opti
     let Some(signed) = message.signatures.get(index) else {
         return Ok(None);
     };
-    let structure = match &message.payload {
-        Some(_) => Some(message.tbs_data(asked.alloc, asked.external_aad, signed)?),
-        None => None,
-    };
     Ok(Some(Seal {
         layer: asked.layer,
         part: Part::Signer(index),
@@ -115,7 +132,7 @@ fn of_signer(asked: &Asked<'_>, message: &CoseSign, index: usize) -> Result<Opti
         unprotected: signed.unprotected.clone()?,
         recipient: None,
         proof: Vec::from_slice(asked.alloc, &signed.signature)?,
-        structure,
+        structure: signer_bytes(asked, message, signed)?,
     }))
 }
 

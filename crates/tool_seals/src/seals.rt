@@ -148,7 +148,7 @@ fn with_inner(
 ///
 /// # Errors
 /// `AllocError` if an allocation fails.
-pub fn seals(
+pub fn seals_of(
     alloc: Global,
     form: Option<Form>,
     bytes: &[u8],

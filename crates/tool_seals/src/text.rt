@@ -2,8 +2,8 @@
 
 use crate::keys::{Keys, keys_from_slice};
 use crate::seal::{Part, Seal};
-use crate::seals::{Seals, seals};
-use crate::verdict::verdict;
+use crate::seals::{Seals, seals_of};
+use crate::verdict::judge;
 use coset::cbor::value::Value;
 use coset::iana::{Ec2KeyParameter, EnumI64, KeyType, RsaKeyParameter, SymmetricKeyParameter};
 use coset::{Algorithm, CoseKey, Label, RegisteredLabel, RegisteredLabelWithPrivate, Result};
@@ -186,7 +186,7 @@ fn push_key(
     write!(text, "K\t{index}\t")?;
     push_bytes(text, &key.key_id)?;
     text.push('\t')?;
-    text.push_str(verdict(alloc, seal, key)?.name())?;
+    text.push_str(judge(alloc, seal, key)?.name())?;
     text.push('\t')?;
     push_type(text, &key.kty)?;
     text.push('\t')?;
@@ -265,7 +265,7 @@ fn lines(alloc: Global, all: &Seals, keys: &Keys) -> Result<String, AllocError> 
 /// Returns the lines about an input's message and these keys, as the crate's page describes them.
 /// Returns `None` if the input spells no message.
 ///
-/// The form is that of [`seals`]. `keys` are a `COSE_Key` or a `COSE_KeySet`, or empty.
+/// The form is that of [`seals_of`]. `keys` are a `COSE_Key` or a `COSE_KeySet`, or empty.
 ///
 /// # Errors
 /// `AllocError` if an allocation fails.
@@ -279,7 +279,7 @@ pub fn described(
     let Ok(bytes) = text_of(input).bytes(alloc)? else {
         return Ok(None);
     };
-    match seals(alloc, form, &bytes, external_aad)? {
+    match seals_of(alloc, form, &bytes, external_aad)? {
         Some(all) => Ok(Some(lines(alloc, &all, &keys_from_slice(alloc, keys)?)?)),
         None => Ok(None),
     }

@@ -161,7 +161,7 @@ fn reason(
 ///
 /// # Errors
 /// `AllocError` if an allocation fails.
-pub fn verdict(alloc: Global, seal: &Seal, key: &CoseKey) -> Result<Verdict, AllocError>
+pub fn judge(alloc: Global, seal: &Seal, key: &CoseKey) -> Result<Verdict, AllocError>
     ensures { IfOk result (λ v. is_fits v ≡ is_some (fits (key_view key.now) (parts_of seal.now))) }
 {
     let sealed = seal.sealed();
