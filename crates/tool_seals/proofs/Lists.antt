@@ -1,5 +1,6 @@
 -- Lists of seals.
-use Rattle.std.proofs.Common.{◌≡◌, ◌<◌, ◌≤◌, ◌∙◌, ℕ, suc, zero, List, [], ◌∷◌, ◌++◌, arith, length, subst, sym, true, false, take}
+use Rattle.std.proofs.Common.{◌≡◌, ◌<◌, ◌≤◌, ◌∙◌, ◌+◌, ℕ, suc, zero, List, [], ◌∷◌, ◌++◌, arith, length, subst, sym, true, false, take, Option, Some}
+use Rattle.std.specs.Prelude.{IfSome}
 use Rattle.std.specs.List.{All, slice_index_or}
 use Rattle.std.proofs.lemmas.List.Elements.{All-append, All-take}
 use Rattle.tool_seals.specs.Seals.{IsCountersignature, IsPart, IsPartOf, is_countersignature}
@@ -49,3 +50,13 @@ outermost_parts m aad n xs inner all is own deeper =
     (all_weaker (IsPart 0 m aad) (λ s. s.layer ≡ 0 → IsPart 0 m aad s) xs (λ s h outer. h) own)
     (all_weaker (λ s. 1 ≤ s.layer) (λ s. s.layer ≡ 0 → IsPart 0 m aad s) inner (λ s h outer. let below : 1 ≤ s.layer = h in
     let none : s.layer ≡ 0 = outer in absurd (omega (arith, below, none))) deeper))
+
+-- ---- options
+
+pub found : (P : Seal → Type 0) (o : Option Seal) (s : Seal) → IfSome o P → o ≡ Some s → P s
+found P o s h is = subst (λ (x : Option Seal). IfSome x P) is h
+
+-- Seals of a layer inside the outermost one.
+pub deeper : (outer : ℕ) (m : Message) (aad : List ℕ) (xs : List Seal) → All (IsPart (outer + 1) m aad) xs → All (λ s. 1 ≤ s.layer) xs
+deeper outer m aad xs all =
+    all_weaker (IsPart (outer + 1) m aad) (λ s. 1 ≤ s.layer) xs (λ s h. let is : s.layer ≡ outer + 1 = h.0 in omega (arith, is)) all

@@ -1,6 +1,6 @@
 //! The seals of a message, and of the messages in its payload.
 
-ghost use Rattle.std.specs.Prelude.{◌≡◌, ◌≤◌, ◌++◌, List, IfOk, IfSome, Ok};
+ghost use Rattle.std.specs.Prelude.{◌≡◌, ◌≤◌, ◌++◌, IfOk, IfSome, Ok};
 ghost use Rattle.std.specs.List.{All};
 ghost use Rattle.tool_seals.specs.Seals.{IsOutermost, IsPart};
 ghost use Rattle.tool_seals.specs.declared.message.Message.{Message};
@@ -14,8 +14,8 @@ use coset::{CoseError, Result};
 use cwt_keys::Form;
 use std::alloc::{AllocError, Global};
 
-/// The greatest number of messages inside one another.
-const MAX_LAYERS: usize = 4;
+/// The greatest number of messages inside the outermost one.
+const MAX_INNER: usize = 3;
 
 /// The greatest number of seals.
 pub(crate) const MOST: usize = 16;
@@ -107,27 +107,26 @@ fn nested(alloc: Global, payload: Option<Vec<u8>>) -> Result<Option<Message>, Al
     }
 }
 
-/// Appends the seals of the messages in a payload.
+/// Returns the seals of the messages in a payload.
 ///
 /// # Errors
 /// `AllocError` if an allocation fails.
-fn with_inner(
+fn inner_seals(
     alloc: Global,
     external_aad: &[u8],
-    mut list: Vec<Seal>,
     payload: Option<Vec<u8>>,
 ) -> Result<Vec<Seal>, AllocError>
-    ensures { IfOk result (λ l. (inner : List Seal) × (l.items ≡ list.items ++ inner)
-        × All (λ s. 1 ≤ s.layer) inner) }
+    ensures { IfOk result (λ l. All (λ s. 1 ≤ s.layer) l.items) }
 {
+    let mut list = Vec::new(alloc);
     let mut next = nested(alloc, payload)?;
-    for layer in 1..MAX_LAYERS {
+    for outer in 0..MAX_INNER {
         let Some(message) = next else {
             break;
         };
         let asked = Asked {
             alloc,
-            layer,
+            layer: outer + 1,
             external_aad,
         };
         list = joined(list, seals_in(&asked, &message)?)?;
@@ -167,7 +166,8 @@ pub fn seals_of(
         external_aad,
     };
     let list = seals_in(&asked, &message)?;
-    let mut seals = with_inner(alloc, external_aad, list, message.into_payload())?;
+    let inner = inner_seals(alloc, external_aad, message.into_payload())?;
+    let mut seals = joined(list, inner)?;
     let has_more = seals.len() > MOST;
     seals.truncate(MOST);
     Ok(Some(Seals { seals, has_more }))

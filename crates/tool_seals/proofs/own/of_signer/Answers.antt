@@ -23,4 +23,4 @@ returns c =
     let same = (λ i. parts Sign (c.in_ok-clone.ensures.copy i) (c.in_ok-clone-2.ensures.copy i) ((c.in_ok-from_slice.ensures.items ∙ c.deref-2.ensures.value) i) t
     None)
     ∙ sym (ap (λ (v : SignatureView). parts Sign v.protected v.unprotected v.signature t None) (signature-opened s)) in
-    (refl, (signature_view s, (view, (same, c.in_ok-signer_bytes.ensures))))
+    (refl, (signature_view s, view, (same, c.in_ok-signer_bytes.ensures)))
