@@ -1,5 +1,5 @@
 -- Lists of seals.
-use Rattle.std.proofs.Common.{◌≡◌, ◌<◌, ◌≤◌, ◌∙◌, ◌+◌, ℕ, suc, zero, List, [], ◌∷◌, ◌++◌, arith, length, subst, sym, true, false, take, Option, Some}
+use Rattle.std.proofs.Common.{◌≡◌, ◌<◌, ◌≤◌, ◌+◌, ℕ, suc, zero, List, [], ◌∷◌, ◌++◌, arith, subst, sym, true, take, Option, Some}
 use Rattle.std.specs.Prelude.{IfSome}
 use Rattle.std.specs.List.{All, slice_index_or}
 use Rattle.std.proofs.lemmas.List.Elements.{All-append, All-take}

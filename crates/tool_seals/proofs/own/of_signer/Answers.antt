@@ -2,7 +2,7 @@ use Rattle.std.proofs.Common.{◌≡◌, ◌∙◌, List, None, Some, length, ap
 use Rattle.std.specs.List.{slice_get}
 use Rattle.std.specs.Prelude.{option_map}
 use Rattle.std.proofs.lemmas.Option.{slice_get-map, slice_get_read}
-use Rattle.coset.specs.CoseSignature.{CoseSignature, out-CoseSignature}
+use Rattle.coset.specs.CoseSignature.{CoseSignature}
 use Rattle.coset.specs.Headers.{SignatureView}
 use Rattle.coset.specs.ViewLaws.{signature-opened}
 use Rattle.coset.specs.Views.{signature_view}
