@@ -6,8 +6,8 @@ ghost use Rattle.tool_seals.specs.Seals.{IsOutermost, IsRead, IsReadSomehow};
 use crate::countersigned::Target;
 use coset::cbor::head::{MajorType, read_head};
 use coset::{
-    CoseEncrypt, CoseEncrypt0, CoseError, CoseMac, CoseMac0, CoseSign, CoseSign1, Result,
-    TaggedCborSerializable,
+    CoseEncrypt, CoseEncrypt0, CoseError, CoseMac, CoseMac0, CoseSign, CoseSign1, Header,
+    ProtectedHeader, Result, TaggedCborSerializable,
 };
 use cwt_keys::Form;
 use std::alloc::Global;
@@ -45,66 +45,48 @@ fn bytes_of(content: &Option<Vec<u8>>) -> Option<&[u8]> {
 }
 
 impl Message {
+    /// Returns the protected and the unprotected header.
+    fn headers(&self) -> (&ProtectedHeader, &Header) {
+        match self {
+            Message::Sign1(message) => (&message.protected, &message.unprotected),
+            Message::Mac0(message) => (&message.protected, &message.unprotected),
+            Message::Encrypt0(message) => (&message.protected, &message.unprotected),
+            Message::Sign(message) => (&message.protected, &message.unprotected),
+            Message::Mac(message) => (&message.protected, &message.unprotected),
+            Message::Encrypt(message) => (&message.protected, &message.unprotected),
+        }
+    }
+
+    /// Returns the payload or the ciphertext, or `None` if it is detached.
+    fn content(&self) -> Option<&[u8]> {
+        match self {
+            Message::Sign1(message) => bytes_of(&message.payload),
+            Message::Mac0(message) => bytes_of(&message.payload),
+            Message::Encrypt0(message) => bytes_of(&message.ciphertext),
+            Message::Sign(message) => bytes_of(&message.payload),
+            Message::Mac(message) => bytes_of(&message.payload),
+            Message::Encrypt(message) => bytes_of(&message.ciphertext),
+        }
+    }
+
+    /// Returns the byte string after the second, or `None` if there is none.
+    fn other(&self) -> Option<&[u8]> {
+        match self {
+            Message::Sign1(message) => Some(&message.signature),
+            Message::Mac0(message) => Some(&message.tag),
+            Message::Mac(message) => Some(&message.tag),
+            _ => None,
+        }
+    }
+
     /// Returns the parts of the message that countersignatures cover.
     pub(crate) fn target(&self) -> Target<'_> {
-        let (protected, unprotected, content, other) = match self {
-            Message::Sign1(message) => {
-                let other: &[u8] = &message.signature;
-                (
-                    &message.protected,
-                    &message.unprotected,
-                    &message.payload,
-                    Some(other),
-                )
-            }
-            Message::Mac0(message) => {
-                let other: &[u8] = &message.tag;
-                (
-                    &message.protected,
-                    &message.unprotected,
-                    &message.payload,
-                    Some(other),
-                )
-            }
-            Message::Mac(message) => {
-                let other: &[u8] = &message.tag;
-                (
-                    &message.protected,
-                    &message.unprotected,
-                    &message.payload,
-                    Some(other),
-                )
-            }
-            Message::Sign(message) => {
-                (
-                    &message.protected,
-                    &message.unprotected,
-                    &message.payload,
-                    None,
-                )
-            }
-            Message::Encrypt0(message) => {
-                (
-                    &message.protected,
-                    &message.unprotected,
-                    &message.ciphertext,
-                    None,
-                )
-            }
-            Message::Encrypt(message) => {
-                (
-                    &message.protected,
-                    &message.unprotected,
-                    &message.ciphertext,
-                    None,
-                )
-            }
-        };
+        let (protected, unprotected) = self.headers();
         Target {
             protected,
             unprotected,
-            content: bytes_of(content),
-            other,
+            content: self.content(),
+            other: self.other(),
         }
     }
 
