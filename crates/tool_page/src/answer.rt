@@ -56,8 +56,8 @@ pub(crate) fn answered(
     }
 }
 
-/// Writes the lines about the seals of an input and about the keys to the front of `out`. Returns 0,
-/// or 1 if the input isn't a message; the text is then empty.
+/// Writes the lines about the seals of an input and about the keys to the front of `out`. Returns
+/// 0. If the input isn't a message, the text is empty, and 1 is returned.
 ///
 /// # Errors
 /// - `Memory` if an allocation fails.

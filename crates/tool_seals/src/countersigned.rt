@@ -1,5 +1,9 @@
 //! The countersignatures in the unprotected header of a message (RFC 8152, section 4.5; RFC 9338).
 
+ghost use Rattle.std.specs.Prelude.{IfOk, IfSome};
+ghost use Rattle.std.specs.List.{All};
+ghost use Rattle.tool_seals.specs.Seals.{IsCountersignature};
+
 use crate::seal::{Part, Seal};
 use crate::seals::{Asked, MOST};
 use coset::{
@@ -90,7 +94,9 @@ fn structure_abbreviated(asked: &Asked<'_>, target: &Target<'_>) -> Result<Optio
 }
 
 /// Returns the countersignature at this index under label 7, or `None` if there is none.
-fn first_at(asked: &Asked<'_>, target: &Target<'_>, index: usize) -> Result<Option<Seal>> {
+fn first_at(asked: &Asked<'_>, target: &Target<'_>, index: usize) -> Result<Option<Seal>>
+    ensures { IfOk result (λ o. IfSome o (IsCountersignature asked.now.layer)) }
+{
     let Some(signed) = target.unprotected.counter_signatures.get(index) else {
         return Ok(None);
     };
@@ -107,7 +113,9 @@ fn first_at(asked: &Asked<'_>, target: &Target<'_>, index: usize) -> Result<Opti
 }
 
 /// Returns the countersignature at this index under label 11, or `None` if there is none.
-fn second_at(asked: &Asked<'_>, target: &Target<'_>, index: usize) -> Result<Option<Seal>> {
+fn second_at(asked: &Asked<'_>, target: &Target<'_>, index: usize) -> Result<Option<Seal>>
+    ensures { IfOk result (λ o. IfSome o (IsCountersignature asked.now.layer)) }
+{
     let Some(signed) = target.unprotected.countersignatures_v2.get(index) else {
         return Ok(None);
     };
@@ -123,13 +131,11 @@ fn second_at(asked: &Asked<'_>, target: &Target<'_>, index: usize) -> Result<Opt
     }))
 }
 
-/// Returns the countersignature under label 12, or `None` if there is none. It has no headers of
-/// its own.
-fn abbreviated(asked: &Asked<'_>, target: &Target<'_>) -> Result<Option<Seal>> {
-    let Some(signature) = &target.unprotected.countersignature0_v2 else {
-        return Ok(None);
-    };
-    Ok(Some(Seal {
+/// Returns the countersignature under label 12. It has no headers of its own.
+fn third(asked: &Asked<'_>, target: &Target<'_>, signature: &[u8]) -> Result<Seal>
+    ensures { IfOk result (IsCountersignature asked.now.layer) }
+{
+    Ok(Seal {
         layer: asked.layer,
         part: Part::AbbreviatedV2,
         form: Form::Sign,
@@ -138,18 +144,17 @@ fn abbreviated(asked: &Asked<'_>, target: &Target<'_>) -> Result<Option<Seal>> {
         recipient: None,
         proof: Vec::from_slice(asked.alloc, signature)?,
         structure: structure_abbreviated(asked, target)?,
-    }))
+    })
 }
 
-/// Appends the countersignatures under label 7, or the first `MOST` + 1 of them.
+/// Returns the countersignatures under label 7, or the first `MOST` + 1 of them.
 ///
 /// # Errors
 /// `OutOfMemory` if an allocation fails.
-pub(crate) fn first_version(
-    asked: &Asked<'_>,
-    target: &Target<'_>,
-    mut list: Vec<Seal>,
-) -> Result<Vec<Seal>> {
+pub(crate) fn first_version(asked: &Asked<'_>, target: &Target<'_>) -> Result<Vec<Seal>>
+    ensures { IfOk result (λ l. All (IsCountersignature asked.now.layer) l.items) }
+{
+    let mut list = Vec::new(asked.alloc);
     for index in 0..=MOST {
         match first_at(asked, target, index)? {
             Some(seal) => list.push(seal)?,
@@ -159,15 +164,14 @@ pub(crate) fn first_version(
     Ok(list)
 }
 
-/// Appends the countersignatures under label 11, or the first `MOST` + 1 of them.
+/// Returns the countersignatures under label 11, or the first `MOST` + 1 of them.
 ///
 /// # Errors
 /// `OutOfMemory` if an allocation fails.
-pub(crate) fn second_version(
-    asked: &Asked<'_>,
-    target: &Target<'_>,
-    mut list: Vec<Seal>,
-) -> Result<Vec<Seal>> {
+pub(crate) fn second_version(asked: &Asked<'_>, target: &Target<'_>) -> Result<Vec<Seal>>
+    ensures { IfOk result (λ l. All (IsCountersignature asked.now.layer) l.items) }
+{
+    let mut list = Vec::new(asked.alloc);
     for index in 0..=MOST {
         match second_at(asked, target, index)? {
             Some(seal) => list.push(seal)?,
@@ -177,17 +181,15 @@ pub(crate) fn second_version(
     Ok(list)
 }
 
-/// Appends the countersignature under label 12, if there is one.
+/// Returns the list of the countersignature under label 12. It is empty if there is none.
 ///
 /// # Errors
 /// `OutOfMemory` if an allocation fails.
-pub(crate) fn with_abbreviated(
-    asked: &Asked<'_>,
-    target: &Target<'_>,
-    mut list: Vec<Seal>,
-) -> Result<Vec<Seal>> {
-    if let Some(seal) = abbreviated(asked, target)? {
-        list.push(seal)?;
+pub(crate) fn abbreviated(asked: &Asked<'_>, target: &Target<'_>) -> Result<Vec<Seal>>
+    ensures { IfOk result (λ l. All (IsCountersignature asked.now.layer) l.items) }
+{
+    match &target.unprotected.countersignature0_v2 {
+        Some(signature) => Ok(Vec::from_array(asked.alloc, [third(asked, target, signature)?])?),
+        None => Ok(Vec::new(asked.alloc)),
     }
-    Ok(list)
 }

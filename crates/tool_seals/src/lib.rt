@@ -21,15 +21,15 @@
 //!
 //! The fields:
 //!
-//! - `NAME` is `signature`, `signature 0` (of several signers), `tag` or `ciphertext`. A
-//!   countersignature is `countersignature 0 of the message` (label 7), `version 2 countersignature 0
-//!   of the message` (label 11) or `version 2 abbreviated countersignature of the message` (label
-//!   12). Messages in the payload begin with `layer 1: `, `layer 2: ` or `layer 3: `.
+//! - `NAME` is `signature`, `signature 0` (of several signers), `tag` or `ciphertext`. Under label 7
+//!   it is `countersignature 0 of the message`, under label 11 `version 2 countersignature 0 of the
+//!   message`, and under label 12 `version 2 abbreviated countersignature of the message`. Messages
+//!   in the payload begin with `layer 1: `, `layer 2: ` or `layer 3: `.
 //! - `FORM` is `sign` or `mac`.
 //! - `ALGORITHM` is that of the protected header: the number, the text, or `-`.
 //! - `STRUCTURE` is the `Sig_structure` or the `MAC_structure` (RFC 8152, sections 4.4 and 6.3), or
-//!   the `Countersign_structure` (RFC 9338, section 3.3). It is `-` if the payload is detached, or if
-//!   the library makes none.
+//!   the `Countersign_structure` (RFC 9338, section 3.3). It is `-` if the payload is detached. It is
+//!   also `-` for an abbreviated countersignature of a message without a signature or MAC of its own.
 //! - `PROOF` is the signature or the MAC.
 //! - `VERDICT` is `fits` or the reason against the key: `algorithm`, `alg`, `kty`, `crv`, `length`,
 //!   `key_ops` or `kid`. See [`Verdict`].
@@ -50,6 +50,6 @@ mod verdict;
 
 pub use keys::{Keys, keys_from_slice};
 pub use seal::{Part, Seal};
-pub use seals::{Seals, seals};
+pub use seals::{Seals, seals_of};
 pub use text::described;
-pub use verdict::{Verdict, verdict};
+pub use verdict::{Verdict, judge};

@@ -1,10 +1,13 @@
 //! Messages, read by a form, by their tag, or by what they fit.
 
+ghost use Rattle.std.specs.Prelude.{◌≡◌, ◌++◌, List, ℕ, IfOk, IfSome};
+ghost use Rattle.tool_seals.specs.Seals.{IsOutermost, IsRead, IsReadSomehow};
+
 use crate::countersigned::Target;
 use coset::cbor::head::{MajorType, read_head};
 use coset::{
-    CoseEncrypt, CoseEncrypt0, CoseError, CoseMac, CoseMac0, CoseSign, CoseSign1, Result,
-    TaggedCborSerializable,
+    CoseEncrypt, CoseEncrypt0, CoseError, CoseMac, CoseMac0, CoseSign, CoseSign1, Header,
+    ProtectedHeader, Result, TaggedCborSerializable,
 };
 use cwt_keys::Form;
 use std::alloc::Global;
@@ -42,66 +45,48 @@ fn bytes_of(content: &Option<Vec<u8>>) -> Option<&[u8]> {
 }
 
 impl Message {
+    /// Returns the protected and the unprotected header.
+    fn headers(&self) -> (&ProtectedHeader, &Header) {
+        match self {
+            Message::Sign1(message) => (&message.protected, &message.unprotected),
+            Message::Mac0(message) => (&message.protected, &message.unprotected),
+            Message::Encrypt0(message) => (&message.protected, &message.unprotected),
+            Message::Sign(message) => (&message.protected, &message.unprotected),
+            Message::Mac(message) => (&message.protected, &message.unprotected),
+            Message::Encrypt(message) => (&message.protected, &message.unprotected),
+        }
+    }
+
+    /// Returns the payload or the ciphertext, or `None` if it is detached.
+    fn content(&self) -> Option<&[u8]> {
+        match self {
+            Message::Sign1(message) => bytes_of(&message.payload),
+            Message::Mac0(message) => bytes_of(&message.payload),
+            Message::Encrypt0(message) => bytes_of(&message.ciphertext),
+            Message::Sign(message) => bytes_of(&message.payload),
+            Message::Mac(message) => bytes_of(&message.payload),
+            Message::Encrypt(message) => bytes_of(&message.ciphertext),
+        }
+    }
+
+    /// Returns the byte string after the second, or `None` if there is none.
+    fn other(&self) -> Option<&[u8]> {
+        match self {
+            Message::Sign1(message) => Some(&message.signature),
+            Message::Mac0(message) => Some(&message.tag),
+            Message::Mac(message) => Some(&message.tag),
+            _ => None,
+        }
+    }
+
     /// Returns the parts of the message that countersignatures cover.
     pub(crate) fn target(&self) -> Target<'_> {
-        let (protected, unprotected, content, other) = match self {
-            Message::Sign1(message) => {
-                let other: &[u8] = &message.signature;
-                (
-                    &message.protected,
-                    &message.unprotected,
-                    &message.payload,
-                    Some(other),
-                )
-            }
-            Message::Mac0(message) => {
-                let other: &[u8] = &message.tag;
-                (
-                    &message.protected,
-                    &message.unprotected,
-                    &message.payload,
-                    Some(other),
-                )
-            }
-            Message::Mac(message) => {
-                let other: &[u8] = &message.tag;
-                (
-                    &message.protected,
-                    &message.unprotected,
-                    &message.payload,
-                    Some(other),
-                )
-            }
-            Message::Sign(message) => {
-                (
-                    &message.protected,
-                    &message.unprotected,
-                    &message.payload,
-                    None,
-                )
-            }
-            Message::Encrypt0(message) => {
-                (
-                    &message.protected,
-                    &message.unprotected,
-                    &message.ciphertext,
-                    None,
-                )
-            }
-            Message::Encrypt(message) => {
-                (
-                    &message.protected,
-                    &message.unprotected,
-                    &message.ciphertext,
-                    None,
-                )
-            }
-        };
+        let (protected, unprotected) = self.headers();
         Target {
             protected,
             unprotected,
-            content: bytes_of(content),
-            other,
+            content: self.content(),
+            other: self.other(),
         }
     }
 
@@ -131,7 +116,9 @@ fn form_of(tag: u64) -> Option<Form> {
 }
 
 /// Returns the number of the tag at the front, and the bytes after its head.
-fn tag_at_front(bytes: &[u8]) -> Option<(u64, &[u8])> {
+fn tag_at_front(bytes: &[u8]) -> Option<(u64, &[u8])>
+    ensures { IfSome result (λ t. (front : List ℕ) × (bytes.now ≡ front ++ t.1.now)) }
+{
     match read_head(bytes) {
         Ok((head, rest)) if head.major_type == MajorType::Tag => Some((head.number()?, rest)),
         _ => None,
@@ -139,7 +126,9 @@ fn tag_at_front(bytes: &[u8]) -> Option<(u64, &[u8])> {
 }
 
 /// Returns the content of tag 61 at the front, or other bytes as they are.
-fn without_cwt_tag(bytes: &[u8]) -> &[u8] {
+fn without_cwt_tag(bytes: &[u8]) -> &[u8]
+    ensures { (front : List ℕ) × (bytes.now ≡ front ++ result.now) }
+{
     match tag_at_front(bytes) {
         Some((CWT, rest)) => rest,
         _ => bytes,
@@ -151,7 +140,9 @@ fn without_cwt_tag(bytes: &[u8]) -> &[u8] {
 /// # Errors
 /// - `OutOfMemory` if an allocation fails.
 /// - A fault in bytes that aren't such a message.
-pub(crate) fn read_as(alloc: Global, form: Form, bytes: &[u8]) -> Result<Message> {
+fn read_as(alloc: Global, form: Form, bytes: &[u8]) -> Result<Message>
+    ensures { IfOk result (IsRead form bytes.now) }
+{
     match form {
         Form::Sign1 => Ok(Message::Sign1(CoseSign1::from_any_slice(alloc, bytes)?)),
         Form::Mac0 => Ok(Message::Mac0(CoseMac0::from_any_slice(alloc, bytes)?)),
@@ -167,7 +158,9 @@ pub(crate) fn read_as(alloc: Global, form: Form, bytes: &[u8]) -> Result<Message
 /// # Errors
 /// - `OutOfMemory` if an allocation fails.
 /// - The fault against the last form, if none fits.
-fn read_tried(alloc: Global, bytes: &[u8]) -> Result<Message> {
+fn read_tried(alloc: Global, bytes: &[u8]) -> Result<Message>
+    ensures { IfOk result (IsReadSomehow bytes.now) }
+{
     let mut refused = CoseError::ExtraneousData;
     for form in TRIED {
         match read_as(alloc, form, bytes) {
@@ -184,7 +177,9 @@ fn read_tried(alloc: Global, bytes: &[u8]) -> Result<Message> {
 /// # Errors
 /// - `OutOfMemory` if an allocation fails.
 /// - A fault in the bytes, if they are no message under its tag.
-pub(crate) fn read_tagged(alloc: Global, bytes: &[u8]) -> Result<Message> {
+pub(crate) fn read_tagged(alloc: Global, bytes: &[u8]) -> Result<Message>
+    ensures { IfOk result (IsReadSomehow bytes.now) }
+{
     match tag_at_front(bytes) {
         Some((tag, _)) => match form_of(tag) {
             Some(form) => read_as(alloc, form, bytes),
@@ -201,14 +196,18 @@ pub(crate) fn read_tagged(alloc: Global, bytes: &[u8]) -> Result<Message> {
 /// # Errors
 /// - `OutOfMemory` if an allocation fails.
 /// - A fault in bytes that aren't such a message.
-pub(crate) fn read_outermost(alloc: Global, form: Option<Form>, bytes: &[u8]) -> Result<Message> {
-    if let Some(form) = form {
-        return read_as(alloc, form, bytes);
-    }
-    let bytes = without_cwt_tag(bytes);
-    if tag_at_front(bytes).is_some() {
-        read_tagged(alloc, bytes)
-    } else {
-        read_tried(alloc, bytes)
+pub(crate) fn read_outermost(alloc: Global, form: Option<Form>, bytes: &[u8]) -> Result<Message>
+    ensures { IfOk result (IsOutermost form bytes.now) }
+{
+    match form {
+        Some(form) => read_as(alloc, form, bytes),
+        None => {
+            let inner = without_cwt_tag(bytes);
+            if tag_at_front(inner).is_some() {
+                read_tagged(alloc, inner)
+            } else {
+                read_tried(alloc, inner)
+            }
+        }
     }
 }

@@ -1,5 +1,9 @@
 //! A signature, MAC or ciphertext of a message, with what decides which key fits it.
 
+ghost use Rattle.std.specs.Prelude.{◌≡◌};
+ghost use Rattle.cwt_keys.specs.Sealed.{seal_view};
+ghost use Rattle.tool_seals.specs.Seals.{bytes_or_none, parts_of, structure_of};
+
 use coset::{Header, ProtectedHeader};
 use cwt_keys::{Form, Sealed};
 
@@ -46,7 +50,9 @@ pub struct Seal {
 
 impl Seal {
     /// Returns the structure. It is empty if there is none.
-    fn structure(&self) -> &[u8] {
+    fn structure_bytes(&self) -> &[u8]
+        ensures { result.now ≡ bytes_or_none (structure_of self.now) }
+    {
         match &self.structure {
             Some(structure) => structure,
             None => &[],
@@ -54,14 +60,26 @@ impl Seal {
     }
 
     /// Returns the parts that decide which key fits.
-    pub fn sealed(&self) -> Sealed<'_> {
-        Sealed {
-            form: self.form,
-            protected: &self.protected,
-            unprotected: &self.unprotected,
-            proof: &self.proof,
-            structure: self.structure(),
-            recipient: self.recipient.as_ref(),
+    pub fn sealed(&self) -> Sealed<'_>
+        ensures { seal_view result ≡ parts_of self.now }
+    {
+        let structure = self.structure_bytes();
+        match &self.recipient {
+            Some(recipient) => Sealed::for_recipient(
+                self.form,
+                &self.protected,
+                &self.unprotected,
+                &self.proof,
+                structure,
+                recipient,
+            ),
+            None => Sealed::new(
+                self.form,
+                &self.protected,
+                &self.unprotected,
+                &self.proof,
+                structure,
+            ),
         }
     }
 }

@@ -1,6 +1,12 @@
 //! The seals of a message, and of the messages in its payload.
 
-use crate::countersigned::{first_version, second_version, with_abbreviated};
+ghost use Rattle.std.specs.Prelude.{◌≡◌, ◌≤◌, ◌++◌, IfOk, IfSome, Ok};
+ghost use Rattle.std.specs.List.{All};
+ghost use Rattle.tool_seals.specs.Seals.{IsOutermost, IsPart};
+ghost use Rattle.tool_seals.specs.declared.message.Message.{Message};
+ghost use Rattle.tool_seals.specs.declared.seal.Seal.{Seal};
+
+use crate::countersigned::{abbreviated, first_version, second_version};
 use crate::message::{Message, read_outermost, read_tagged};
 use crate::own::own_seals;
 use crate::seal::Seal;
@@ -8,8 +14,8 @@ use coset::{CoseError, Result};
 use cwt_keys::Form;
 use std::alloc::{AllocError, Global};
 
-/// The greatest number of messages inside one another.
-const MAX_LAYERS: usize = 4;
+/// The greatest number of messages inside the outermost one.
+const MAX_INNER: usize = 3;
 
 /// The greatest number of seals.
 pub(crate) const MOST: usize = 16;
@@ -34,24 +40,39 @@ pub struct Seals {
     pub has_more: bool,
 }
 
+/// Returns the two lists as one.
+///
+/// # Errors
+/// `AllocError` if an allocation fails.
+fn joined(mut list: Vec<Seal>, mut more: Vec<Seal>) -> Result<Vec<Seal>, AllocError>
+    ensures { IfOk result (λ l. l.items ≡ list.items ++ more.items) }
+{
+    list.append(&mut more)?;
+    Ok(list)
+}
+
 /// Returns the seals of one message: its own, and its countersignatures. Of each list, they are the
 /// first 17 at most.
 ///
 /// # Errors
 /// `OutOfMemory` if an allocation fails.
-fn of_message(asked: &Asked<'_>, message: &Message) -> Result<Vec<Seal>> {
+fn of_message(asked: &Asked<'_>, message: &Message) -> Result<Vec<Seal>>
+    ensures { IfOk result (λ l. All (IsPart asked.now.layer message.now
+        asked.now.external_aad.now) l.items) }
+{
     let target = message.target();
-    let list = own_seals(asked, message)?;
-    let list = first_version(asked, &target, list)?;
-    let list = second_version(asked, &target, list)?;
-    with_abbreviated(asked, &target, list)
+    let list = joined(own_seals(asked, message)?, first_version(asked, &target)?)?;
+    let list = joined(list, second_version(asked, &target)?)?;
+    Ok(joined(list, abbreviated(asked, &target)?)?)
 }
 
 /// Returns the result, or `None` if it is an error of the input.
 ///
 /// # Errors
 /// `AllocError` if an allocation failed.
-fn unless_refused<T: Drop>(answer: Result<T>) -> Result<Option<T>, AllocError> {
+fn unless_refused<T: Drop>(answer: Result<T>) -> Result<Option<T>, AllocError>
+    ensures { IfOk result (λ o. IfSome o (λ x. answer ≡ Ok x)) }
+{
     match answer {
         Ok(value) => Ok(Some(value)),
         Err(CoseError::OutOfMemory) => Err(AllocError),
@@ -64,7 +85,10 @@ fn unless_refused<T: Drop>(answer: Result<T>) -> Result<Option<T>, AllocError> {
 ///
 /// # Errors
 /// `AllocError` if an allocation failed.
-fn seals_in(asked: &Asked<'_>, message: &Message) -> Result<Vec<Seal>, AllocError> {
+fn seals_in(asked: &Asked<'_>, message: &Message) -> Result<Vec<Seal>, AllocError>
+    ensures { IfOk result (λ l. All (IsPart asked.now.layer message.now
+        asked.now.external_aad.now) l.items) }
+{
     match of_message(asked, message) {
         Ok(list) => Ok(list),
         Err(CoseError::OutOfMemory) => Err(AllocError),
@@ -83,28 +107,29 @@ fn nested(alloc: Global, payload: Option<Vec<u8>>) -> Result<Option<Message>, Al
     }
 }
 
-/// Appends the seals of the messages in a payload.
+/// Returns the seals of the messages in a payload.
 ///
 /// # Errors
 /// `AllocError` if an allocation fails.
-fn with_inner(
+fn inner_seals(
     alloc: Global,
     external_aad: &[u8],
-    mut list: Vec<Seal>,
     payload: Option<Vec<u8>>,
-) -> Result<Vec<Seal>, AllocError> {
+) -> Result<Vec<Seal>, AllocError>
+    ensures { IfOk result (λ l. All (λ s. 1 ≤ s.layer) l.items) }
+{
+    let mut list = Vec::new(alloc);
     let mut next = nested(alloc, payload)?;
-    for layer in 1..MAX_LAYERS {
+    for outer in 0..MAX_INNER {
         let Some(message) = next else {
             break;
         };
         let asked = Asked {
             alloc,
-            layer,
+            layer: outer + 1,
             external_aad,
         };
-        let mut inner = seals_in(&asked, &message)?;
-        list.append(&mut inner)?;
+        list = joined(list, seals_in(&asked, &message)?)?;
         next = nested(alloc, message.into_payload())?;
     }
     Ok(list)
@@ -122,12 +147,16 @@ fn with_inner(
 ///
 /// # Errors
 /// `AllocError` if an allocation fails.
-pub fn seals(
+pub fn seals_of(
     alloc: Global,
     form: Option<Form>,
     bytes: &[u8],
     external_aad: &[u8],
-) -> Result<Option<Seals>, AllocError> {
+) -> Result<Option<Seals>, AllocError>
+    // Each signature and MAC of the outermost message is over its structure.
+    ensures { IfOk result (λ o. IfSome o (λ all. (m : Message) × IsOutermost form bytes.now m
+        × All (λ s. s.layer ≡ 0 → IsPart 0 m external_aad.now s) all.seals.items)) }
+{
     let Some(message) = unless_refused(read_outermost(alloc, form, bytes))? else {
         return Ok(None);
     };
@@ -137,7 +166,8 @@ pub fn seals(
         external_aad,
     };
     let list = seals_in(&asked, &message)?;
-    let mut seals = with_inner(alloc, external_aad, list, message.into_payload())?;
+    let inner = inner_seals(alloc, external_aad, message.into_payload())?;
+    let mut seals = joined(list, inner)?;
     let has_more = seals.len() > MOST;
     seals.truncate(MOST);
     Ok(Some(Seals { seals, has_more }))

@@ -2,8 +2,8 @@
 
 use crate::keys::{Keys, keys_from_slice};
 use crate::seal::{Part, Seal};
-use crate::seals::{Seals, seals};
-use crate::verdict::verdict;
+use crate::seals::{Seals, seals_of};
+use crate::verdict::judge;
 use coset::cbor::value::Value;
 use coset::iana::{Ec2KeyParameter, EnumI64, KeyType, RsaKeyParameter, SymmetricKeyParameter};
 use coset::{Algorithm, CoseKey, Label, RegisteredLabel, RegisteredLabelWithPrivate, Result};
@@ -120,20 +120,28 @@ fn push_curve(text: &mut String, curve: Option<&Value>) -> Result<(), AllocError
     }
 }
 
-/// Adds a member that is a byte string, or a sign.
+/// Adds a member that is a byte string.
 fn push_member(text: &mut String, key: &CoseKey, label: i64, name: &str) -> Result<(), AllocError> {
     let Some(value) = key.get(&Label::Int(label)) else {
         return Ok(());
     };
-    if let Some(bytes) = value.as_bytes() {
-        write!(text, "\t{name}=")?;
-        return text.push_str(hex::encode(*text.allocator(), bytes.as_slice())?.as_str());
-    }
-    match value.as_bool() {
-        Some(sign) => {
-            let sign = u8::from(sign);
-            write!(text, "\t{name}=sign{sign}")
+    match value.as_bytes() {
+        Some(bytes) => {
+            write!(text, "\t{name}=")?;
+            text.push_str(hex::encode(*text.allocator(), bytes.as_slice())?.as_str())
         }
+        None => Ok(()),
+    }
+}
+
+/// Adds y, if it is the sign of a compressed point.
+fn push_sign(text: &mut String, key: &CoseKey) -> Result<(), AllocError> {
+    let Some(value) = key.get(&Label::Int(Ec2KeyParameter::Y.to_i64())) else {
+        return Ok(());
+    };
+    match value.as_bool() {
+        Some(true) => text.push_str("\ty=sign1"),
+        Some(false) => text.push_str("\ty=sign0"),
         None => Ok(()),
     }
 }
@@ -143,7 +151,8 @@ fn push_members(text: &mut String, key: &CoseKey) -> Result<(), AllocError> {
     match key.kty {
         RegisteredLabel::Assigned(KeyType::EC2) | RegisteredLabel::Assigned(KeyType::OKP) => {
             push_member(text, key, Ec2KeyParameter::X.to_i64(), "x")?;
-            push_member(text, key, Ec2KeyParameter::Y.to_i64(), "y")
+            push_member(text, key, Ec2KeyParameter::Y.to_i64(), "y")?;
+            push_sign(text, key)
         }
         RegisteredLabel::Assigned(KeyType::RSA) => {
             push_member(text, key, RsaKeyParameter::N.to_i64(), "n")?;
@@ -177,7 +186,7 @@ fn push_key(
     write!(text, "K\t{index}\t")?;
     push_bytes(text, &key.key_id)?;
     text.push('\t')?;
-    text.push_str(verdict(alloc, seal, key)?.name())?;
+    text.push_str(judge(alloc, seal, key)?.name())?;
     text.push('\t')?;
     push_type(text, &key.kty)?;
     text.push('\t')?;
@@ -256,7 +265,7 @@ fn lines(alloc: Global, all: &Seals, keys: &Keys) -> Result<String, AllocError> 
 /// Returns the lines about an input's message and these keys, as the crate's page describes them.
 /// Returns `None` if the input spells no message.
 ///
-/// The form is that of [`seals`]. `keys` are a `COSE_Key` or a `COSE_KeySet`, or empty.
+/// The form is that of [`seals_of`]. `keys` are a `COSE_Key` or a `COSE_KeySet`, or empty.
 ///
 /// # Errors
 /// `AllocError` if an allocation fails.
@@ -270,7 +279,7 @@ pub fn described(
     let Ok(bytes) = text_of(input).bytes(alloc)? else {
         return Ok(None);
     };
-    match seals(alloc, form, &bytes, external_aad)? {
+    match seals_of(alloc, form, &bytes, external_aad)? {
         Some(all) => Ok(Some(lines(alloc, &all, &keys_from_slice(alloc, keys)?)?)),
         None => Ok(None),
     }

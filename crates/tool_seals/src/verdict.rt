@@ -1,5 +1,12 @@
 //! Whether a key fits a seal, and otherwise why not.
 
+ghost use Rattle.std.specs.Prelude.{◌≡◌, IfOk, false, is_some};
+ghost use Rattle.coset.specs.Keys.{key_view};
+ghost use Rattle.cwt_keys.specs.Sealed.{seal_view};
+ghost use Rattle.cwt_ring.specs.Fits.{fits};
+ghost use Rattle.tool_seals.specs.Seals.{parts_of};
+ghost use Rattle.tool_seals.specs.Verdicts.{is_fits};
+
 use crate::seal::Seal;
 use coset::cbor::value::Integer;
 use coset::iana::{Ec2KeyParameter, EllipticCurve, EnumI64, KeyType};
@@ -95,7 +102,9 @@ fn has_curve(key: &CoseKey, kind: KeyKind) -> bool {
 }
 
 /// Returns the reason against a key whose other members were made to fit.
-fn kind_reason(key: &CoseKey, kind: KeyKind) -> Verdict {
+fn kind_reason(key: &CoseKey, kind: KeyKind) -> Verdict
+    ensures { is_fits result ≡ false }
+{
     if key.kty != RegisteredLabel::Assigned(type_of(kind)) {
         Verdict::Kty
     } else if !has_curve(key, kind) {
@@ -105,29 +114,41 @@ fn kind_reason(key: &CoseKey, kind: KeyKind) -> Verdict {
     }
 }
 
-/// Returns the reason against a key that doesn't fit. Each member is replaced by one that fits: first
-/// all at once, and then all but one.
+/// Returns true if the key fits.
+fn is_fitting(key: &CoseKey, sealed: &Sealed<'_>) -> bool
+    ensures { result ≡ is_some (fits (key_view key.now) (seal_view sealed.now)) }
+{
+    match fits(key, sealed) {
+        Some(_) => true,
+        None => false,
+    }
+}
+
+/// Returns the reason against a key that doesn't fit. Its `alg`, `key_ops` and kid are replaced by
+/// some that fit. Then they are put back, one after another.
 fn reason(
     alloc: Global,
     sealed: &Sealed<'_>,
     key: &CoseKey,
     algorithm: iana::Algorithm,
     row: Row,
-) -> Result<Verdict, AllocError> {
+) -> Result<Verdict, AllocError>
+    ensures { IfOk result (λ v. is_fits v ≡ false) }
+{
     let mut other = Clone::clone(key)?;
     other.key_ops = BTreeSet::new(alloc);
     other.key_id = Vec::from_slice(alloc, sealed.key_id())?;
     let own = other.alg.take();
     other.alg = Some(RegisteredLabelWithPrivate::Assigned(algorithm));
-    if fits(&other, sealed).is_none() {
+    if !is_fitting(&other, sealed) {
         return Ok(kind_reason(key, row.keys));
     }
     other.alg = own;
-    if fits(&other, sealed).is_none() {
+    if !is_fitting(&other, sealed) {
         return Ok(Verdict::Alg);
     }
     other.key_ops = key.key_ops.clone()?;
-    Ok(if fits(&other, sealed).is_none() {
+    Ok(if !is_fitting(&other, sealed) {
         Verdict::KeyOps
     } else {
         Verdict::Kid
@@ -140,9 +161,11 @@ fn reason(
 ///
 /// # Errors
 /// `AllocError` if an allocation fails.
-pub fn verdict(alloc: Global, seal: &Seal, key: &CoseKey) -> Result<Verdict, AllocError> {
+pub fn judge(alloc: Global, seal: &Seal, key: &CoseKey) -> Result<Verdict, AllocError>
+    ensures { IfOk result (λ v. is_fits v ≡ is_some (fits (key_view key.now) (parts_of seal.now))) }
+{
     let sealed = seal.sealed();
-    if fits(key, &sealed).is_some() {
+    if is_fitting(key, &sealed) {
         return Ok(Verdict::Fits);
     }
     match row_of(&sealed) {
