@@ -3,6 +3,7 @@
 #![tactic(auto)]
 
 mod asked;
+mod misread;
 mod page;
 mod respelled;
 mod rows;

@@ -4,9 +4,10 @@ ghost use Rattle.std.specs.Prelude.{◌≡◌, IfOk};
 ghost use Rattle.std.specs.String.{string_bytes};
 ghost use Rattle.tool_view.specs.Respelled.{IsHexadecimalOf};
 
-use crate::shown::{REFUSED, Shown, TAKEN, misspelled, read_as};
+use crate::misread::{misspelled, read_as};
+use crate::shown::{REFUSED, Shown, TAKEN};
 use std::alloc::{AllocError, Global};
-use tool_spelled::text_of;
+use tool_spelled::read_input;
 
 /// Returns the bytes that the input spells, in hexadecimal, as a line.
 ///
@@ -19,11 +20,10 @@ pub fn hexadecimal(alloc: Global, input: &[u8]) -> Result<Shown, AllocError>
     ensures { IfOk result (λ shown. shown.status ≡ 0
         → IsHexadecimalOf input.now (string_bytes shown.text)) }
 {
-    let spelled = text_of(input);
-    match spelled.bytes(alloc)? {
-        Ok(bytes) => {
-            let said = read_as(alloc, spelled.spelling, bytes.len())?;
-            let mut text = hex::encode(alloc, bytes.as_slice())?;
+    match read_input(alloc, input)? {
+        Ok(reading) => {
+            let said = read_as(alloc, &reading, input)?;
+            let mut text = hex::encode(alloc, reading.bytes.as_slice())?;
             text.push('\n')?;
             Ok(Shown {
                 said,
@@ -31,13 +31,10 @@ pub fn hexadecimal(alloc: Global, input: &[u8]) -> Result<Shown, AllocError>
                 status: TAKEN,
             })
         }
-        Err(place) => {
-            let offset = spelled.offset.saturating_add(place.0);
-            Ok(Shown {
-                said: misspelled(alloc, spelled.spelling, input, offset)?,
-                text: String::new(alloc),
-                status: REFUSED,
-            })
-        }
+        Err(unread) => Ok(Shown {
+            said: misspelled(alloc, &unread, input)?,
+            text: String::new(alloc),
+            status: REFUSED,
+        }),
     }
 }

@@ -6,6 +6,7 @@ ghost use Rattle.tool_explain.specs.declared.kind.Kind.TheVariants.{Auto};
 ghost use Rattle.tool_view.specs.Accepted.{Accepts, AcceptsInput};
 
 use crate::asked::{Asked, Form};
+use crate::misread::{misspelled, read_as};
 use crate::page::section;
 use crate::rows::rows;
 use coset::CoseError;
@@ -14,7 +15,7 @@ use tool_explain::{
     Cover, Kind, Line, annotated, annotated_structures, colored, explain, explain_whole, fault,
     fitting, notation, structure_notes,
 };
-use tool_spelled::{Spelling, line_and_column, text_of};
+use tool_spelled::read_input;
 
 /// The status of an input that has its kind.
 pub(crate) const TAKEN: u8 = 0;
@@ -41,74 +42,6 @@ fn status_of(is_refused: bool) -> u8
     ensures { result ≡ 0 → is_refused ≡ false }
 {
     if is_refused { REFUSED } else { TAKEN }
-}
-
-/// Returns the name of a spelling.
-fn spelling_name(spelling: Spelling) -> &'static str {
-    match spelling {
-        Spelling::Binary => "binary",
-        Spelling::Hexadecimal => "hexadecimal",
-        Spelling::Base64 => "base64",
-    }
-}
-
-/// Returns the character at the offset, if a terminal shows it. Returns `None` at the end of the
-/// input too.
-fn shown_at(input: &[u8], offset: usize) -> Option<char> {
-    let (_, rest) = input.split_at(offset.min(input.len()));
-    let c = str::from_utf8(rest).ok()?.chars().next()?;
-    if c.is_whitespace() || c.is_control() {
-        None
-    } else {
-        Some(c)
-    }
-}
-
-/// Returns the name of a digit of a spelling.
-fn digit(spelling: Spelling) -> &'static str {
-    match spelling {
-        Spelling::Hexadecimal => "hexadecimal digit",
-        _ => "digit of base64",
-    }
-}
-
-/// Returns advice about a character that is no digit.
-fn hint(spelling: Spelling, c: char) -> &'static str {
-    match (spelling, c) {
-        (Spelling::Hexadecimal, _) => "; base64 that looks like hexadecimal is read as b64'..'",
-        (_, '.') => "; a JSON web token, whose parts have dots between them, holds no CBOR",
-        _ => "",
-    }
-}
-
-/// Returns the text that the input was read as so many bytes.
-pub(crate) fn read_as(
-    alloc: Global,
-    spelling: Spelling,
-    count: usize,
-) -> Result<String, AllocError> {
-    let spelling = spelling_name(spelling);
-    format!(in alloc; "read as {spelling}, {count} bytes")
-}
-
-/// Returns the text that the input is misspelled at this offset.
-pub(crate) fn misspelled(
-    alloc: Global,
-    spelling: Spelling,
-    input: &[u8],
-    offset: usize,
-) -> Result<String, AllocError> {
-    let (line, column) = line_and_column(input, offset);
-    let mut text = format!(in alloc; "error: line {line}, column {column}: ")?;
-    let digit = digit(spelling);
-    match shown_at(input, offset) {
-        Some(c) => {
-            let hint = hint(spelling, c);
-            write!(text, "'{c}' is no {digit}{hint}")?;
-        }
-        None => write!(text, "a {digit} is missing")?,
-    }
-    Ok(text)
 }
 
 /// Returns true if the bytes begin with a tag.
@@ -286,15 +219,13 @@ pub fn look(alloc: Global, asked: &Asked, input: &[u8], name: &str) -> Result<Sh
     ensures { IfOk result
         (λ shown. shown.status ≡ 0 → AcceptsInput asked.entry.now.kind input.now) }
 {
-    let spelled = text_of(input);
-    match spelled.bytes(alloc)? {
-        Ok(bytes) => {
-            let said = read_as(alloc, spelled.spelling, bytes.len())?;
-            look_at(alloc, asked, &bytes, said, name)
+    match read_input(alloc, input)? {
+        Ok(reading) => {
+            let said = read_as(alloc, &reading, input)?;
+            look_at(alloc, asked, &reading.bytes, said, name)
         }
-        Err(place) => {
-            let offset = spelled.offset.saturating_add(place.0);
-            let said = misspelled(alloc, spelled.spelling, input, offset)?;
+        Err(unread) => {
+            let said = misspelled(alloc, &unread, input)?;
             let text = match asked.form {
                 Form::Page => section(alloc, name, said.as_str(), &[], &[])?,
                 Form::Rows => rows(alloc, said.as_str(), &[], &[])?,
