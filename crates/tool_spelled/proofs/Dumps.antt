@@ -43,3 +43,7 @@ pub dump_to_end :
 dump_to_end radix first text left bytes none before =
     subst (λ (b : List ℕ). IsDump radix first text b) (append-nil bytes)
     (before [] (subst (λ (t : List ℕ). IsDump radix (first + length bytes) t []) (sym (nothing_left left none)) (dump.ends (first + length bytes))))
+
+-- A character other than a line break doesn't end a line.
+pub line_goes_on : (left rest : List ℕ) (c : ℕ) → left ≡ c ∷ rest → (c ≡ 10 → ⊥) → after_line left ≡ after_line rest
+line_goes_on left rest c parts other = ap after_line parts ∙ grind (arith, other)
