@@ -4,11 +4,12 @@
 
 mod asked;
 mod page;
+mod read;
 mod respelled;
 mod rows;
 mod shown;
 
 pub use asked::{Asked, Form};
 pub use page::{END, FRONT};
-pub use respelled::hexadecimal;
+pub use respelled::{Respelled, To, respell};
 pub use shown::{Shown, UNANSWERED, look};

@@ -7,6 +7,7 @@ ghost use Rattle.tool_view.specs.Accepted.{Accepts, AcceptsInput};
 
 use crate::asked::{Asked, Form};
 use crate::page::section;
+use crate::read::read;
 use crate::rows::rows;
 use coset::CoseError;
 use std::alloc::{AllocError, Global};
@@ -14,7 +15,7 @@ use tool_explain::{
     Cover, Kind, Line, annotated, annotated_structures, colored, explain, explain_whole, fault,
     fitting, notation, structure_notes,
 };
-use tool_spelled::{Spelling, line_and_column, text_of};
+use tool_spelled::{Spelling, line_and_column};
 
 /// The status of an input that has its kind.
 pub(crate) const TAKEN: u8 = 0;
@@ -44,7 +45,7 @@ fn status_of(is_refused: bool) -> u8
 }
 
 /// Returns the name of a spelling.
-fn spelling_name(spelling: Spelling) -> &'static str {
+pub(crate) fn spelling_name(spelling: Spelling) -> &'static str {
     match spelling {
         Spelling::Binary => "binary",
         Spelling::Hexadecimal => "hexadecimal",
@@ -81,14 +82,9 @@ fn hint(spelling: Spelling, c: char) -> &'static str {
     }
 }
 
-/// Returns the text that the input was read as so many bytes.
-pub(crate) fn read_as(
-    alloc: Global,
-    spelling: Spelling,
-    count: usize,
-) -> Result<String, AllocError> {
-    let spelling = spelling_name(spelling);
-    format!(in alloc; "read as {spelling}, {count} bytes")
+/// Returns the text that the input was read as so many bytes, in the spelling of this name.
+pub(crate) fn read_as(alloc: Global, name: &str, count: usize) -> Result<String, AllocError> {
+    format!(in alloc; "read as {name}, {count} bytes")
 }
 
 /// Returns the text that the input is misspelled at this offset.
@@ -278,7 +274,7 @@ fn look_at(
 
 /// Returns the output for an input of that name.
 ///
-/// The status is 0 only if the library reads the bytes that the input spells as its kind.
+/// The status is 0 only if the library reads the input's bytes as its kind.
 ///
 /// # Errors
 /// `AllocError` if an allocation fails.
@@ -286,15 +282,9 @@ pub fn look(alloc: Global, asked: &Asked, input: &[u8], name: &str) -> Result<Sh
     ensures { IfOk result
         (λ shown. shown.status ≡ 0 → AcceptsInput asked.entry.now.kind input.now) }
 {
-    let spelled = text_of(input);
-    match spelled.bytes(alloc)? {
-        Ok(bytes) => {
-            let said = read_as(alloc, spelled.spelling, bytes.len())?;
-            look_at(alloc, asked, &bytes, said, name)
-        }
-        Err(place) => {
-            let offset = spelled.offset.saturating_add(place.0);
-            let said = misspelled(alloc, spelled.spelling, input, offset)?;
+    match read(alloc, input)? {
+        Ok(reading) => look_at(alloc, asked, &reading.bytes, reading.said, name),
+        Err(said) => {
             let text = match asked.form {
                 Form::Page => section(alloc, name, said.as_str(), &[], &[])?,
                 Form::Rows => rows(alloc, said.as_str(), &[], &[])?,
