@@ -242,7 +242,7 @@ def compare_hostile(page, program, wrong, quick):
                     if not quick:
                         wrong.append(f"{name} as {kind}: {str(error)[:300]}")
                     continue
-                if told[:2] != [status, hashlib.sha256(answer).hexdigest()]:
+                if told[:2] != [status, hashlib.sha256(plain(answer.decode()).encode()).hexdigest()]:
                     wrong.append(f"{name} as {kind}, form {form}: {told} and not {status}, {len(answer)} bytes")
     return f"hostile {tried}" + (f", of which the unproved module stopped at {stopped}" if stopped else "")
 
