@@ -1,5 +1,6 @@
 -- The labels among the keys of a map.
-use Rattle.std.proofs.Common.{◌≡◌, ◌∙◌, ◌++◌, ◌+◌, ◌<◌, ◌&&◌, ℕ, List, [], ◌∷◌, length, Bool, get_or, take, map, not, Option, Some, None, Result, Ok, Err, option_map, ap, sym, refl}
+use Rattle.std.proofs.Common.{◌≡◌, ◌∙◌, ◌++◌, ◌+◌, ◌<◌, ◌&&◌, ℕ, List, [], ◌∷◌, length, Bool, get_or, take, map, not}
+use Rattle.std.proofs.Common.{Option, Some, None, Result, Ok, Err, option_map, ap, sym, refl}
 use Rattle.std.proofs.lemmas.List.{append-nil, map-append, take_more}
 use Rattle.std.specs.List.{list_all}
 use Rattle.std.specs.Map.{keys_of}
@@ -32,7 +33,9 @@ one_more ps i d lt =
     ap (λ qs. labels_in (value_pairs qs)) (take_more ps i d lt)
     ∙ (ap labels_in (pairs_view_push (take i ps) p.0 p.1) ∙ labels_more (value_pairs (take i ps)) (value_item p.0) (value_item p.1))
 
-all_seen : {A B : Type 0} (f : A → B) (test : A → Bool) (seen : B → Bool) → ((x : A) → test x ≡ seen (f x)) → (xs : List A) → list_all test xs ≡ list_all seen (map f xs)
+all_seen :
+    {A B : Type 0} (f : A → B) (test : A → Bool) (seen : B → Bool) → ((x : A) → test x ≡ seen (f x)) → (xs : List A)
+    → list_all test xs ≡ list_all seen (map f xs)
 all_seen f test seen e [] = refl
 all_seen f test seen e (x ∷ xs) = λ i. e x i && all_seen f test seen e xs i
 

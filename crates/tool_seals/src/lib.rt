@@ -21,15 +21,16 @@
 //!
 //! The fields:
 //!
-//! - `NAME` is `signature`, `signature 0` (of several signers), `tag` or `ciphertext`. Under label 7
-//!   it is `countersignature 0 of the message`, under label 11 `version 2 countersignature 0 of the
-//!   message`, and under label 12 `version 2 abbreviated countersignature of the message`. Messages
-//!   in the payload begin with `layer 1: `, `layer 2: ` or `layer 3: `.
+//! - `NAME` is `signature`, `signature 0` (of several signers), `tag` or `ciphertext`. Under label
+//!   7 it is `countersignature 0 of the message`, under label 11 `version 2 countersignature 0 of
+//!   the message`, and under label 12 `version 2 abbreviated countersignature of the message`.
+//!   Messages in the payload begin with `layer 1: `, `layer 2: ` or `layer 3: `.
 //! - `FORM` is `sign` or `mac`.
 //! - `ALGORITHM` is that of the protected header: the number, the text, or `-`.
 //! - `STRUCTURE` is the `Sig_structure` or the `MAC_structure` (RFC 8152, sections 4.4 and 6.3), or
-//!   the `Countersign_structure` (RFC 9338, section 3.3). It is `-` if the payload is detached. It is
-//!   also `-` for an abbreviated countersignature of a message without a signature or MAC of its own.
+//!   the `Countersign_structure` (RFC 9338, section 3.3). It is `-` if the payload is detached. It
+//!   is also `-` for an abbreviated countersignature of a message without a signature or MAC of
+//!   its own.
 //! - `PROOF` is the signature or the MAC.
 //! - `VERDICT` is `fits` or the reason against the key: `algorithm`, `alg`, `kty`, `crv`, `length`,
 //!   `key_ops` or `kid`. See [`Verdict`].

@@ -173,8 +173,8 @@ fn fault_line(alloc: Global, kind: Kind, bytes: &[u8]) -> Result<(String, u8), A
     Ok((text, REFUSED))
 }
 
-/// Returns the structures that are signed, authenticated, or go with the ciphertext. They are cut if
-/// `asked` says so.
+/// Returns the structures that are signed, authenticated, or go with the ciphertext. They are cut
+/// if `asked` says so.
 fn notes_of(
     alloc: Global,
     asked: &Asked,

@@ -20,7 +20,8 @@ returns c =
     (slice_get_read c.deref.result.now (length c.deref.result.now) c.args.index s refl there.3.0 there.1) in
     let view = slice_get-map signature_view c.args.message.now.signatures.items c.args.index ∙ ap (option_map signature_view) got in
     let t = bytes_or_none (option_map (λ b. b.items) c.in_ok-signer_bytes.field-0) in
-    let same = (λ i. parts Sign (c.in_ok-clone.ensures.copy i) (c.in_ok-clone-2.ensures.copy i) ((c.in_ok-from_slice.ensures.items ∙ c.deref-2.ensures.value) i) t
+    let same =
+    (λ i. parts Sign (c.in_ok-clone.ensures.copy i) (c.in_ok-clone-2.ensures.copy i) ((c.in_ok-from_slice.ensures.items ∙ c.deref-2.ensures.value) i) t
     None)
     ∙ sym (ap (λ (v : SignatureView). parts Sign v.protected v.unprotected v.signature t None) (signature-opened s)) in
     (refl, (signature_view s, view, (same, c.in_ok-signer_bytes.ensures)))

@@ -1,6 +1,7 @@
 use Rattle.tool_view.proofs.Accepting.{accepts}
 use Rattle.tool_view.proofs.shown.look_at_item.Goals as goal
-use Rattle.tool_view.proofs.shown.look_at_item.Goals.{in-Annotated+in_ok-lines_of-in-Annotated, in-Plain+in_ok-notation_of-in-Plain, in-Where+in_ok-text-in-Where}
+use Rattle.tool_view.proofs.shown.look_at_item.Goals.{in-Annotated+in_ok-lines_of-in-Annotated, in-Plain+in_ok-notation_of-in-Plain}
+use Rattle.tool_view.proofs.shown.look_at_item.Goals.{in-Where+in_ok-text-in-Where}
 
 pub returns : goal.returns
 returns c =
