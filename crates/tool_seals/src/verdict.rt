@@ -5,7 +5,7 @@ ghost use Rattle.coset.specs.Keys.{key_view};
 ghost use Rattle.cwt_keys.specs.Sealed.{seal_view};
 ghost use Rattle.cwt_ring.specs.Fits.{fits};
 ghost use Rattle.tool_seals.specs.Seals.{parts_of};
-ghost use Rattle.tool_seals.specs.Verdicts.{is_fits};
+ghost use Rattle.tool_seals.specs.Verdicts.{IsVerdict, is_fits};
 
 use crate::seal::Seal;
 use coset::cbor::value::Integer;
@@ -162,7 +162,7 @@ fn reason(
 /// # Errors
 /// `AllocError` if an allocation fails.
 pub fn judge(alloc: Global, seal: &Seal, key: &CoseKey) -> Result<Verdict, AllocError>
-    ensures { IfOk result (λ v. is_fits v ≡ is_some (fits (key_view key.now) (parts_of seal.now))) }
+    ensures { IfOk result (IsVerdict (key_view key.now) (parts_of seal.now)) }
 {
     let sealed = seal.sealed();
     if is_fitting(key, &sealed) {

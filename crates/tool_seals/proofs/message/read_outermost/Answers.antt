@@ -8,4 +8,5 @@ returns-then-is_some c =
 
 pub returns-else-is_some : goal.returns-else-is_some
 returns-else-is_some c =
-    behind c.args.form c.args.bytes.now c.without_cwt_tag-inner.result.now c.read_tried.result c.in-None.is c.without_cwt_tag-inner.ensures c.read_tried.ensures
+    behind c.args.form c.args.bytes.now c.without_cwt_tag-inner.result.now c.read_tried.result c.in-None.is c.without_cwt_tag-inner.ensures
+    c.read_tried.ensures
