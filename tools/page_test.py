@@ -11,6 +11,7 @@ import time
 
 import browser
 import common
+import forged
 import page_keys
 import page_use
 import webdriver
@@ -139,6 +140,8 @@ def cases():
             data = file.read()
         for kind in KINDS:
             yield data, kind, MOMENT, b""
+    for data in forged.inputs():
+        yield data, "auto", None, b""
 
 
 def layered(count):

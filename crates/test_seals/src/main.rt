@@ -1,7 +1,7 @@
 //! `test_seals` reads calls from standard input, one a line, and writes what each returns.
 //!
-//! A call is `seals FORM INPUT KEYS [EXTERNAL_AAD]`: the lines of `tool_seals::described` for an
-//! input in hexadecimal and for keys as CBOR in hexadecimal, where `-` means no bytes. FORM is
+//! A call is `seals FORM BYTES KEYS [EXTERNAL_AAD]`: the lines of `tool_seals::described` for a
+//! message and for keys as CBOR, all in hexadecimal, where `-` means no bytes. FORM is
 //! `auto`, `sign1`, `mac0`, `encrypt0`, `sign`, `mac` or `encrypt`. In the answer, `;` ends a line,
 //! and spaces are between fields. The answer is `no message` if there is none.
 #![tactic(auto)]
@@ -48,13 +48,14 @@ fn on_one_line(alloc: Global, text: &str) -> Result<String, AllocError> {
 /// Returns the lines about an input and keys.
 fn judged(alloc: Global, words: &Words<'_>) -> Result<String> {
     let form = form(words.word(1))?;
+    let bytes = words.bytes(alloc, 2)?;
     let keys = words.bytes(alloc, 3)?;
     let external_aad = match words.word(4) {
         "" => Vec::new(alloc),
         _ => words.bytes(alloc, 4)?,
     };
     mark::begin(alloc);
-    let answer = described(alloc, form, words.word(2).as_bytes(), &keys, &external_aad);
+    let answer = described(alloc, form, &bytes, &keys, &external_aad);
     mark::end(alloc);
     match answer {
         Ok(Some(text)) => Ok(on_one_line(alloc, text.as_str())?),

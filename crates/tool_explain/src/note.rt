@@ -2,10 +2,9 @@
 
 use crate::cover::of_element;
 use crate::frame::Frame;
-use crate::head::{argument, integer, is_shortest};
+use crate::head::{integer, is_shortest};
 use crate::moment::{moment, push_distance};
 use crate::role::{Bucket, Part, Role, is_private, is_registered, name_of, title};
-use crate::text::float;
 use coset::cbor::head::{Head, MajorType};
 use coset::cwt::Timestamp;
 use coset::iana::{Algorithm, EnumI64};
@@ -133,17 +132,6 @@ fn detached(frame: &Frame, head: &Head) -> &'static str {
     }
 }
 
-/// Adds the bits of a NaN, because diagnostic notation doesn't show its payload (RFC 8949, section
-/// 8).
-fn add_bits(notes: &mut Notes<'_>, head: &Head) -> Result<(), AllocError> {
-    if !head.is_float() || !float(head).to_f64().is_nan() {
-        return Ok(());
-    }
-    notes.begin()?;
-    let number = argument(head);
-    write!(notes.text, "bits 0x{number:x}")
-}
-
 /// Adds that the item is a certificate, and its length if the head announces it.
 fn add_certificate(notes: &mut Notes<'_>, head: &Head) -> Result<(), AllocError> {
     notes.add("certificate")?;
@@ -206,7 +194,6 @@ pub(crate) fn push(
     add_number(&mut notes, frame, part.role, head, now)?;
     notes.add(unprotected(frame, part.role, head))?;
     add_title(&mut notes, part.role, head)?;
-    add_bits(&mut notes, head)?;
     if !head.is_float() && !is_shortest(head) {
         notes.add("not the shortest head")?;
     }

@@ -118,18 +118,39 @@ pub(crate) fn float(head: &Head) -> Float {
     }
 }
 
-/// Adds a float.
+/// Returns true if the float is the NaN that `NaN` writes in its width.
+fn is_usual_nan(head: &Head) -> bool {
+    matches!(
+        float(head),
+        Float::Half(0x7e00) | Float::Single(0x7fc0_0000) | Float::Double(0x7ff8_0000_0000_0000)
+    )
+}
+
+/// Adds a float by its bits. RFC 8949 has no notation for the payload of a NaN.
+fn push_bits(text: &mut String, head: &Head) -> Result<(), AllocError> {
+    match float(head) {
+        Float::Half(bits) => write!(text, "float'{bits:04x}'"),
+        Float::Single(bits) => write!(text, "float'{bits:08x}'"),
+        Float::Double(bits) => write!(text, "float'{bits:016x}'"),
+    }
+}
+
+/// Adds a float, with its width.
 fn push_float(text: &mut String, head: &Head) -> Result<(), AllocError> {
     let value = float(head).to_f64();
     if value.is_nan() {
-        text.push_str("NaN")
+        if !is_usual_nan(head) {
+            return push_bits(text, head);
+        }
+        text.push_str("NaN")?;
     } else if value.is_finite() {
-        write!(text, "{value:?}")
+        write!(text, "{value:?}")?;
     } else if value > 0.0 {
-        text.push_str("Infinity")
+        text.push_str("Infinity")?;
     } else {
-        text.push_str("-Infinity")
+        text.push_str("-Infinity")?;
     }
+    text.push_str(width_mark(head.width()))
 }
 
 /// Adds false, true, null or another simple value.
@@ -143,14 +164,10 @@ fn push_simple(text: &mut String, number: u64) -> Result<(), AllocError> {
     }
 }
 
-/// Returns the width of a head if it is shown, otherwise 0. It is shown for a head that isn't the
-/// shortest, and for a float.
+/// Returns the width of a head if it isn't the shortest, otherwise 0. The head must not be a
+/// float's.
 pub(crate) fn told_width(head: &Head) -> u8 {
-    if !head.is_float() && is_shortest(head) {
-        0
-    } else {
-        head.width()
-    }
+    if is_shortest(head) { 0 } else { head.width() }
 }
 
 /// Returns the encoding indicator of a width (RFC 8949, section 8.1). It may be empty.
@@ -200,7 +217,7 @@ pub(crate) fn push_leaf(
             text.push_str(width_mark(told_width(head)))?;
             return text.push('}');
         }
-        MajorType::Simple if head.is_float() => push_float(text, head)?,
+        MajorType::Simple if head.is_float() => return push_float(text, head),
         MajorType::Simple | MajorType::Tag => push_simple(text, argument(head))?,
     }
     text.push_str(width_mark(told_width(head)))

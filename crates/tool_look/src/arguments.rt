@@ -2,15 +2,15 @@
 
 use std::alloc::{AllocError, Global};
 use tool_explain::Kind;
-use tool_view::{Asked, Form};
+use tool_view::{Asked, Form, To};
 
 /// The options from the arguments so far.
 #[derive(Drop)]
 pub struct Arguments {
     /// How the next input is shown.
     pub asked: Asked,
-    /// Whether the input's bytes are written in hexadecimal, and nothing else.
-    pub is_hexadecimal: bool,
+    /// The spelling in which the input's bytes are written, if they are written alone.
+    pub to: Option<To>,
     /// Whether lines are in colours if no argument says it.
     is_terminal: bool,
 }
@@ -23,7 +23,7 @@ impl Arguments {
         asked.is_colored = is_terminal;
         Arguments {
             asked,
-            is_hexadecimal: false,
+            to: None,
             is_terminal,
         }
     }
@@ -38,10 +38,17 @@ impl Arguments {
         true
     }
 
-    /// Takes that bytes are written in hexadecimal, and returns true if it is allowed: not in a page.
-    fn takes_hexadecimal(&mut self) -> bool {
-        self.is_hexadecimal = self.asked.form != Form::Page;
-        self.is_hexadecimal
+    /// Takes the spelling in which bytes are written alone. Returns true if its name is known and
+    /// it is allowed: not in a page.
+    fn takes_spelling(&mut self, name: &str) -> bool {
+        self.to = match name {
+            _ if self.asked.form == Form::Page => None,
+            "hex" => Some(To::Hexadecimal),
+            "binary" => Some(To::Binary),
+            "base64" => Some(To::Base64),
+            _ => None,
+        };
+        self.to.is_some()
     }
 
     /// Takes when there are colours, and returns true if the word is known.
@@ -79,14 +86,20 @@ impl Arguments {
         if let Some(when) = argument.strip_prefix("--color=") {
             return Ok(self.takes_color(when));
         }
+        if let Some(spelling) = argument.strip_prefix("--to=") {
+            return Ok(self.takes_spelling(spelling));
+        }
         Ok(match argument {
             "--edn" => self.takes_form(Form::Plain),
             "--where" => self.takes_form(Form::Where),
             "--html" => self.takes_form(Form::Page),
             "--json" => self.takes_form(Form::Json),
-            "--to=hex" => self.takes_hexadecimal(),
             "--short" => {
                 self.asked.is_short = true;
+                true
+            }
+            "--from=edn" => {
+                self.asked.is_notation = true;
                 true
             }
             _ => false,

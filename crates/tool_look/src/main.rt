@@ -1,31 +1,35 @@
 //! `tool_look [OPTION..] [KIND] [FILE]..` takes apart the content of files, or of standard input if
 //! no file is named.
 //!
-//! A file has raw bytes, or bytes in hexadecimal or base64. The options and the kind before a file
-//! say how it is shown. Standard error says how each file was read. The status is 0 if all are of
-//! their kinds, and 1 if one was refused. It is 2 if one couldn't be read, an argument wasn't
-//! understood, or an allocation failed.
+//! A file contains raw bytes, hexadecimal, base64, diagnostic notation, or bytes in another
+//! spelling. The options and the kind before a file say how it is shown. Standard error says how
+//! each file was read. The status is 0 if all are of their kinds, and 1 if one was refused. It is
+//! 2 if one couldn't be read, an argument wasn't understood, or an allocation failed.
 #![tactic(auto)]
 
 mod arguments;
 
 use arguments::Arguments;
-use std::io::{ErrorKind, IsTerminal, Read};
+use std::io::{ErrorKind, IsTerminal, Read, Write};
 use std::process::ExitCode;
 use std::{env, fs, io};
 use tool_explain::{push_comment, quoted_name};
-use tool_view::{END, FRONT, Form, Shown, UNANSWERED, hexadecimal, look};
+use tool_view::{END, FRONT, Form, To, UNANSWERED, look, respell};
 
 /// The text for an argument that isn't understood.
 const USAGE: &str = "usage: tool_look [OPTION..] [KIND] [FILE]..
-A file, or standard input where none is named, holds bytes as they are; or hexadecimal, also with 0x, spaces, commas and colons,
-or as h'..'; or base64 or base64url, also as b64'..' or behind Bearer.
-KIND is auto (what its tag says, or else what it can be), cwt (a web token, with claims as its payload), value, sign1, sign, mac,
-mac0, encrypt, encrypt0, countersignature, key, keyset, claims or kdf.
-With --to=hex the bytes alone are written, in hexadecimal; with --edn diagnostic notation alone; with --where only the offset of
-the fault, the path there, and the fault, or that the input is accepted; with --html a page; with --json a line of JSON for each
-file. --short cuts long strings. --now=SECONDS since 1970 began is the moment for which a token's times are judged, or none, and
---external-aad=HEX is what goes with messages. --color=auto, always or never: auto is in a terminal, without NO_COLOR.
+A file, or standard input if no file is named, contains raw bytes, hexadecimal, base64, diagnostic
+notation, or bytes in another spelling. crates/tool_look/README.md lists the spellings.
+KIND is auto (what its tag says, otherwise what it can be), cwt (a web token, with claims as its
+payload), value, sign1, sign, mac, mac0, encrypt, encrypt0, countersignature, key, keyset, claims
+or kdf.
+--to=hex, --to=binary or --to=base64 writes only the bytes. --edn writes only diagnostic notation.
+--where writes only the offset of the fault, the path there and the fault, or accepted. --html
+writes a page, and --json a line of JSON for each file. --from=edn reads the input only as
+diagnostic notation. --short cuts long strings. --now=SECONDS is the moment for which a token's
+times are judged, in seconds since 1970 began. --now=none judges nothing. --external-aad=HEX is the
+external_aad of messages (RFC 8152, section 4.3). --color is auto, always or never. auto means: in
+a terminal, unless NO_COLOR is set.
 ";
 
 /// Returns true if standard output is a terminal that may have colours.
@@ -44,25 +48,42 @@ fn print_name(rt: &HostRuntime, name: &str) -> io::Result<()> {
     println!(rt; "{comment}")
 }
 
+/// Writes how the input of that name was read to standard error.
+fn print_said(rt: &HostRuntime, said: &str, name: &str) -> io::Result<()> {
+    if name.is_empty() {
+        eprintln!(rt; "{said}")
+    } else {
+        eprintln!(rt; "{name}: {said}")
+    }
+}
+
+/// Writes the bytes of the input of that name alone, and returns the status.
+fn show_bytes(
+    rt: &HostRuntime,
+    to: To,
+    is_notation: bool,
+    input: &[u8],
+    name: &str,
+) -> io::Result<u8> {
+    let respelled = respell(rt.alloc(), to, is_notation, input)?;
+    print_said(rt, respelled.said.as_str(), name)?;
+    rt.stdout().write_all(&respelled.output)?;
+    Ok(respelled.status)
+}
+
 /// Shows an input of that name, which is quoted if it has to be, and returns the status.
 fn show(rt: &HostRuntime, arguments: &Arguments, input: &[u8], name: &str) -> io::Result<u8> {
     let asked = &arguments.asked;
-    let Shown { said, text, status } = if arguments.is_hexadecimal {
-        hexadecimal(rt.alloc(), input)?
-    } else {
-        look(rt.alloc(), asked, input, name)?
-    };
-    if name.is_empty() {
-        eprintln!(rt; "{said}")?;
-    } else {
-        eprintln!(rt; "{name}: {said}")?;
+    if let Some(to) = arguments.to {
+        return show_bytes(rt, to, asked.is_notation, input, name);
     }
-    let is_text = !matches!(asked.form, Form::Page | Form::Json) && !arguments.is_hexadecimal;
-    if is_text && !name.is_empty() {
+    let shown = look(rt.alloc(), asked, input, name)?;
+    print_said(rt, shown.said.as_str(), name)?;
+    if !name.is_empty() && !matches!(asked.form, Form::Page | Form::Json) {
         print_name(rt, name)?;
     }
-    print!(rt; "{text}")?;
-    Ok(status)
+    print!(rt; "{}", shown.text)?;
+    Ok(shown.status)
 }
 
 /// Shows a file, and returns the status.

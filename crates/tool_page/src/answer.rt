@@ -5,9 +5,9 @@ ghost use Rattle.tool_page.specs.Told.{Tells, number_of};
 ghost use Rattle.tool_view.specs.Accepted.{AcceptsInput};
 
 use cwt_keys::Form;
-use std::alloc::Global;
+use std::alloc::{AllocError, Global};
 use tool_seals::described;
-use tool_view::{Asked, look};
+use tool_view::{Asked, look, read_bytes};
 
 /// The reason why there is no answer.
 #[derive(Clone, Copy, Debug)]
@@ -46,13 +46,29 @@ pub(crate) fn answered(
     out: &mut [u8],
     len: &mut usize,
 ) -> Result<u8, Unanswered>
-    ensures { Tells (λ s. s ≡ 0 → AcceptsInput asked.entry.now.kind input.now)
+    ensures { Tells (λ s. s ≡ 0
+        → AcceptsInput asked.entry.now.is_notation asked.entry.now.kind input.now)
         out.old out.new len.new result }
 {
     *len = 0;
     match look(alloc, asked, input, "") {
         Ok(shown) => put(shown.text.as_str().as_bytes(), shown.status, out, len),
         Err(_) => Err(Unanswered::Memory),
+    }
+}
+
+/// Returns the lines about the seals of an input and about the keys. Returns `None` if the input
+/// isn't a message.
+fn text_of(
+    alloc: Global,
+    form: Option<Form>,
+    input: &[u8],
+    keys: &[u8],
+    external_aad: &[u8],
+) -> Result<Option<String>, AllocError> {
+    match read_bytes(alloc, false, input)? {
+        Ok(reading) => described(alloc, form, &reading.bytes, keys, external_aad),
+        Err(_) => Ok(None),
     }
 }
 
@@ -74,10 +90,10 @@ pub(crate) fn judged(
     ensures { Tells (λ s. s ≤ 1) out.old out.new len.new result }
 {
     *len = 0;
-    match described(alloc, form, input, keys, external_aad) {
+    match text_of(alloc, form, input, keys, external_aad) {
         Ok(Some(text)) => put(text.as_str().as_bytes(), 0, out, len),
         Ok(None) => put(&[], 1, out, len),
-        Err(_) => Err(Unanswered::Memory),
+        Err(AllocError) => Err(Unanswered::Memory),
     }
 }
 

@@ -2,7 +2,7 @@
 //! WebAssembly.
 #![tactic(auto)]
 
-ghost use Rattle.std.specs.Prelude.{◌≡◌, ◌≤◌, ℕ, Result};
+ghost use Rattle.std.specs.Prelude.{◌≡◌, ◌≤◌, ℕ, Result, false};
 ghost use Rattle.tool_page.specs.Numbers.{kind_of};
 ghost use Rattle.tool_page.specs.Told.{Tells, number_of};
 ghost use Rattle.tool_page.specs.declared.answer.Unanswered.{Unanswered};
@@ -39,7 +39,7 @@ pub extern "C" fn page_look(
 ) -> i32
     // At most `out` is written. 0 says that the library reads the input as its kind.
     ensures { (r : Result ℕ Unanswered) × (result ≡ number_of r) × Tells
-        (λ s. s ≡ 0 → AcceptsInput (kind_of kind) input.now) out.old out.new len.new r }
+        (λ s. s ≡ 0 → AcceptsInput false (kind_of kind) input.now) out.old out.new len.new r }
 {
     *len = 0;
     let now = if has_now == 0 { None } else { Some(now) };

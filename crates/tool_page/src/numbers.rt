@@ -1,6 +1,6 @@
 //! The numbers of kinds and forms.
 
-ghost use Rattle.std.specs.Prelude.{◌≡◌, IfOk};
+ghost use Rattle.std.specs.Prelude.{◌≡◌, IfOk, false};
 ghost use Rattle.tool_page.specs.Numbers.{kind_of};
 
 use cwt_keys::Form as MessageForm;
@@ -64,7 +64,8 @@ pub(crate) fn asked(
     now: Option<i64>,
     external_aad: &[u8],
 ) -> Result<Asked, AllocError>
-    ensures { IfOk result (λ a. a.kind ≡ kind_of kind) }
+    ensures kind { IfOk result (λ a. a.kind ≡ kind_of kind) }
+    ensures spelling { IfOk result (λ a. a.is_notation ≡ false) }
 {
     Ok(Asked {
         kind: kind_of(kind),
@@ -73,5 +74,6 @@ pub(crate) fn asked(
         external_aad: Vec::from_slice(alloc, external_aad)?,
         is_colored: false,
         is_short: false,
+        is_notation: false,
     })
 }

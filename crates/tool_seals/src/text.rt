@@ -10,7 +10,6 @@ use coset::{Algorithm, CoseKey, Label, RegisteredLabel, RegisteredLabelWithPriva
 use cwt_keys::Form;
 use std::alloc::{AllocError, Global};
 use std::ascii::escape_default;
-use tool_spelled::text_of;
 
 /// Adds a text in quotes, with escapes for all but printable ASCII.
 fn push_quoted(text: &mut String, content: &str) -> Result<(), AllocError> {
@@ -262,8 +261,8 @@ fn lines(alloc: Global, all: &Seals, keys: &Keys) -> Result<String, AllocError> 
     Ok(text)
 }
 
-/// Returns the lines about an input's message and these keys, as the crate's page describes them.
-/// Returns `None` if the input spells no message.
+/// Returns the lines about a message and these keys, as the crate's page describes them. Returns
+/// `None` if the bytes are no message.
 ///
 /// The form is that of [`seals_of`]. `keys` are a `COSE_Key` or a `COSE_KeySet`, or empty.
 ///
@@ -272,14 +271,11 @@ fn lines(alloc: Global, all: &Seals, keys: &Keys) -> Result<String, AllocError> 
 pub fn described(
     alloc: Global,
     form: Option<Form>,
-    input: &[u8],
+    bytes: &[u8],
     keys: &[u8],
     external_aad: &[u8],
 ) -> Result<Option<String>, AllocError> {
-    let Ok(bytes) = text_of(input).bytes(alloc)? else {
-        return Ok(None);
-    };
-    match seals_of(alloc, form, &bytes, external_aad)? {
+    match seals_of(alloc, form, bytes, external_aad)? {
         Some(all) => Ok(Some(lines(alloc, &all, &keys_from_slice(alloc, keys)?)?)),
         None => Ok(None),
     }

@@ -1,6 +1,7 @@
 -- Parts of inputs.
-use Rattle.std.proofs.Common.{◌≡◌, ◌≤◌, ◌+◌, ◌-◌, ℕ, List, [], ◌∷◌, ◌++◌, ◌∙◌, length, take, drop, sym, ap, refl, arith, append_assoc}
+use Rattle.std.proofs.Common.{◌≡◌, ◌+◌, ◌-◌, ℕ, List, [], ◌∷◌, ◌++◌, ◌∙◌, length, take, drop, sym, ap, refl, arith, append_assoc}
 use Rattle.std.proofs.lemmas.List.{append-nil, length-append, length-take-le, take-append-drop}
+use Rattle.std.proofs.Math.Seq.{take-append_seam}
 use Rattle.tool_spelled.specs.Framed.{IsPart}
 
 -- The whole input is a part of itself.
@@ -53,3 +54,12 @@ behind_both text rest found outer inner = (outer.0 ++ inner.0, outer.1 ∙ ap (�
 pub behind_first :
     (text left rest : List ℕ) (c : ℕ) → (front : List ℕ) × (text ≡ front ++ left) → left ≡ c ∷ rest → (front : List ℕ) × (text ≡ front ++ rest)
 behind_first text left rest c outer is = behind_both text left rest outer (c ∷ [], is)
+
+-- The text before its end.
+pub front_of : (text front found : List ℕ) → text ≡ front ++ found → text ≡ take (length text - length found) text ++ found
+front_of text front found is =
+    let count : length text ≡ length front + length found = ap length is ∙ length-append front found in
+    let less : length text - length found ≡ length front = omega (arith, count) in
+    let same : take (length text - length found) text ≡ front =
+    ap (λ n. take n text) less ∙ ap (λ t. take (length front) t) is ∙ take-append_seam front found in
+    is ∙ ap (λ t. t ++ found) (sym same)

@@ -1,6 +1,6 @@
 -- Reading a text that spells bytes, one step at a time.
-use Rattle.std.proofs.Common.{◌≡◌, ◌≤◌, ◌<◌, ◌+◌, ◌⊎◌, inl, inr, ℕ, List, [], ◌∷◌, ◌++◌, ◌∙◌, true, Some, length, sym, ap, subst, refl, arith, append_assoc}
-use Rattle.std.proofs.lemmas.List.{append-nil}
+use Rattle.std.proofs.Common.{◌≡◌, ◌≤◌, ◌<◌, ◌+◌, inl, inr, ℕ, List, [], ◌∷◌, ◌++◌, ◌∙◌, true, Some, length, sym, ap, subst, arith, append_assoc}
+use Rattle.std.proofs.lemmas.List.{append-nil, nil_from_length}
 use Rattle.tool_spelled.specs.Base64.{AreDigits, IsPadding, is_break, digit_number}
 use Rattle.tool_spelled.specs.Base64 as base64
 use Rattle.tool_spelled.specs.Hexadecimal.{BeginsWithByte, IsBehindPrefix, IsByte, IsFront, IsHexadecimal, is_between, is_prefix}
@@ -78,13 +78,9 @@ pub one_break :
 one_break digits left rest numbers c parts is so_far n h =
     so_far n (subst (λ (t : List ℕ). AreDigits t n) (sym parts) (base64.between c rest n is h))
 
-nothing : (xs : List ℕ) → length xs ≡ 0 → xs ≡ []
-nothing [] e = refl
-nothing (x ∷ xs) e = grind (arith, e)
-
 -- At the end of the digits.
 pub digits_to_end :
     (digits left numbers : List ℕ) → length left ≡ 0 → ((n : List ℕ) → AreDigits left n → AreDigits digits (numbers ++ n)) → AreDigits digits numbers
 digits_to_end digits left numbers none so_far =
     subst (λ (b : List ℕ). AreDigits digits b) (append-nil numbers)
-    (so_far [] (subst (λ (t : List ℕ). AreDigits t []) (sym (nothing left none)) base64.ends))
+    (so_far [] (subst (λ (t : List ℕ). AreDigits t []) (sym (nil_from_length left none)) base64.ends))

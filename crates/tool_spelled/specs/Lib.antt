@@ -1,4 +1,10 @@
+pub mod Base45
 pub mod Base64
+pub mod Comments
+pub mod Dump
 pub mod Framed
 pub mod Hexadecimal
+pub mod Number
+pub mod Pieces
 pub mod Spelled
+pub mod Utf16

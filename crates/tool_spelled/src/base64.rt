@@ -4,7 +4,7 @@ ghost use Rattle.std.specs.Prelude.{[], ◌∷◌, ◌≡◌, ◌*◌, ◌+◌, 
 ghost use Rattle.tool_spelled.specs.Base64.{AreDigits, IsBase64, IsPadding, bytes_of, digit_number, first_byte, second_byte, third_byte, is_break};
 ghost use Rattle.tool_spelled.specs.Spelled.{IsWithin};
 
-use crate::read::Misspelled;
+use crate::read::{Misspelled, Why};
 use std::alloc::{AllocError, Global};
 
 /// Returns true if the character may be between digits, which means white space.
@@ -62,7 +62,9 @@ fn numbers(alloc: Global, digits: &[u8]) -> Result<Result<Vec<u8>, Misspelled>, 
         if !is_break(*digit) {
             match digit_number(*digit) {
                 Some(number) => numbers.push(number)?,
-                None => return Ok(Err(Misspelled(digits.len() - left.len()))),
+                None => {
+                    return Ok(Err(Misspelled(digits.len() - left.len(), Why::Digit)));
+                }
             }
         }
         left = rest;
@@ -132,7 +134,7 @@ pub(crate) fn bytes(alloc: Global, text: &[u8]) -> Result<Result<Vec<u8>, Misspe
     match numbers(alloc, digits)? {
         Ok(numbers) => match bytes_of(alloc, &numbers)? {
             Some(bytes) => Ok(Ok(bytes)),
-            None => Ok(Err(Misspelled(text.len()))),
+            None => Ok(Err(Misspelled(text.len(), Why::Digit))),
         },
         Err(misspelled) => Ok(Err(misspelled)),
     }

@@ -4,6 +4,9 @@ ghost use Rattle.std.specs.Prelude.{◌≡◌, ◌++◌, IfSome, List, ℕ, leng
 ghost use Rattle.tool_spelled.specs.Framed.{IsPart};
 
 use crate::hexadecimal::{is_between, is_prefix};
+use crate::layout::is_dump;
+use crate::part::{behind_word, cut, is_space, without_end, without_front, without_mark};
+use crate::source::find;
 
 /// How bytes are spelled.
 #[derive(Clone, Copy, Debug, PartialEq, Eq)]
@@ -14,22 +17,40 @@ pub enum Spelling {
     Hexadecimal,
     /// In base64 or base64url.
     Base64,
+    /// In hexadecimal with comments.
+    Commented,
+    /// As an array of source code: numbers from 0 to 255, in decimal or after `0x`.
+    Array,
+    /// As a literal of Python's `bytes`, by characters and escapes.
+    Literal,
+    /// As a dump of `xxd`, `hexdump -C` or `od -t x1`.
+    Dump,
+    /// In percent-encoding.
+    Percent,
+    /// In base45.
+    Base45,
+}
+
+/// The spellings that are considered.
+#[derive(Clone, Copy, Debug, PartialEq, Eq)]
+pub(crate) enum Way {
+    /// A dump, otherwise as `Usual`.
+    Dump,
+    /// Raw bytes, hexadecimal or base64.
+    Usual,
+    /// A spelling that marks itself or has a frame, otherwise as `Usual`.
+    Other,
 }
 
 /// A part of an input that spells bytes, and how it spells them.
 #[derive(Clone, Copy, Debug)]
-pub struct Text<'a> {
+pub(crate) struct Text<'a> {
     /// How the text spells the bytes.
-    pub spelling: Spelling,
+    pub(crate) spelling: Spelling,
     /// The offset of the text in the input.
-    pub offset: usize,
+    pub(crate) offset: usize,
     /// The text.
-    pub text: &'a [u8],
-}
-
-/// Returns true if the character is white space.
-fn is_space(byte: u8) -> bool {
-    matches!(byte, b'\t' | b'\n' | 0x0c | b'\r' | b' ')
+    pub(crate) text: &'a [u8],
 }
 
 /// Returns true if the bytes are text: UTF-8 without control characters other than white space.
@@ -38,47 +59,6 @@ fn is_text(input: &[u8]) -> bool {
         && input
             .iter()
             .all(|byte| is_space(*byte) || (b' ' <= *byte && *byte != 0x7f))
-}
-
-/// Returns the text after the white space at the front.
-fn without_front(text: &[u8]) -> &[u8]
-    ensures { (front : List ℕ) × (text.now ≡ front ++ result.now) }
-{
-    let mut left = text;
-    while let Some((first, rest)) = left.split_first() {
-        if !is_space(*first) {
-            return left;
-        }
-        left = rest;
-    }
-    left
-}
-
-/// Returns the text before the white space at the end.
-fn without_end(text: &[u8]) -> &[u8]
-    ensures { (back : List ℕ) × (text.now ≡ result.now ++ back) }
-{
-    let mut left = text;
-    while let Some((last, rest)) = left.split_last() {
-        if !is_space(*last) {
-            return left;
-        }
-        left = rest;
-    }
-    left
-}
-
-/// Returns the text after the word, if the text begins with it. The word's letters may be of either
-/// case.
-fn behind_word<'a>(text: &'a [u8], word: &[u8]) -> Option<&'a [u8]>
-    ensures { IfSome result (λ t. (front : List ℕ) × (text.now ≡ front ++ t.now)) }
-{
-    let (front, rest) = text.split_at(word.len().min(text.len()));
-    if front.eq_ignore_ascii_case(word) {
-        Some(rest)
-    } else {
-        None
-    }
 }
 
 /// Returns the text after `Authorization:` and white space, or the whole text if it doesn't begin
@@ -115,11 +95,12 @@ fn quoted<'a>(text: &'a [u8], front: &[u8]) -> Option<&'a [u8]>
     Some(found)
 }
 
-/// Returns true if a text without quotes is meant as hexadecimal.
+/// Returns true if a text without quotes is meant as hexadecimal, otherwise as base64.
 ///
-/// This is so if it begins with `0x` or `\x`, or has a separator within a line. It is also so if at
-/// least two thirds of it are hexadecimal digits, line breaks aside. In base64 about a third are.
-fn is_hexadecimal(text: &[u8]) -> bool {
+/// This is so if it begins with `0x` or `\x`, or has a separator within a line. It is also so if
+/// at least two thirds of it are hexadecimal digits, line breaks aside. In base64 about a third
+/// are.
+pub(crate) fn is_hexadecimal(text: &[u8]) -> bool {
     if let [first, second, ..] = text {
         if is_prefix(*first, *second) {
             return true;
@@ -176,14 +157,46 @@ fn part(text: &[u8]) -> Text<'_>
     }
 }
 
-/// Returns the part of the input that spells its bytes, and how it does.
+/// Returns the part of the text that another spelling or its frame marks.
+fn other(text: &[u8]) -> Option<Text<'_>>
+    ensures { IfSome result (λ t. IsPart text.now t.offset t.text.now) }
+{
+    let found = find(text)?;
+    let part = cut(text, found.start, found.end)?;
+    Some(Text {
+        spelling: found.spelling,
+        offset: found.start,
+        text: part,
+    })
+}
+
+/// Returns the part of the text that spells bytes this way, and how it does.
+fn part_as(way: Way, text: &[u8]) -> Text<'_>
+    ensures { IsPart text.now result.offset result.text.now }
+{
+    match way {
+        Way::Dump if is_dump(text) => Text {
+            spelling: Spelling::Dump,
+            offset: 0,
+            text,
+        },
+        Way::Other => match other(text) {
+            Some(found) => found,
+            None => part(text),
+        },
+        _ => part(text),
+    }
+}
+
+/// Returns the part of the input that spells bytes this way, and how it does. White space around
+/// it and a byte order mark don't count.
 ///
-/// - An input that is no text is raw bytes.
-/// - Between `h'` and `'` it is hexadecimal.
-/// - Between `b64'` and `'`, or after `Bearer`, it is base64 or base64url.
-/// - Any other text is hexadecimal if it begins with `0x` or `\x`, or has separators or mostly
-///   hexadecimal digits. Otherwise it is base64.
-pub fn text_of(input: &[u8]) -> Text<'_>
+/// An input that is no text is raw bytes. By `Way::Usual`, the spelling of a text is:
+/// - hexadecimal between `h'` and `'`;
+/// - base64 or base64url between `b64'` and `'`, or after `Bearer`;
+/// - otherwise hexadecimal if it begins with `0x` or `\x`, or has separators or mostly hexadecimal
+///   digits, and base64 if not.
+pub(crate) fn text_of(way: Way, input: &[u8]) -> Text<'_>
     ensures { IsPart input.now result.offset result.text.now }
 {
     if !is_text(input) {
@@ -194,8 +207,8 @@ pub fn text_of(input: &[u8]) -> Text<'_>
         };
     }
     let trimmed = without_end(input);
-    let inner = without_front(trimmed);
-    let found = part(inner);
+    let inner = without_front(without_mark(trimmed));
+    let found = part_as(way, inner);
     Text {
         spelling: found.spelling,
         offset: trimmed.len() - inner.len() + found.offset,

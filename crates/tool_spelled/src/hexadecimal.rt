@@ -4,11 +4,11 @@ ghost use Rattle.std.specs.Prelude.{◌≡◌, IfErr, IfOk, IfSome};
 ghost use Rattle.tool_spelled.specs.Hexadecimal.{BeginsWithByte, IsBehindPrefix, IsByte, IsFront, IsHexadecimal, is_between, is_prefix};
 ghost use Rattle.tool_spelled.specs.Spelled.{IsWithin};
 
-use crate::read::Misspelled;
+use crate::read::{Misspelled, Why};
 use std::alloc::{AllocError, Global};
 
 /// The next part of a text.
-enum Next<'a> {
+pub(crate) enum Next<'a> {
     /// The end of the text.
     End,
     /// A separator between bytes, and the text after it.
@@ -54,7 +54,7 @@ fn without_prefix(text: &[u8]) -> &[u8]
 
 /// Returns the byte at the front of the text and the text after it, or the offset of the missing
 /// digit.
-fn byte_at_front(text: &[u8]) -> Next<'_>
+pub(crate) fn byte_at_front(text: &[u8]) -> Next<'_>
     ensures { BeginsWithByte text.now result }
 {
     match text {
@@ -107,7 +107,8 @@ pub(crate) fn bytes(alloc: Global, text: &[u8]) -> Result<Result<Vec<u8>, Misspe
                 left = rest;
             }
             Next::Misspelled(offset) => {
-                return Ok(Err(Misspelled(text.len() - left.len() + offset)));
+                let place = text.len() - left.len() + offset;
+                return Ok(Err(Misspelled(place, Why::Digit)));
             }
         }
     }

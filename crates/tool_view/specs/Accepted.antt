@@ -1,11 +1,9 @@
 -- The meaning of a status of 0.
-use Rattle.std.specs.Prelude.{◌≡◌, ℕ, List, None}
+use Rattle.std.specs.Prelude.{◌≡◌, ℕ, Bool, List, None}
 use Rattle.tool_explain.specs.Refusal.{JudgesAs}
 use Rattle.tool_explain.specs.declared.kind.Kind.{Kind}
 use Rattle.tool_explain.specs.declared.kind.Kind.TheVariants as kinds
-use Rattle.tool_spelled.specs.Framed.{IsPart}
-use Rattle.tool_spelled.specs.Spelled.{Spells}
-use Rattle.tool_spelled.specs.declared.framed.Spelling.{Spelling}
+use Rattle.tool_view.specs.Meaning.{Means}
 
 -- The library reads the bytes as the kind. If the kind is `Auto`, it reads them as some kind.
 pub record Accepts (kind : Kind) (bytes : List ℕ) : Type 0 where
@@ -13,12 +11,8 @@ pub record Accepts (kind : Kind) (bytes : List ℕ) : Type 0 where
   pub named : (kind ≡ kinds.Auto → ⊥) → read_as ≡ kind
   pub judged : JudgesAs read_as bytes None
 
--- The library reads the bytes that a part of the input spells, as above.
-pub record AcceptsInput (kind : Kind) (input : List ℕ) : Type 0 where
-  pub spelling : Spelling
-  pub offset : ℕ
-  pub text : List ℕ
+-- The library reads the bytes of the input, as above.
+pub record AcceptsInput (is_notation : Bool) (kind : Kind) (input : List ℕ) : Type 0 where
   pub bytes : List ℕ
-  pub part : IsPart input offset text
-  pub spells : Spells spelling text bytes
+  pub means : Means is_notation input bytes
   pub accepted : Accepts kind bytes

@@ -36,11 +36,13 @@ pub struct Asked {
     pub is_colored: bool,
     /// Whether long strings and rows of bytes are cut.
     pub is_short: bool,
+    /// Whether the input is read as diagnostic notation only.
+    pub is_notation: bool,
 }
 
 impl Asked {
     /// Returns the default options: the kind by the tag, bytes and notes, no moment, an empty
-    /// `external_aad`, no colours, nothing cut.
+    /// `external_aad`, no colours, nothing cut, any spelling.
     pub fn new(alloc: Global) -> Asked {
         Asked {
             kind: Kind::Auto,
@@ -49,6 +51,7 @@ impl Asked {
             external_aad: Vec::new(alloc),
             is_colored: false,
             is_short: false,
+            is_notation: false,
         }
     }
 }

@@ -4,7 +4,9 @@
 
 mod asked;
 mod json;
+mod misread;
 mod page;
+mod read;
 mod respelled;
 mod rows;
 mod sequence;
@@ -12,5 +14,6 @@ mod shown;
 
 pub use asked::{Asked, Form};
 pub use page::{END, FRONT};
-pub use respelled::hexadecimal;
+pub use read::{Reading, read_bytes};
+pub use respelled::{Respelled, To, respell};
 pub use shown::{Shown, UNANSWERED, look};

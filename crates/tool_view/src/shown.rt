@@ -8,6 +8,7 @@ ghost use Rattle.tool_view.specs.Accepted.{Accepts, AcceptsInput};
 use crate::asked::{Asked, Form};
 use crate::json::{Told, object};
 use crate::page::section;
+use crate::read::{Reading, read_bytes};
 use crate::rows::rows;
 use crate::sequence::{items, mark, push_item};
 use coset::CoseError;
@@ -16,7 +17,6 @@ use tool_explain::{
     Kind, Line, Style, commented, explain, explain_whole, fault, fitting, notation, shortened_note,
     structure_notes, styled,
 };
-use tool_spelled::{Spelling, line_and_column, text_of};
 
 /// The status of an input that has its kind.
 pub(crate) const TAKEN: u8 = 0;
@@ -43,74 +43,6 @@ fn status_of(is_refused: bool) -> u8
     ensures { result ≡ 0 → is_refused ≡ false }
 {
     if is_refused { REFUSED } else { TAKEN }
-}
-
-/// Returns the name of a spelling.
-fn spelling_name(spelling: Spelling) -> &'static str {
-    match spelling {
-        Spelling::Binary => "binary",
-        Spelling::Hexadecimal => "hexadecimal",
-        Spelling::Base64 => "base64",
-    }
-}
-
-/// Returns the character at the offset, if a terminal shows it. Returns `None` at the end of the
-/// input too.
-fn shown_at(input: &[u8], offset: usize) -> Option<char> {
-    let (_, rest) = input.split_at(offset.min(input.len()));
-    let c = str::from_utf8(rest).ok()?.chars().next()?;
-    if c.is_whitespace() || c.is_control() {
-        None
-    } else {
-        Some(c)
-    }
-}
-
-/// Returns the name of a digit of a spelling.
-fn digit(spelling: Spelling) -> &'static str {
-    match spelling {
-        Spelling::Hexadecimal => "hexadecimal digit",
-        _ => "digit of base64",
-    }
-}
-
-/// Returns advice about a character that is no digit.
-fn hint(spelling: Spelling, c: char) -> &'static str {
-    match (spelling, c) {
-        (Spelling::Hexadecimal, _) => "; base64 that looks like hexadecimal is read as b64'..'",
-        (_, '.') => "; a JSON web token, whose parts have dots between them, holds no CBOR",
-        _ => "",
-    }
-}
-
-/// Returns the text that the input was read as so many bytes.
-pub(crate) fn read_as(
-    alloc: Global,
-    spelling: Spelling,
-    count: usize,
-) -> Result<String, AllocError> {
-    let spelling = spelling_name(spelling);
-    format!(in alloc; "read as {spelling}, {count} bytes")
-}
-
-/// Returns the text that the input is misspelled at this offset.
-pub(crate) fn misspelled(
-    alloc: Global,
-    spelling: Spelling,
-    input: &[u8],
-    offset: usize,
-) -> Result<String, AllocError> {
-    let (line, column) = line_and_column(input, offset);
-    let mut text = format!(in alloc; "error: line {line}, column {column}: ")?;
-    let digit = digit(spelling);
-    match shown_at(input, offset) {
-        Some(c) => {
-            let hint = hint(spelling, c);
-            write!(text, "'{c}' is no {digit}{hint}")?;
-        }
-        None => write!(text, "a {digit} is missing")?,
-    }
-    Ok(text)
 }
 
 /// Returns true if the bytes begin with a tag.
@@ -467,23 +399,18 @@ fn unread(alloc: Global, name: &str, said: &str) -> Result<String, AllocError> {
 
 /// Returns the output for an input of that name.
 ///
-/// The status is 0 only if the library reads the bytes that the input spells as its kind.
+/// The status is 0 only if the library reads the input's bytes as its kind.
 ///
 /// # Errors
 /// `AllocError` if an allocation fails.
 pub fn look(alloc: Global, asked: &Asked, input: &[u8], name: &str) -> Result<Shown, AllocError>
     ensures { IfOk result
-        (λ shown. shown.status ≡ 0 → AcceptsInput asked.entry.now.kind input.now) }
+        (λ shown. shown.status ≡ 0
+        → AcceptsInput asked.entry.now.is_notation asked.entry.now.kind input.now) }
 {
-    let spelled = text_of(input);
-    match spelled.bytes(alloc)? {
-        Ok(bytes) => {
-            let said = read_as(alloc, spelled.spelling, bytes.len())?;
-            look_at(alloc, asked, &bytes, said, name)
-        }
-        Err(place) => {
-            let offset = spelled.offset.saturating_add(place.0);
-            let said = misspelled(alloc, spelled.spelling, input, offset)?;
+    match read_bytes(alloc, asked.is_notation, input)? {
+        Ok(Reading { bytes, said }) => look_at(alloc, asked, &bytes, said, name),
+        Err(said) => {
             let text = match asked.form {
                 Form::Page => section(alloc, name, said.as_str(), &[], &[], false)?,
                 Form::Rows => rows(alloc, said.as_str(), "", &[], &[])?,

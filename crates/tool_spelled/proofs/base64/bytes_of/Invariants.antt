@@ -1,4 +1,4 @@
-use Rattle.std.proofs.Common.{◌≡◌, ◌++◌, ℕ, List, Option, length}
+use Rattle.std.proofs.Common.{◌≡◌, ◌++◌, length}
 use Rattle.std.specs.Prelude.{option_map}
 use Rattle.tool_spelled.specs.Base64.{bytes_of}
 use Rattle.tool_spelled.proofs.base64.bytes_of.Given as goal

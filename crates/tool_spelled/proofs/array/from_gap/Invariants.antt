@@ -1,5 +1,5 @@
 use Rattle.std.proofs.Common.{◌≡◌, ◌++◌, ℕ, List, length}
-use Rattle.tool_spelled.proofs.framed.without_front.Given as goal
+use Rattle.tool_spelled.proofs.array.from_gap.Given as goal
 
 abbrev pub decreases-loop-first : goal.decreases-loop-first
 decreases-loop-first l = length l.left

@@ -1,5 +1,5 @@
 use Rattle.std.proofs.Common.{◌≡◌, ◌++◌, ℕ, List, length}
-use Rattle.tool_spelled.proofs.framed.without_end.Given as goal
+use Rattle.tool_spelled.proofs.part.without_end.Given as goal
 
 abbrev pub decreases-loop-last : goal.decreases-loop-last
 decreases-loop-last l = length l.left

@@ -1,5 +1,5 @@
 use Rattle.tool_spelled.proofs.Parts.{behind_first}
-use Rattle.tool_spelled.proofs.framed.without_front.Goals as goal
+use Rattle.tool_spelled.proofs.part.without_front.Goals as goal
 
 pub loop-first-preserved : goal.loop-first-preserved
 loop-first-preserved c =

@@ -1,0 +1,132 @@
+//! The elements of an array in source code: numbers from 0 to 255.
+
+ghost use Rattle.std.specs.Prelude.{◌≡◌, ◌==◌, ◌||◌, ◌++◌, ◌<◌, List, true, ℕ};
+ghost use Rattle.std.specs.Prelude.{IfErr, IfOk, IfSome};
+ghost use Rattle.tool_spelled.specs.Comments.{without_comments};
+ghost use Rattle.tool_spelled.specs.Pieces.{ArePieces, IsElement, IsFirstPiece};
+ghost use Rattle.tool_spelled.specs.Pieces.{IsNumber, begins_with_gap, is_gap, IsWithoutSuffix};
+ghost use Rattle.tool_spelled.specs.Spelled.{IsWithin};
+ghost use Rattle.tool_spelled.specs.declared.comments.Place.TheVariants.{Outside};
+ghost use Rattle.tool_spelled.specs.declared.pieces.Format.TheVariants.{Array};
+
+use crate::comments::without_comments;
+use crate::hexadecimal::Next;
+use crate::number::number;
+use crate::part::{before, behind_byte};
+use crate::pieces::{self, Format};
+use crate::read::Misspelled;
+use std::alloc::{AllocError, Global};
+
+/// Returns true if the character may be between elements: white space or a comma.
+fn is_gap(byte: u8) -> bool
+    ensures { result ≡ is_gap byte }
+{
+    matches!(byte, b'\t' | b'\n' | 0x0c | b'\r' | b' ' | b',')
+}
+
+/// Returns the text from its first gap.
+fn from_gap(text: &[u8]) -> &[u8]
+    ensures rest { (front : List ℕ) × (text.now ≡ front ++ result.now) }
+    ensures gap { begins_with_gap result.now ≡ true }
+{
+    let mut left = text;
+    while let Some((first, rest)) = left.split_first() {
+        if is_gap(*first) {
+            return left;
+        }
+        left = rest;
+    }
+    left
+}
+
+/// Returns the word without the suffix `u8` of Rust.
+fn without_suffix(word: &[u8]) -> &[u8]
+    ensures { IsWithoutSuffix word.now result.now }
+{
+    match word {
+        [digits @ .., b'u', b'8'] => digits,
+        _ => word,
+    }
+}
+
+/// Returns true if the character is `x` in either case.
+fn is_x(byte: u8) -> bool
+    ensures { result ≡ (byte == 120 || byte == 88) }
+{
+    byte == b'x' || byte == b'X'
+}
+
+/// Returns the number that hexadecimal digits write after `0x`.
+fn hexadecimal(digits: &[u8]) -> Option<u64>
+    ensures { IfSome result (IsNumber digits.now) }
+{
+    let behind = behind_byte(digits, b'0')?;
+    let (x, rest) = behind.split_first()?;
+    if !is_x(*x) {
+        return None;
+    }
+    if rest.is_empty() {
+        return None;
+    }
+    number(16, rest)
+}
+
+/// Returns the number that the decimal digits write. A zero before other digits is refused,
+/// because C would read octal.
+fn decimal(digits: &[u8]) -> Option<u64>
+    ensures { IfSome result (IsNumber digits.now) }
+{
+    if digits.is_empty() {
+        return None;
+    }
+    if digits.len() > 1 && digits.starts_with(b"0") {
+        return None;
+    }
+    number(10, digits)
+}
+
+/// Returns the number of the word, or `None` if it isn't a number from 0 to 255.
+fn element(word: &[u8]) -> Option<u8>
+    ensures { IfSome result (IsElement word.now) }
+{
+    let digits = without_suffix(word);
+    let number = match hexadecimal(digits) {
+        Some(number) => number,
+        None => decimal(digits)?,
+    };
+    u8::try_from(number).ok()
+}
+
+/// Returns the element at the front of the text.
+pub(crate) fn front(text: &[u8]) -> Next<'_>
+    ensures { IsFirstPiece Array text.now result }
+{
+    let Some((first, rest)) = text.split_first() else {
+        return Next::End;
+    };
+    if is_gap(*first) {
+        return Next::Between(rest);
+    }
+    let behind = from_gap(rest);
+    let word = before(text, behind);
+    match element(word) {
+        Some(byte) => Next::Byte(byte, behind),
+        None => Next::Misspelled(0),
+    }
+}
+
+/// Returns the bytes of the elements, without the comments between them, or where they are
+/// misspelled.
+///
+/// # Errors
+/// `AllocError` if an allocation fails.
+pub(crate) fn bytes(alloc: Global, text: &[u8]) -> Result<Result<Vec<u8>, Misspelled>, AllocError>
+    ensures spelled { IfOk result (λ r. IfOk r (λ bytes.
+        ArePieces Array (without_comments Outside text.now) bytes.items)) }
+    ensures within { IfOk result (λ r. IfErr r (IsWithin text.now)) }
+{
+    match without_comments(alloc, text)? {
+        Ok(elements) => pieces::bytes(alloc, Format::Array, &elements),
+        Err(misspelled) => Ok(Err(misspelled)),
+    }
+}

@@ -1,0 +1,63 @@
+//! Texts that consist of pieces. Each piece stands for one byte, or for none.
+
+ghost use Rattle.std.specs.Prelude.{◌≡◌, IfErr, IfOk};
+ghost use Rattle.tool_spelled.specs.Pieces.{ArePieces, IsFirstPiece};
+ghost use Rattle.tool_spelled.specs.Spelled.{IsWithin};
+
+use crate::hexadecimal::Next;
+use crate::read::{Misspelled, Why};
+use crate::{array, literal, percent};
+use std::alloc::{AllocError, Global};
+
+/// A format whose texts consist of pieces.
+#[derive(Clone, Copy)]
+pub(crate) enum Format {
+    /// The elements of an array.
+    Array,
+    /// The characters and escapes of a literal of Python's `bytes`.
+    Literal,
+    /// Percent-encoding.
+    Percent,
+}
+
+/// Returns the piece at the front of the text.
+fn front(format: Format, text: &[u8]) -> Next<'_>
+    ensures { IsFirstPiece format text.now result }
+{
+    match format {
+        Format::Array => array::front(text),
+        Format::Literal => literal::front(text),
+        Format::Percent => percent::front(text),
+    }
+}
+
+/// Returns the bytes of the text's pieces, or where it is misspelled.
+///
+/// # Errors
+/// `AllocError` if an allocation fails.
+pub(crate) fn bytes(
+    alloc: Global,
+    format: Format,
+    text: &[u8],
+) -> Result<Result<Vec<u8>, Misspelled>, AllocError>
+    ensures spelled { IfOk result (λ r. IfOk r (λ bytes.
+        ArePieces format text.now bytes.items)) }
+    ensures within { IfOk result (λ r. IfErr r (IsWithin text.now)) }
+{
+    let mut bytes = Vec::new(alloc);
+    let mut left = text;
+    loop {
+        match front(format, left) {
+            Next::End => return Ok(Ok(bytes)),
+            Next::Between(rest) => left = rest,
+            Next::Byte(byte, rest) => {
+                bytes.push(byte)?;
+                left = rest;
+            }
+            Next::Misspelled(offset) => {
+                let place = text.len() - left.len() + offset;
+                return Ok(Err(Misspelled(place, Why::Digit)));
+            }
+        }
+    }
+}
