@@ -1,14 +1,16 @@
 -- Reading a dump, one line at a time.
-use Rattle.std.proofs.Common.{◌≡◌, ◌<◌, ◌+◌, ℕ, List, [], ◌∷◌, ◌++◌, ◌∙◌, true, length, sym, ap, subst, arith, append_assoc, length-append}
+use Rattle.std.proofs.Common.{◌≡◌, ◌<◌, ◌+◌, ℕ, List, [], ◌∷◌, ◌++◌, ◌∙◌, true, length}
+use Rattle.std.proofs.Common.{sym, ap, subst, arith, append_assoc, length-append}
 use Rattle.std.proofs.lemmas.List.{append-nil, nil_from_length}
 use Rattle.tool_spelled.specs.Dump.{BeginsDump, IsAt, IsDump, after_line, is_blank}
 use Rattle.tool_spelled.specs.Dump as dump
-use Rattle.tool_spelled.specs.Hexadecimal.{IsHexadecimal}
+use Rattle.tool_spelled.specs.Pieces.{ArePieces}
+use Rattle.tool_spelled.specs.declared.pieces.Format.TheVariants.{Hexadecimal}
 
 -- A line that was read.
 pub line_read :
     (radix n : ℕ) (text offset fields side rest bytes : List ℕ) → text ≡ offset ++ ((fields ++ side) ++ rest)
-    → after_line ((fields ++ side) ++ rest) ≡ rest → length rest < length text → IsAt radix n offset → IsHexadecimal fields bytes
+    → after_line ((fields ++ side) ++ rest) ≡ rest → length rest < length text → IsAt radix n offset → ArePieces Hexadecimal fields bytes
     → BeginsDump radix n text bytes rest
 line_read radix n text offset fields side rest bytes parts behind shorter at is =
     (λ more h. subst (λ (t : List ℕ). IsDump radix n t (bytes ++ more)) (sym parts) (dump.line n offset fields side rest bytes more at is behind h), shorter)

@@ -1,3 +1,4 @@
+pub mod Base64Steps
 pub mod Characters
 pub mod Commented
 pub mod Dumps
@@ -5,4 +6,3 @@ pub mod Groups
 pub mod Numbers
 pub mod Parts
 pub mod PieceSteps
-pub mod Steps

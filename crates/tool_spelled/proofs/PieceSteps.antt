@@ -1,14 +1,16 @@
 -- Reading a text that consists of pieces, one piece at a time.
-use Rattle.std.proofs.Common.{◌≡◌, ◌+◌, ◌<◌, ℕ, List, [], ◌∷◌, ◌++◌, ◌∙◌, true, Some, length, sym, ap, subst, arith, lit<, append_assoc, length-append}
+use Rattle.std.proofs.Common.{◌≡◌, ◌≤◌, ◌+◌, ◌<◌, inl, inr, ℕ, List, [], ◌∷◌, ◌++◌, ◌∙◌, true, Some, length}
+use Rattle.std.proofs.Common.{sym, ap, subst, arith, lit<, append_assoc, length-append}
 use Rattle.std.proofs.lemmas.List.{append-nil}
-use Rattle.tool_spelled.specs.Hexadecimal.{BeginsWithByte, IsByte}
+use Rattle.tool_spelled.specs.Hexadecimal.{BeginsWithByte, IsBehindPrefix, IsByte, IsHexadecimal, is_prefix}
+use Rattle.tool_spelled.specs.Hexadecimal as hexadecimal
 use Rattle.tool_spelled.specs.Pieces.{ArePieces, IsElement, IsEscape, IsFirstPiece, IsGap, IsLiteral, IsPercent, IsPiece}
 use Rattle.tool_spelled.specs.Pieces.{begins_with_gap, escape, is_of_url, is_plain}
 use Rattle.tool_spelled.specs.Pieces as pieces
-use Rattle.tool_spelled.specs.declared.hexadecimal.Next.{Next}
-use Rattle.tool_spelled.specs.declared.hexadecimal.Next.TheVariants.{End, Between, Byte, Misspelled}
 use Rattle.tool_spelled.specs.declared.pieces.Format.{Format}
-use Rattle.tool_spelled.specs.declared.pieces.Format.TheVariants.{Percent}
+use Rattle.tool_spelled.specs.declared.pieces.Format.TheVariants.{Hexadecimal, Percent}
+use Rattle.tool_spelled.specs.declared.pieces.Next.{Next}
+use Rattle.tool_spelled.specs.declared.pieces.Next.TheVariants.{End, Between, Byte, Misspelled}
 
 -- The text has one more gap.
 pub one_gap :
@@ -31,6 +33,33 @@ pub pieces_to_end :
 pieces_to_end f text left bytes none before =
     subst (λ (b : List ℕ). ArePieces f text b) (append-nil bytes)
     (before [] (subst (λ (t : List ℕ). ArePieces f t []) (sym none) pieces.ends))
+
+-- ---- the pieces of hexadecimal
+
+digits_alone :
+    (text rest : List ℕ) (x y v : ℕ) → text ≡ x ∷ y ∷ rest → IsByte x y v
+    → (p : List ℕ) × (text ≡ p ++ rest) × IsHexadecimal p v × (0 < length p)
+digits_alone text rest x y v parts is = (x ∷ y ∷ [], parts, hexadecimal.digits x y v is, lit< tt)
+
+prefixed_digits :
+    (text rest : List ℕ) (c m x y v : ℕ) → text ≡ c ∷ m ∷ x ∷ y ∷ rest → is_prefix c m ≡ true → IsByte x y v
+    → (p : List ℕ) × (text ≡ p ++ rest) × IsHexadecimal p v × (0 < length p)
+prefixed_digits text rest c m x y v parts prefix is = (c ∷ m ∷ x ∷ y ∷ [], parts, hexadecimal.prefixed c m x y v prefix is, lit< tt)
+
+-- The byte behind a prefix or without one, or the fault in its digits.
+pub behind_prefix : (text digits : List ℕ) (n : Next) → IsBehindPrefix text digits → BeginsWithByte digits n → IsFirstPiece Hexadecimal text n
+behind_prefix text digits End w n = absurd n
+behind_prefix text digits (Between rest) w n = absurd n
+behind_prefix text digits (Byte v rest) w n =
+    elim w [
+      | inl same ↦ digits_alone text rest.now n.0 n.1 v (sym same ∙ n.2) n.3
+      | inr p ↦ prefixed_digits text rest.now p.0 p.1 n.0 n.1 v (p.2 ∙ ap (λ t. p.0 ∷ p.1 ∷ t) n.2) p.3 n.3
+    ]
+behind_prefix text digits (Misspelled n) w h =
+    elim w [
+      | inl same ↦ subst (λ (t : List ℕ). n ≤ length t) same h
+      | inr p ↦ let e = ap length p.2 in grind (arith, e, h)
+    ]
 
 -- ---- the pieces of a literal
 

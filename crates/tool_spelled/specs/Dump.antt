@@ -1,8 +1,10 @@
 -- Dumps: lines of an offset, bytes, and a text beside them.
-use Rattle.std.specs.Prelude.{◌≡◌, ◌==◌, ◌||◌, ◌<◌, ◌+◌, if◌then◌else◌, ℕ, List, [], ◌∷◌, ◌++◌, Bool, true, Some, length}
-use Rattle.tool_spelled.specs.Hexadecimal.{IsHexadecimal}
+use Rattle.std.specs.Prelude.{◌≡◌, ◌==◌, ◌||◌, ◌<◌, ◌+◌, if◌then◌else◌}
+use Rattle.std.specs.Prelude.{ℕ, List, [], ◌∷◌, ◌++◌, Bool, true, Some, length}
 use Rattle.tool_spelled.specs.Number.{number}
+use Rattle.tool_spelled.specs.Pieces.{ArePieces}
 use Rattle.tool_spelled.specs.declared.dump.Line.{Line}
+use Rattle.tool_spelled.specs.declared.pieces.Format.TheVariants.{Hexadecimal}
 
 -- White space, which may be before an offset.
 abbrev pub is_blank : ℕ → Bool
@@ -22,8 +24,8 @@ pub data IsDump (radix : ℕ) : ℕ → List ℕ → List ℕ → Type 0 where
   ends : (n : ℕ) → IsDump radix n [] []
   blank : (n c : ℕ) (text bytes : List ℕ) → is_blank c ≡ true → IsDump radix n text bytes → IsDump radix n (c ∷ text) bytes
   line :
-      (n : ℕ) (offset fields side rest bytes more : List ℕ) → IsAt radix n offset → IsHexadecimal fields bytes → after_line ((fields ++ side) ++ rest) ≡ rest
-      → IsDump radix (n + length bytes) rest more → IsDump radix n (offset ++ ((fields ++ side) ++ rest)) (bytes ++ more)
+      (n : ℕ) (offset fields side rest bytes more : List ℕ) → IsAt radix n offset → ArePieces Hexadecimal fields bytes
+      → after_line ((fields ++ side) ++ rest) ≡ rest → IsDump radix (n + length bytes) rest more → IsDump radix n (offset ++ ((fields ++ side) ++ rest)) (bytes ++ more)
 
 -- If the rest is a dump from the offset after these bytes on, the text is a dump of these bytes and the others.
 abbrev pub BeginsDump : ℕ → ℕ → List ℕ → List ℕ → List ℕ → Type 0

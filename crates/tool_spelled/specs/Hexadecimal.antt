@@ -1,8 +1,9 @@
 -- Bytes in hexadecimal (RFC 4648, section 8).
-use Rattle.std.specs.Prelude.{◌≡◌, ◌==◌, ◌&&◌, ◌||◌, ◌<◌, ◌≤◌, ◌+◌, ◌*◌, ◌⊎◌, ℕ, List, [], ◌∷◌, Bool, true, length}
+use Rattle.std.specs.Prelude.{◌≡◌, ◌==◌, ◌&&◌, ◌||◌, ◌<◌, ◌≤◌, ◌+◌, ◌*◌, ◌⊎◌}
+use Rattle.std.specs.Prelude.{ℕ, List, [], ◌∷◌, Bool, true, length}
 use Rattle.std.specs.Char.{digit_value}
-use Rattle.tool_spelled.specs.declared.hexadecimal.Next.{Next}
-use Rattle.tool_spelled.specs.declared.hexadecimal.Next.TheVariants as next
+use Rattle.tool_spelled.specs.declared.pieces.Next.{Next}
+use Rattle.tool_spelled.specs.declared.pieces.Next.TheVariants as next
 
 -- The characters that may be between bytes: white space, a comma, a colon.
 abbrev pub is_between : ℕ → Bool
@@ -16,26 +17,17 @@ is_prefix c x = (c == 48 || c == 92) && (x == 120 || x == 88)
 abbrev pub IsByte : ℕ → ℕ → ℕ → Type 0
 IsByte x y v = (digit_value x < 16) × (digit_value y < 16) × (v ≡ digit_value x * 16 + digit_value y)
 
--- The text spells the bytes. Each byte is two digits, which a prefix may precede. Separators may be between bytes.
-pub data IsHexadecimal : List ℕ → List ℕ → Type 0 where
-  ends : IsHexadecimal [] []
-  between : (c : ℕ) (t b : List ℕ) → is_between c ≡ true → IsHexadecimal t b → IsHexadecimal (c ∷ t) b
-  digits : (x y v : ℕ) (t b : List ℕ) → IsByte x y v → IsHexadecimal t b → IsHexadecimal (x ∷ y ∷ t) (v ∷ b)
-  prefixed : (c p x y v : ℕ) (t b : List ℕ) → is_prefix c p ≡ true → IsByte x y v → IsHexadecimal t b → IsHexadecimal (c ∷ p ∷ x ∷ y ∷ t) (v ∷ b)
+-- Two digits, which a prefix may precede.
+pub data IsHexadecimal : List ℕ → ℕ → Type 0 where
+  digits : (x y v : ℕ) → IsByte x y v → IsHexadecimal (x ∷ y ∷ []) v
+  prefixed : (c p x y v : ℕ) → is_prefix c p ≡ true → IsByte x y v → IsHexadecimal (c ∷ p ∷ x ∷ y ∷ []) v
 
 -- The rest is the text, or the text after a prefix.
 abbrev pub IsBehindPrefix : List ℕ → List ℕ → Type 0
 IsBehindPrefix text rest = (rest ≡ text) ⊎ ((c : ℕ) × (p : ℕ) × (text ≡ c ∷ p ∷ rest) × (is_prefix c p ≡ true))
 
--- The next part of a text is a byte without a prefix.
+-- The next piece of a text is a byte without a prefix.
 abbrev pub BeginsWithByte : List ℕ → Next → Type 0
 BeginsWithByte text (next.Byte v rest) = (x : ℕ) × (y : ℕ) × (text ≡ x ∷ y ∷ rest.now) × IsByte x y v
 BeginsWithByte text (next.Misspelled n) = n ≤ length text
 BeginsWithByte text n = ⊥
-
--- The next part of a text. If the rest spells bytes, the text spells them too, after the next byte if there is one.
-abbrev pub IsFront : List ℕ → Next → Type 0
-IsFront text next.End = text ≡ []
-IsFront text (next.Between rest) = ((b : List ℕ) → IsHexadecimal rest.now b → IsHexadecimal text b) × (length rest.now < length text)
-IsFront text (next.Byte v rest) = ((b : List ℕ) → IsHexadecimal rest.now b → IsHexadecimal text (v ∷ b)) × (length rest.now < length text)
-IsFront text (next.Misspelled n) = n ≤ length text

@@ -1,12 +1,12 @@
 -- Texts that consist of pieces. Each piece stands for one byte, or for none.
-use Rattle.std.specs.Prelude.{◌≡◌, ◌==◌, ◌&&◌, ◌||◌, ◌<◌, ◌≤◌, ◌+◌, ◌⊎◌, not, nat_le, if◌then◌else◌, ℕ, Bool, true}
-use Rattle.std.specs.Prelude.{List, [], ◌∷◌, ◌++◌, length, Option, Some, None}
-use Rattle.tool_spelled.specs.Hexadecimal.{IsByte}
+use Rattle.std.specs.Prelude.{◌≡◌, ◌==◌, ◌&&◌, ◌||◌, ◌<◌, ◌≤◌, ◌+◌, ◌⊎◌, not, nat_le, if◌then◌else◌}
+use Rattle.std.specs.Prelude.{ℕ, Bool, true, List, [], ◌∷◌, ◌++◌, length, Option, Some, None}
+use Rattle.tool_spelled.specs.Hexadecimal.{IsByte, IsHexadecimal, is_between}
 use Rattle.tool_spelled.specs.Number.{number}
-use Rattle.tool_spelled.specs.declared.hexadecimal.Next.{Next}
-use Rattle.tool_spelled.specs.declared.hexadecimal.Next.TheVariants as next
 use Rattle.tool_spelled.specs.declared.pieces.Format.{Format}
 use Rattle.tool_spelled.specs.declared.pieces.Format.TheVariants as formats
+use Rattle.tool_spelled.specs.declared.pieces.Next.{Next}
+use Rattle.tool_spelled.specs.declared.pieces.Next.TheVariants as next
 
 -- ---- arrays
 
@@ -26,7 +26,9 @@ IsWithoutSuffix word digits = (word ≡ digits) ⊎ (word ≡ digits ++ (117 ∷
 -- The digits are the number, in decimal or in hexadecimal after `0x`.
 pub data IsNumber : List ℕ → ℕ → Type 0 where
   decimal : (v : ℕ) (digits : List ℕ) → 0 < length digits → number 10 0 digits ≡ Some v → IsNumber digits v
-  hexadecimal : (x v : ℕ) (digits : List ℕ) → (x == 120 || x == 88) ≡ true → 0 < length digits → number 16 0 digits ≡ Some v → IsNumber (48 ∷ x ∷ digits) v
+  hexadecimal :
+      (x v : ℕ) (digits : List ℕ) → (x == 120 || x == 88) ≡ true → 0 < length digits → number 16 0 digits ≡ Some v
+      → IsNumber (48 ∷ x ∷ digits) v
 
 -- The word is an element with this value.
 pub record IsElement (word : List ℕ) (v : ℕ) : Type 0 where
@@ -67,12 +69,14 @@ pub data IsPercent : List ℕ → ℕ → Type 0 where
 
 -- The piece, which is before this rest, stands for the byte.
 abbrev pub IsPiece : Format → List ℕ → ℕ → List ℕ → Type 0
+IsPiece formats.Hexadecimal piece v rest = IsHexadecimal piece v
 IsPiece formats.Array piece v rest = IsElement piece v × (begins_with_gap rest ≡ true)
 IsPiece formats.Literal piece v rest = IsLiteral piece v
 IsPiece formats.Percent piece v rest = IsPercent piece v
 
 -- The character may be between pieces.
 abbrev pub IsGap : Format → ℕ → Type 0
+IsGap formats.Hexadecimal c = is_between c ≡ true
 IsGap formats.Array c = is_gap c ≡ true
 IsGap formats.Literal c = ⊥
 IsGap formats.Percent c = ⊥

@@ -5,7 +5,6 @@ use Rattle.tool_spelled.specs.Base64.{IsBase64}
 use Rattle.tool_spelled.specs.Comments.{without_comments}
 use Rattle.tool_spelled.specs.Dump.{IsDump}
 use Rattle.tool_spelled.specs.Framed.{IsPart}
-use Rattle.tool_spelled.specs.Hexadecimal.{IsHexadecimal}
 use Rattle.tool_spelled.specs.Pieces.{ArePieces}
 use Rattle.tool_spelled.specs.Utf16.{IsUtf16}
 use Rattle.tool_spelled.specs.declared.comments.Place.TheVariants.{Outside}
@@ -17,9 +16,9 @@ use Rattle.tool_spelled.specs.declared.read.Misspelled.{Misspelled}
 -- The text spells the bytes in this spelling.
 abbrev pub Spells : Spelling → List ℕ → List ℕ → Type 0
 Spells spellings.Binary text bytes = bytes ≡ text
-Spells spellings.Hexadecimal text bytes = IsHexadecimal text bytes
+Spells spellings.Hexadecimal text bytes = ArePieces formats.Hexadecimal text bytes
 Spells spellings.Base64 text bytes = IsBase64 text bytes
-Spells spellings.Commented text bytes = IsHexadecimal (without_comments Outside text) bytes
+Spells spellings.Commented text bytes = ArePieces formats.Hexadecimal (without_comments Outside text) bytes
 Spells spellings.Array text bytes = ArePieces formats.Array (without_comments Outside text) bytes
 Spells spellings.Literal text bytes = ArePieces formats.Literal text bytes
 Spells spellings.Dump text bytes = (radix : ℕ) × (first : ℕ) × IsDump radix first text bytes

@@ -10,10 +10,9 @@ ghost use Rattle.tool_spelled.specs.declared.comments.Place.TheVariants.{Outside
 ghost use Rattle.tool_spelled.specs.declared.pieces.Format.TheVariants.{Array};
 
 use crate::comments::without_comments;
-use crate::hexadecimal::Next;
 use crate::number::number;
 use crate::part::{before, behind_byte};
-use crate::pieces::{self, Format};
+use crate::pieces::{self, Format, Next};
 use crate::read::Misspelled;
 use std::alloc::{AllocError, Global};
 

@@ -2,11 +2,12 @@
 
 ghost use Rattle.std.specs.Prelude.{◌≡◌, IfErr, IfOk};
 ghost use Rattle.tool_spelled.specs.Comments.{begins_with, next_place, seen, without_comments};
-ghost use Rattle.tool_spelled.specs.Hexadecimal.{IsHexadecimal};
+ghost use Rattle.tool_spelled.specs.Pieces.{ArePieces};
 ghost use Rattle.tool_spelled.specs.Spelled.{IsWithin};
 ghost use Rattle.tool_spelled.specs.declared.comments.Place.TheVariants.{Outside};
+ghost use Rattle.tool_spelled.specs.declared.pieces.Format.TheVariants.{Hexadecimal};
 
-use crate::hexadecimal;
+use crate::pieces::{self, Format};
 use crate::read::{Misspelled, Why};
 use std::alloc::{AllocError, Global};
 
@@ -110,11 +111,11 @@ pub(crate) fn without_comments(
 /// `AllocError` if an allocation fails.
 pub(crate) fn bytes(alloc: Global, text: &[u8]) -> Result<Result<Vec<u8>, Misspelled>, AllocError>
     ensures spelled { IfOk result (λ r. IfOk r (λ bytes.
-        IsHexadecimal (without_comments Outside text.now) bytes.items)) }
+        ArePieces Hexadecimal (without_comments Outside text.now) bytes.items)) }
     ensures within { IfOk result (λ r. IfErr r (IsWithin text.now)) }
 {
     match without_comments(alloc, text)? {
-        Ok(digits) => hexadecimal::bytes(alloc, &digits),
+        Ok(digits) => pieces::bytes(alloc, Format::Hexadecimal, &digits),
         Err(misspelled) => Ok(Err(misspelled)),
     }
 }

@@ -1,15 +1,16 @@
 //! Dumps of `xxd`, `hexdump -C` and `od -t x1`.
 
-ghost use Rattle.std.specs.Prelude.{◌≡◌, ◌≤◌, ◌<◌, ◌+◌, ◌++◌, ◌⊎◌, List, true, ℕ, length};
-ghost use Rattle.std.specs.Prelude.{IfErr, IfOk};
+ghost use Rattle.std.specs.Prelude.{◌≡◌, ◌≤◌, ◌<◌, ◌+◌, ◌++◌, ◌⊎◌};
+ghost use Rattle.std.specs.Prelude.{IfErr, IfOk, List, true, ℕ, length};
 ghost use Rattle.tool_spelled.specs.Dump.{BeginsDump, IsAt, IsDump, IsLine, after_line, is_blank};
-ghost use Rattle.tool_spelled.specs.Hexadecimal.{IsHexadecimal};
+ghost use Rattle.tool_spelled.specs.Pieces.{ArePieces};
 ghost use Rattle.tool_spelled.specs.Spelled.{IsWithin};
+ghost use Rattle.tool_spelled.specs.declared.pieces.Format.TheVariants.{Hexadecimal};
 
-use crate::hexadecimal;
 use crate::layout::{self, agrees};
 use crate::number::number;
 use crate::part::{before, is_space};
+use crate::pieces::{self, Format};
 use crate::read::{Misspelled, Why};
 use std::alloc::{AllocError, Global};
 
@@ -79,12 +80,12 @@ fn is_next(radix: u32, first: u64, count: usize, digits: &[u8]) -> bool
 /// Returns the bytes of a line, or where it is misspelled.
 fn line_bytes(alloc: Global, line: &Line<'_>) -> Result<Result<Vec<u8>, Misspelled>, AllocError>
     ensures spelled { IfOk result (λ r. IfOk r (λ bytes.
-        IsHexadecimal line.now.fields.now bytes.items)) }
+        ArePieces Hexadecimal line.now.fields.now bytes.items)) }
     ensures within { IfOk result (λ r. IfErr r (λ m.
         m.0 ≤ length line.now.offset.now + length line.now.fields.now)) }
 {
     let start = line.offset.len();
-    match hexadecimal::bytes(alloc, line.fields)? {
+    match pieces::bytes(alloc, Format::Hexadecimal, line.fields)? {
         Ok(bytes) => {
             if agrees(line.side, &bytes) {
                 Ok(Ok(bytes))

@@ -1,23 +1,12 @@
 //! Hexadecimal (RFC 4648, section 8).
 
-ghost use Rattle.std.specs.Prelude.{◌≡◌, IfErr, IfOk, IfSome};
-ghost use Rattle.tool_spelled.specs.Hexadecimal.{BeginsWithByte, IsBehindPrefix, IsByte, IsFront, IsHexadecimal, is_between, is_prefix};
-ghost use Rattle.tool_spelled.specs.Spelled.{IsWithin};
+ghost use Rattle.std.specs.Prelude.{◌≡◌, IfSome};
+ghost use Rattle.tool_spelled.specs.Hexadecimal.{BeginsWithByte, IsBehindPrefix, IsByte};
+ghost use Rattle.tool_spelled.specs.Hexadecimal.{is_between, is_prefix};
+ghost use Rattle.tool_spelled.specs.Pieces.{IsFirstPiece};
+ghost use Rattle.tool_spelled.specs.declared.pieces.Format.TheVariants.{Hexadecimal};
 
-use crate::read::{Misspelled, Why};
-use std::alloc::{AllocError, Global};
-
-/// The next part of a text.
-pub(crate) enum Next<'a> {
-    /// The end of the text.
-    End,
-    /// A separator between bytes, and the text after it.
-    Between(&'a [u8]),
-    /// A byte, and the text after it.
-    Byte(u8, &'a [u8]),
-    /// Something else, and its offset from here.
-    Misspelled(usize),
-}
+use crate::pieces::Next;
 
 /// Returns true if the character may be between bytes: white space, a colon, or a comma.
 pub(crate) fn is_between(byte: u8) -> bool
@@ -68,9 +57,9 @@ pub(crate) fn byte_at_front(text: &[u8]) -> Next<'_>
     }
 }
 
-/// Returns the part at the front of the text.
-fn front(text: &[u8]) -> Next<'_>
-    ensures { IsFront text.now result }
+/// Returns the byte at the front of the text, or the character between bytes.
+pub(crate) fn front(text: &[u8]) -> Next<'_>
+    ensures { IsFirstPiece Hexadecimal text.now result }
 {
     let Some((first, rest)) = text.split_first() else {
         return Next::End;
@@ -82,34 +71,5 @@ fn front(text: &[u8]) -> Next<'_>
     match byte_at_front(digits) {
         Next::Misspelled(offset) => Next::Misspelled(text.len() - digits.len() + offset),
         front => front,
-    }
-}
-
-/// Returns the bytes that the text spells, or where it is misspelled.
-///
-/// Each byte is two digits of either case, which `0x` or `\x` may precede. White space, colons and
-/// commas may be between bytes.
-///
-/// # Errors
-/// `AllocError` if an allocation fails.
-pub(crate) fn bytes(alloc: Global, text: &[u8]) -> Result<Result<Vec<u8>, Misspelled>, AllocError>
-    ensures spelled { IfOk result (λ r. IfOk r (λ bytes. IsHexadecimal text.now bytes.items)) }
-    ensures within { IfOk result (λ r. IfErr r (IsWithin text.now)) }
-{
-    let mut bytes = Vec::new(alloc);
-    let mut left = text;
-    loop {
-        match front(left) {
-            Next::End => return Ok(Ok(bytes)),
-            Next::Between(rest) => left = rest,
-            Next::Byte(byte, rest) => {
-                bytes.push(byte)?;
-                left = rest;
-            }
-            Next::Misspelled(offset) => {
-                let place = text.len() - left.len() + offset;
-                return Ok(Err(Misspelled(place, Why::Digit)));
-            }
-        }
     }
 }

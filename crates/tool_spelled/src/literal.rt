@@ -5,9 +5,9 @@ ghost use Rattle.tool_spelled.specs.Pieces.{ArePieces, IsEscape, IsFirstPiece, e
 ghost use Rattle.tool_spelled.specs.Spelled.{IsWithin};
 ghost use Rattle.tool_spelled.specs.declared.pieces.Format.TheVariants.{Literal};
 
-use crate::hexadecimal::{Next, byte_at_front};
+use crate::hexadecimal::byte_at_front;
 use crate::part::behind_byte;
-use crate::pieces::{self, Format};
+use crate::pieces::{self, Format, Next};
 use crate::read::{Misspelled, Why};
 use std::alloc::{AllocError, Global};
 
@@ -76,7 +76,8 @@ pub(crate) fn front(text: &[u8]) -> Next<'_>
 /// # Errors
 /// `AllocError` if an allocation fails.
 pub(crate) fn bytes(alloc: Global, text: &[u8]) -> Result<Result<Vec<u8>, Misspelled>, AllocError>
-    ensures spelled { IfOk result (λ r. IfOk r (λ bytes. ArePieces Literal text.now bytes.items)) }
+    ensures spelled { IfOk result (λ r. IfOk r (λ bytes.
+        ArePieces Literal text.now bytes.items)) }
     ensures within { IfOk result (λ r. IfErr r (IsWithin text.now)) }
 {
     if text.contains(&b'\\') {

@@ -4,8 +4,9 @@ ghost use Rattle.std.specs.Prelude.{◌≡◌};
 ghost use Rattle.tool_spelled.specs.Pieces.{IsFirstPiece, is_of_url};
 ghost use Rattle.tool_spelled.specs.declared.pieces.Format.TheVariants.{Percent};
 
-use crate::hexadecimal::{Next, byte_at_front};
+use crate::hexadecimal::byte_at_front;
 use crate::part::behind_byte;
+use crate::pieces::Next;
 
 /// Returns true if the character stands for itself in the data of a URL. `+` doesn't, because
 /// forms write a space so.

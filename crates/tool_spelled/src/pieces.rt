@@ -4,14 +4,16 @@ ghost use Rattle.std.specs.Prelude.{◌≡◌, IfErr, IfOk};
 ghost use Rattle.tool_spelled.specs.Pieces.{ArePieces, IsFirstPiece};
 ghost use Rattle.tool_spelled.specs.Spelled.{IsWithin};
 
-use crate::hexadecimal::Next;
 use crate::read::{Misspelled, Why};
-use crate::{array, literal, percent};
+use crate::{array, hexadecimal, literal, percent};
 use std::alloc::{AllocError, Global};
 
 /// A format whose texts consist of pieces.
 #[derive(Clone, Copy)]
 pub(crate) enum Format {
+    /// Two hexadecimal digits for each byte, which `0x` or `\x` may precede. White space, colons
+    /// and commas may be between bytes.
+    Hexadecimal,
     /// The elements of an array.
     Array,
     /// The characters and escapes of a literal of Python's `bytes`.
@@ -20,11 +22,24 @@ pub(crate) enum Format {
     Percent,
 }
 
+/// The next piece of a text.
+pub(crate) enum Next<'a> {
+    /// The end of the text.
+    End,
+    /// A character between bytes, and the text after it.
+    Between(&'a [u8]),
+    /// A byte, and the text after it.
+    Byte(u8, &'a [u8]),
+    /// Something else, and its offset from here.
+    Misspelled(usize),
+}
+
 /// Returns the piece at the front of the text.
 fn front(format: Format, text: &[u8]) -> Next<'_>
     ensures { IsFirstPiece format text.now result }
 {
     match format {
+        Format::Hexadecimal => hexadecimal::front(text),
         Format::Array => array::front(text),
         Format::Literal => literal::front(text),
         Format::Percent => percent::front(text),

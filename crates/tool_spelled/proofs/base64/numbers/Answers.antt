@@ -1,5 +1,5 @@
 use Rattle.std.proofs.Common.{◌∙◌, arith, sym}
-use Rattle.tool_spelled.proofs.Steps.{digits_to_end, one_break, one_digit}
+use Rattle.tool_spelled.proofs.Base64Steps.{digits_to_end, one_break, one_digit}
 use Rattle.tool_spelled.proofs.base64.numbers.Goals as goal
 
 pub loop-digit-preserved-in_ok-push-in-Some-digit_number : goal.loop-digit-preserved-in_ok-push-in-Some-digit_number

@@ -1,4 +1,4 @@
-use Rattle.tool_spelled.proofs.Steps.{without_both, without_sign, without_signs}
+use Rattle.tool_spelled.proofs.Base64Steps.{without_both, without_sign, without_signs}
 use Rattle.tool_spelled.proofs.base64.without_padding.Goals as goal
 
 pub returns-in_default : goal.returns-in_default
