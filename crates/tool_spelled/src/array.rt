@@ -1,20 +1,13 @@
 //! The elements of an array in source code: numbers from 0 to 255.
 
-ghost use Rattle.std.specs.Prelude.{◌≡◌, ◌==◌, ◌||◌, ◌++◌, ◌<◌, List, true, ℕ};
-ghost use Rattle.std.specs.Prelude.{IfErr, IfOk, IfSome};
-ghost use Rattle.tool_spelled.specs.Comments.{without_comments};
-ghost use Rattle.tool_spelled.specs.Pieces.{ArePieces, IsElement, IsFirstPiece};
-ghost use Rattle.tool_spelled.specs.Pieces.{IsNumber, begins_with_gap, is_gap, IsWithoutSuffix};
-ghost use Rattle.tool_spelled.specs.Spelled.{IsWithin};
-ghost use Rattle.tool_spelled.specs.declared.comments.Place.TheVariants.{Outside};
+ghost use Rattle.std.specs.Prelude.{◌≡◌, ◌==◌, ◌||◌, ◌++◌, List, true, ℕ, IfSome};
+ghost use Rattle.tool_spelled.specs.Pieces.{IsElement, IsFirstPiece, IsNumber};
+ghost use Rattle.tool_spelled.specs.Pieces.{begins_with_gap, is_gap, IsWithoutSuffix};
 ghost use Rattle.tool_spelled.specs.declared.pieces.Format.TheVariants.{Array};
 
-use crate::comments::without_comments;
 use crate::number::number;
 use crate::part::{before, behind_byte};
-use crate::pieces::{self, Format, Next};
-use crate::read::Misspelled;
-use std::alloc::{AllocError, Global};
+use crate::pieces::Next;
 
 /// Returns true if the character may be between elements: white space or a comma.
 fn is_gap(byte: u8) -> bool
@@ -111,21 +104,5 @@ pub(crate) fn front(text: &[u8]) -> Next<'_>
     match element(word) {
         Some(byte) => Next::Byte(byte, behind),
         None => Next::Misspelled(0),
-    }
-}
-
-/// Returns the bytes of the elements, without the comments between them, or where they are
-/// misspelled.
-///
-/// # Errors
-/// `AllocError` if an allocation fails.
-pub(crate) fn bytes(alloc: Global, text: &[u8]) -> Result<Result<Vec<u8>, Misspelled>, AllocError>
-    ensures spelled { IfOk result (λ r. IfOk r (λ bytes.
-        ArePieces Array (without_comments Outside text.now) bytes.items)) }
-    ensures within { IfOk result (λ r. IfErr r (IsWithin text.now)) }
-{
-    match without_comments(alloc, text)? {
-        Ok(elements) => pieces::bytes(alloc, Format::Array, &elements),
-        Err(misspelled) => Ok(Err(misspelled)),
     }
 }

@@ -1,11 +1,10 @@
-//! Comments between digits: from `#`, `;` or `//` to the end of a line, and from `/*` to `*/`.
+//! Comments between bytes: from `#`, `;` or `//` to the end of a line, and from `/*` to `*/`.
 
 ghost use Rattle.std.specs.Prelude.{◌≡◌, IfErr, IfOk};
 ghost use Rattle.tool_spelled.specs.Comments.{begins_with, next_place, seen, without_comments};
 ghost use Rattle.tool_spelled.specs.Pieces.{ArePieces};
 ghost use Rattle.tool_spelled.specs.Spelled.{IsWithin};
 ghost use Rattle.tool_spelled.specs.declared.comments.Place.TheVariants.{Outside};
-ghost use Rattle.tool_spelled.specs.declared.pieces.Format.TheVariants.{Hexadecimal};
 
 use crate::pieces::{self, Format};
 use crate::read::{Misspelled, Why};
@@ -104,18 +103,22 @@ pub(crate) fn without_comments(
     Ok(Ok(seen_text))
 }
 
-/// Returns the bytes that the text without its comments spells in hexadecimal, or where it is
+/// Returns the bytes of the text's pieces, without the comments between them, or where the text is
 /// misspelled.
 ///
 /// # Errors
 /// `AllocError` if an allocation fails.
-pub(crate) fn bytes(alloc: Global, text: &[u8]) -> Result<Result<Vec<u8>, Misspelled>, AllocError>
+pub(crate) fn bytes(
+    alloc: Global,
+    format: Format,
+    text: &[u8],
+) -> Result<Result<Vec<u8>, Misspelled>, AllocError>
     ensures spelled { IfOk result (λ r. IfOk r (λ bytes.
-        ArePieces Hexadecimal (without_comments Outside text.now) bytes.items)) }
+        ArePieces format (without_comments Outside text.now) bytes.items)) }
     ensures within { IfOk result (λ r. IfErr r (IsWithin text.now)) }
 {
     match without_comments(alloc, text)? {
-        Ok(digits) => pieces::bytes(alloc, Format::Hexadecimal, &digits),
+        Ok(pieces) => pieces::bytes(alloc, format, &pieces),
         Err(misspelled) => Ok(Err(misspelled)),
     }
 }

@@ -8,7 +8,7 @@ use crate::framed::{Spelling, Text, Way, text_of};
 use crate::layout::is_certain;
 use crate::pieces::{self, Format};
 use crate::place::line_and_column;
-use crate::{array, base45, base64, comments, dump, literal, utf16};
+use crate::{base45, base64, comments, dump, literal, utf16};
 use std::alloc::{AllocError, Global};
 
 /// Why a text isn't read.
@@ -77,8 +77,8 @@ impl Text<'_> {
             Spelling::Binary => Ok(Ok(Vec::from_slice(alloc, self.text)?)),
             Spelling::Hexadecimal => pieces::bytes(alloc, Format::Hexadecimal, self.text),
             Spelling::Base64 => base64::bytes(alloc, self.text),
-            Spelling::Commented => comments::bytes(alloc, self.text),
-            Spelling::Array => array::bytes(alloc, self.text),
+            Spelling::Commented => comments::bytes(alloc, Format::Hexadecimal, self.text),
+            Spelling::Array => comments::bytes(alloc, Format::Array, self.text),
             Spelling::Literal => literal::bytes(alloc, self.text),
             Spelling::Dump => dump::bytes(alloc, self.text),
             Spelling::Percent => pieces::bytes(alloc, Format::Percent, self.text),

@@ -6,6 +6,6 @@ use Rattle.tool_spelled.proofs.comments.bytes.Goals as goal
 
 pub returns-in-Ok-clause-within : goal.returns-in-Ok-clause-within
 returns-in-Ok-clause-within c =
-    let spelled : c.in-Ok.digits.items ≡ without_comments Outside c.args.text.now = rw c.in-Ok.is at c.in_ok-digits.ensures.spelled in
+    let spelled : c.in-Ok.pieces.items ≡ without_comments Outside c.args.text.now = rw c.in-Ok.is at c.in_ok-pieces.ensures.spelled in
     let same : length c.deref.result.now ≡ length c.args.text.now = ap length (c.deref.ensures.value ∙ spelled) ∙ as_long Outside c.args.text.now in
     subst (λ (n : ℕ). IfOk c.bytes.result (λ r. IfErr r (λ m. m.0 ≤ n))) same c.bytes.ensures.within
