@@ -6,7 +6,7 @@ import json
 try:
     from cryptography import x509
     from cryptography.hazmat.primitives import hashes, hmac, serialization
-    from cryptography.hazmat.primitives.asymmetric import ec, ed25519, padding, rsa
+    from cryptography.hazmat.primitives.asymmetric import ec, ed448, ed25519, padding, rsa
     from cryptography.hazmat.primitives.asymmetric.utils import decode_dss_signature
     HAS_CIPHERS = True
 except ImportError:
@@ -184,6 +184,20 @@ def misfits(signer):
         ("open", "Signature is of key 'our key' (ES256), but the message has critical labels (crit), and this page processes none.")]
 
 
+def unusable(signer):
+    """Yields cases with keys that fit, and that a browser's ciphers can't use: an ES256 key whose y is a sign alone, and an Ed448 key."""
+    said = lambda name, why: [("open", f"Signature ({name}) not checked: no key that fits can be used here.", f"key 'our key': {why}")]
+    _, (kty, curve, x, (label, y)) = signer.members()
+    compressed = mapped((2, byte_string(KID)), (3, integer(signer.number)), kty, curve, x, (label, b"\xf5" if y[-1] % 2 else b"\xf4"))
+    why = "its y is given by its sign alone, which the browser can't use"
+    yield "a sign for y", message(signer), b"", compressed.hex(), said("ES256", why)
+    key = ed448.Ed448PrivateKey.generate()
+    x = key.public_key().public_bytes(serialization.Encoding.Raw, serialization.PublicFormat.Raw)
+    other = mapped((2, byte_string(KID)), (3, integer(-8)), (1, integer(1)), (-1, integer(7)), (-2, byte_string(x)))
+    why = "this page checks no other Edwards curve than Ed25519"
+    yield "Ed448", message(Signer("EdDSA", -8, key)), b"", other.hex(), said("EdDSA", why)
+
+
 def of_several(first, second):
     """Yields cases with several signatures, the first by ES256, and the second by ES384."""
     both, one = head(4, 2) + first.cose() + second.cose(), "Signature 0 verified by key 'our key' (ES256)."
@@ -200,4 +214,5 @@ def cases():
         by_name[signer.name] = signer
         yield from of_algorithm(signer, other)
     yield from misfits(by_name["ES256"])
+    yield from unusable(by_name["ES256"])
     yield from of_several(by_name["ES256"], by_name["ES384"])

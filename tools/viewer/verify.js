@@ -121,7 +121,8 @@ async function verdictOf(seal) {
   const names = wrong.map(it => nameOfKey(it.key)).join(", ");
   if (wrong.length) return { seal, state: "wrong", said: [`${title} does not verify with ${names} (${name}).`, ...problems] };
   if (!seal.keys.length) return open([`${title} (${name}) not checked: there is no key to check it with.`]);
-  return open([`${title} (${name}) not checked: no key fits.`, ...misfits, ...problems]);
+  const why = problems.length ? "no key that fits can be used here" : "no key fits";
+  return open([`${title} (${name}) not checked: ${why}.`, ...misfits, ...problems]);
 }
 
 // ---- The rows that a signature covers
