@@ -1,8 +1,9 @@
 /* coset for C.
  *
  * Each call is a function of its arguments. Nothing is kept between calls, nothing has to be freed, and calls in
- * several threads don't affect each other. The results are proved: the contracts are at the functions of the same names
- * in crates/ffi_c/src, and docs/C.md states them in words. coset_verify.h verifies and decrypts in one call.
+ * several threads don't affect each other. Except for versions and the texts of statuses, the results are proved: the
+ * contracts are at the functions of the same names in crates/ffi_c/src, and docs/C.md states them in words.
+ * coset_verify.h verifies and decrypts in one call.
  *
  * in, in_len     The bytes of an item of the kind. A pointer to bytes may be NULL if its length is 0.
  * out, cap, len  The memory for the result, its size, and the result's length. COSET_SHORT: the result is longer than
@@ -407,7 +408,7 @@ typedef struct coset_rules {
 
 /* The layers that authenticate the sender of a token. */
 enum {
-  COSET_BY_SIGNATURE = 1, /* a layer with a signature, and no MAC */
+  COSET_BY_SIGNATURE = 1, /* only a layer with a signature; a MAC doesn't authenticate */
   COSET_BY_ANY = 2        /* any layer; an encrypted one authenticates those who share its key */
 };
 

@@ -209,6 +209,21 @@ function verdictElement({ state, said: [first, ...others] }) {
   return made;
 }
 
+// Returns the sort of a seal by its name, as the summary calls it.
+function sortOf(name) {
+  return /\btag\b/.test(name) ? "mac" : /\b(?:counter)?signature\b/.exec(name)?.[0];
+}
+
+// Returns the summary with the numbers of signatures and MACs that no key checked. It counts all in the input, and the module lists
+// those of the outermost message and of messages that are its payload.
+function uncheckedSummary(summary) {
+  const checked = verdicts.filter(it => it.seal && (it.state !== "open" || it.isChecked)).map(it => sortOf(it.seal.name));
+  return summary.replace(/ (\d+ )?((?:counter)?signature|mac)s? not checked\./gi, (sentence, number, sort) => {
+    const all = Number(number ?? 1), left = all - checked.filter(it => it === sort.toLowerCase()).length;
+    return left === all ? sentence : left > 0 ? ` ${left} of ${all} ${sort}s not checked.` : "";
+  });
+}
+
 // Returns the sentences on each signature, with its rows, and those on keys that aren't read.
 async function judged(asked) {
   const given = await keysGiven(), bare = await sealsOf(asked, NO_BYTES);
@@ -230,5 +245,5 @@ async function verify(asked, isCurrent) {
   at("key-said").replaceChildren(...problems.map(it => element("li", it)));
   const isChecked = verdicts.some(it => it.state !== "open" || it.isChecked);
   at("ciphers").hidden = !isChecked;
-  if (isChecked) saySummary(rows.summary.replace(/ ?[^.]*\bnot checked\./g, ""));
+  if (isChecked) saySummary(uncheckedSummary(rows.summary));
 }

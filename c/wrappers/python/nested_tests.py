@@ -47,7 +47,7 @@ OUTER = [
     lambda: coset.verify(coset.SIGN1, DETACHED, [-7], is_good, detached=b"pay 1 to ann"),
     lambda: coset.sign1(coset.SIGN1, FORGED),
     lambda: coset.message(coset.SIGN1, FORGED, critical=[1]),
-    lambda: coset.decrypt(coset.ENCRYPT0, SEALED, [1], lambda question: question),
+    lambda: coset.decrypt(coset.ENCRYPT0, SEALED, [1], lambda question: question.input + question.proof + question.iv),
     lambda: verify_token(FORGED_TOKEN),
     lambda: verify_token(HONEST_TOKEN),
     lambda: coset.part(coset.SIGN1, FORGED, coset.PAYLOAD),

@@ -774,9 +774,9 @@ def decrypt(kind, data, algorithms, decrypt, critical=(), external_aad=b"", deta
     """Returns the plaintext of an ENCRYPT0, with TAGGED, EITHER or neither added.
 
     `decrypt` receives the question, whose proof is the ciphertext, with the IV and the partial IV. It returns the
-    plaintext, or None if the ciphertext isn't authentic by a key that the caller trusts. A message may have an IV in
-    one header and a partial IV in the other. Refuse it then (RFC 8152, section 3.1). The other arguments are those of
-    `verify`."""
+    plaintext as bytes, or None or False if the ciphertext isn't authentic by a key that the caller trusts. Any other
+    answer is a TypeError. A message may have an IV in one header and a partial IV in the other. Refuse it then (RFC
+    8152, section 3.1). The other arguments are those of `verify`."""
     if _kind(kind) & 0xFF != ENCRYPT0:
         raise Misuse("a kind of another call")
     data, own = _bytes(data)[0], None if detached is None else _bytes(detached)[0]
@@ -784,7 +784,9 @@ def decrypt(kind, data, algorithms, decrypt, critical=(), external_aad=b"", deta
     ciphertext = part(kind, data, CIPHERTEXT) if own is None else own
     (iv, iv_map), (partial_iv, partial_iv_map) = _in_either(kind, data, 5), _in_either(kind, data, 6)
     question = _asked(found, algorithms, ciphertext)
-    plain = decrypt(question._replace(iv=iv, partial_iv=partial_iv, iv_map=iv_map, partial_iv_map=partial_iv_map))
+    plain = _accepted(
+        ENCRYPT0, decrypt(question._replace(iv=iv, partial_iv=partial_iv, iv_map=iv_map, partial_iv_map=partial_iv_map))
+    )
     if plain is None:
         raise Refused("the ciphertext is refused")
     return plain
