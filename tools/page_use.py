@@ -5,7 +5,8 @@ import time
 
 import browser
 import common
-from cbor import head
+import page_keys
+from cbor import byte_string, head
 
 SHOTS = f"{common.HERE}/out/page"
 SECONDS = 120  # to wait for something
@@ -131,6 +132,23 @@ def times(page):
         yield f"times are judged by the clock: {by_clock}, at a moment before: {before}"
 
 
+def counts(page):
+    """Gives the page messages with more signatures than it lists, or than it has keys for. Yields what is wrong."""
+    if not page_keys.HAS_CIPHERS:
+        return
+    one, other = page_keys.Signer("ES256", -7, page_keys.private("ES256"), 256), page_keys.Signer("ES384", -35, page_keys.private("ES384"), 384)
+    inner = head(5, 1) + head(3, 1) + b"a" + byte_string(page_keys.message(other))
+    claims = page_keys.mapped((10, byte_string(bytes(8))), (266, inner))
+    for made, wanted in ((page_keys.message(one), ""), (page_keys.signed_by(one, other), "1 of 2 signatures not checked."),
+                         (page_keys.message(one, content=claims), "1 of 2 signatures not checked."), (page_keys.message(other), "Signature not checked.")):
+        key = one.cose().hex()
+        show(page, f"at('kind').value = 'auto'; at('aad').value = ''; at('key').value = '{key}'; type('{made.hex()}')")
+        said = page.run('at("status").textContent')
+        if wanted not in said or ("not checked" in said) != bool(wanted):
+            yield f"the summary of {made.hex()} with key {key}: {said}"
+    page.run('at("key").value = ""')
+
+
 def refused_requests(page):
     """Tries a request from the page. Yields what is wrong."""
     refused = page.run("""new Promise(done => { document.addEventListener("securitypolicyviolation", event => done(event.violatedDirective), {once: true});
@@ -141,7 +159,7 @@ def refused_requests(page):
 
 def used(page):
     """Returns what is wrong with the page in use."""
-    parts = (mark, keys, *([copies] if isinstance(page, browser.Browser) else []), give, links, times, refused_requests)
+    parts = (mark, keys, *([copies] if isinstance(page, browser.Browser) else []), give, links, times, counts, refused_requests)
     return [f"{page.name}: {it}" for part in parts for it in part(page)]
 
 
