@@ -24,7 +24,7 @@ MOMENT = 1_500_000_000
 AAD = b"more"
 MEGABYTE = 1 << 20
 STEPS, BYTES = 32, 32  # as many levels are indented, and as many digits are in a row
-COLORS = {"s": "\33[32m", "a": "\33[32m", "n": "\33[33m", "u": "\33[33m", "c": "\33[36m", "r": "\33[1;31m", "": ""}
+COLORS = {"s": "\33[94m", "a": "\33[94m", "n": "\33[33m", "u": "\33[33m", "c": "\33[36m", "r": "\33[1;31m", "": ""}
 WORDS = {"s": "covered by the signature", "a": "covered by MAC or cipher", "n": "not covered", "u": "not covered", "c": "", "r": "refused", "-": ""}
 ENGINES = (browser.Browser, webdriver.Firefox, webdriver.WebKit)
 # Functions for the page: the module's output for an input, the page's rows for it with their colours, and the hash of an output. A

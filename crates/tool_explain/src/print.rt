@@ -75,12 +75,12 @@ fn push_bytes(alloc: Global, text: &mut String, bytes: &[u8]) -> Result<(), Allo
 
 /// Returns the terminal's code for the colour of the cover. It may be empty.
 ///
-/// Green is covered, yellow a header that isn't. Cyan is a signature, a MAC or a ciphertext, red is
-/// refused.
+/// Blue is covered, yellow a header that isn't. Cyan is a signature, a MAC or a ciphertext, red is
+/// refused. Nothing is green, because no key has verified anything.
 fn color(cover: Cover) -> &'static str {
     match cover {
         Cover::Plain => "",
-        Cover::Signed | Cover::Authenticated | Cover::Associated => "\u{1b}[32m",
+        Cover::Signed | Cover::Authenticated | Cover::Associated => "\u{1b}[94m",
         Cover::NotSigned | Cover::NotAuthenticated => "\u{1b}[33m",
         Cover::Seal => "\u{1b}[36m",
         Cover::Refused => "\u{1b}[1;31m",

@@ -27,7 +27,7 @@ summary::-webkit-details-marker { display: none; }
 summary > span + span::before { content: "\25BE\00A0"; color: #777; }
 details:not([open]) > summary > span + span::before { content: "\25B8\00A0"; }
 em { color: #444; }
-.covered { border-left: 6px solid #1a7f37; background: #e9f7ec; }
+.covered { border-left: 6px solid #4d5b70; background: #f0f2f6; }
 .open { border-left: 6px dashed #b35900; background: #fff4e5; }
 .seal { border-left: 6px double #0550ae; background: #eaf2fd; }
 .refused { border-left: 6px solid #b00020; background: #fdeaed; font-weight: bold; }
@@ -43,7 +43,7 @@ em { color: #444; }
 body { color: #e6e6e6; background: #161616; }
 .row code:first-child, .row > span, em, summary > span + span::before { color: #c4c4c4; }
 .row > span + span { color: #e6e6e6; }
-.covered { border-left-color: #3fb950; background: #12301c; }
+.covered { border-left-color: #a9b6cb; background: #1e2430; }
 .open { border-left-color: #d29922; background: #3a2a10; }
 .seal { border-left-color: #58a6ff; background: #14263d; }
 .refused { border-left-color: #ff7b72; background: #42171c; }
