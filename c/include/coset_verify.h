@@ -1,8 +1,8 @@
 /* Verifies and decrypts in one call, by the calls of coset.h and the caller's cryptography. A message's contents are
  * handed out only after the caller's function said yes.
  *
- * These functions are static inline, and nothing is proved of them. Except for lengths, they look only at the results
- * of the calls of coset.h, which are proved. */
+ * These functions are static inline, and nothing is proved of them. Except for lengths, and for heads in
+ * coset_is_deeper, they look only at the results of the calls of coset.h, which are proved. */
 #ifndef COSET_VERIFY_H
 #define COSET_VERIFY_H
 
@@ -108,8 +108,8 @@ static inline coset_question coset_asked(const coset_message_spans_view *view, c
  * index.
  *
  * If the status is COSET_OK, `verify` said yes, and `*payload` is the payload, of `*payload_len` bytes. It is in `out`,
- * where the signed or authenticated structure ends with it, or it is the detached payload. After any other status
- * `*payload` is NULL, and `out` has nothing of the message.
+ * where the signed or authenticated structure ends with it, also if it is detached. After any other status `*payload`
+ * is NULL, and `out` has nothing of the message.
  *
  * `out` needs room for the structure, and for the other texts if the message is read by copies (coset_message_spans).
  * If `out` is too small, the status is COSET_SHORT, and `*payload_len` is the size that is needed. */
@@ -133,8 +133,8 @@ static inline coset_status coset_verify(uint32_t kind, const uint8_t *in, size_t
     coset_cleared(out, len);
     return status;
   }
-  *payload = policy->detached_len ? policy->detached : out + view.structure_len - view.content_len;
   *payload_len = policy->has_detached ? policy->detached_len : view.content_len;
+  *payload = out + view.structure_len - *payload_len;
   return COSET_OK;
 }
 
@@ -274,7 +274,7 @@ enum { COSET_MOST_LEVELS = 64 };
 struct coset_level {
   uint64_t left;
   size_t outer;
-  int is_string, is_array, is_first;
+  int is_string, is_array, place;
 };
 
 /* The position of a walk through items, and the containers around it. */
@@ -304,7 +304,7 @@ static inline int coset_enter(struct coset_walk *walk, uint64_t left, int is_arr
   if (walk->depth == walk->most) return 1;
   level = &walk->levels[++walk->depth];
   level->left = left, level->outer = walk->end;
-  level->is_string = held > 0, level->is_array = is_array, level->is_first = 1;
+  level->is_string = held > 0, level->is_array = is_array, level->place = 0;
   if (held) walk->end = walk->at + held;
   return 0;
 }
@@ -318,22 +318,22 @@ static inline void coset_count_item(struct coset_walk *walk) {
  * bytes can't be read, else 0. */
 static inline int coset_step(struct coset_walk *walk) {
   struct coset_level *level = &walk->levels[walk->depth];
-  const int begins_array = level->is_array && level->is_first;
+  const int may_be_header = level->is_array && level->place < 2;
   unsigned major, info;
   uint64_t number;
   if (!coset_head(walk, &major, &info, &number)) return -1;
-  level->is_first = 0;
+  if (level->place < 2) level->place++;
   if (major == 7 && info == 31) { /* the break of a container of indefinite length */
     if (level->left != UINT64_MAX) return -1;
     level->left = 0;
     return 0;
   }
   if (info == 31 && (major < 2 || major == 6)) return -1;
-  if (info == 31 && major == 2 && begins_array) return 1;
+  if (info == 31 && major == 2 && may_be_header) return 1;
   if (info == 31) return coset_enter(walk, UINT64_MAX, major == 4, 0);
   if (major == 2 || major == 3) {
     if (number > walk->end - walk->at) return -1;
-    if (major == 2 && begins_array && number) return coset_enter(walk, 1, 0, COSET_CAST(size_t, number));
+    if (major == 2 && may_be_header && number) return coset_enter(walk, 1, 0, COSET_CAST(size_t, number));
     walk->at += COSET_CAST(size_t, number);
   } else if (major > 3 && major < 7 && (number || major == 6)) {
     return coset_enter(walk, major == 6 ? 1 : major == 5 && number < UINT64_MAX / 4 ? 2 * number : number, major == 4, 0);
@@ -346,15 +346,16 @@ static inline int coset_step(struct coset_walk *walk) {
  * 0. A `most` above COSET_MOST_LEVELS counts as COSET_MOST_LEVELS.
  *
  * The stack that a call takes grows with the nesting (docs/C.md). So a thread with little stack calls this first, and
- * refuses input that nests deeper. Any byte string that begins an array counts as a protected header here. If its
- * length is indefinite, it counts as deeper than any bound. So does an input longer than PTRDIFF_MAX. The check takes 3
- * kB of stack, and no heap. */
+ * refuses input that nests deeper. A byte string that is the first or second element of an array counts as a protected
+ * header here. If its length is indefinite, it counts as deeper than any bound. So does an input longer than
+ * PTRDIFF_MAX. Payloads and ciphertexts aren't looked into, so a thread that verifies tokens needs 1 MB all the same. The
+ * check takes 3 kB of stack, and no heap. */
 static inline int coset_is_deeper(const uint8_t *in, size_t len, size_t most) {
   struct coset_walk walk;
   if (len > COSET_CAST(size_t, PTRDIFF_MAX)) return 1;
   walk.in = in, walk.at = 0, walk.end = len, walk.depth = 0;
   walk.most = most < COSET_CAST(size_t, COSET_MOST_LEVELS) ? most : COSET_CAST(size_t, COSET_MOST_LEVELS);
-  walk.levels[0].left = 1, walk.levels[0].is_array = 0, walk.levels[0].is_first = 0;
+  walk.levels[0].left = 1, walk.levels[0].is_array = 0, walk.levels[0].place = 0;
   for (;;) {
     const int found = coset_step(&walk);
     if (found == 1) return 1;
@@ -536,7 +537,8 @@ static inline coset_status coset_work_ask(struct coset_work *work, const coset_l
  *
  * If the status is COSET_OK, `opener` said yes to each layer, and the token meets the policy. `*token` then has its
  * parts. After any other status the pointers of `*token` are NULL, and `work` has zeros, unless `cap` is above
- * PTRDIFF_MAX. COSET_REFUSED means that `opener` said no.
+ * PTRDIFF_MAX. COSET_REFUSED means that `opener` said no. A leeway or a greatest age above INT64_MAX, such as a
+ * converted -1, is COSET_MISUSE, because it would switch off the checks of times.
  *
  * `work` needs room for the texts of each layer, plaintexts, names of issuers, and the verified token. Nine times the
  * token's length and 64 bytes for each of its layers are enough, if the names of issuers and audience are short
@@ -553,6 +555,10 @@ static inline coset_status coset_token_verify(const uint8_t *in, size_t in_len, 
   room.at = work, room.cap = cap, room.used = 0, room.count = 0;
   coset_token_none(token, &nowhere, 0);
   if (cap > COSET_CAST(size_t, PTRDIFF_MAX)) return COSET_MISUSE;
+  if (policy->rules.leeway > INT64_MAX || policy->rules.max_age > INT64_MAX) {
+    coset_cleared(work, cap);
+    return COSET_MISUSE;
+  }
   for (;;) {
     status = coset_work_next(&room, in, in_len, now, policy, &len, &layer);
     if (status == COSET_SHORT) needed = room.used + len;

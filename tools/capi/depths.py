@@ -14,7 +14,7 @@ class TooDeep(Exception):
 
 
 class Levels:
-    """The nested levels of an input: items, and items that begin in a byte string at the start of an array."""
+    """The nested levels of an input: items, and items in a byte string that is the first or second element of an array."""
 
     def __init__(self, data, most):
         self.data, self.most, self.deepest = data, most, 0
@@ -33,15 +33,15 @@ class Levels:
             raise Unreadable
         return major, None if info == 31 else number, behind
 
-    def item(self, at, end, depth, begins_array):
+    def item(self, at, end, depth, may_be_header):
         """Returns where the item ends, and whether it is a break."""
         major, number, at = self.head(at, end)
         if number is None and major == 7:
             return at, True
-        if major == 2 and begins_array and number is None:
+        if major == 2 and may_be_header and number is None:
             self.enter(self.most + 1)
         if major in (2, 3) and number is not None:
-            return self.string(at, end, number, depth, major == 2 and begins_array), False
+            return self.string(at, end, number, depth, major == 2 and may_be_header), False
         if major < 2 or major == 7:
             return at, False
         count = 1 if major == 6 else None if number is None else number * (2 if major == 5 else 1)
@@ -63,7 +63,7 @@ class Levels:
             self.enter(depth + 1)
         place = 0
         while count is None or place < count:
-            at, is_break = self.item(at, end, depth + 1, is_array and place == 0)
+            at, is_break = self.item(at, end, depth + 1, is_array and place < 2)
             place += 1
             if is_break:
                 if count is not None:

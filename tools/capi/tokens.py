@@ -54,13 +54,15 @@ def item(value):
 def policy_of(word):
     """Returns the rules, the three lists of numbers and the two lists of texts of a policy, as words of `token`.
 
-    Returns None if C can't express it: a form with a list, a critical label that is a text, a list of audiences without one, or a
-    greatest age of 0."""
+    Returns None if C can't express it: a form with a list, a critical label that is a text, a list of audiences without one, a
+    greatest age of 0, or seconds above INT64_MAX, which coset_token_verify refuses."""
     rules, lists = [0] * 7, {name: "-" for name in ("algs", "crit", "need", "aud", "types")}
     for name, _, value in (part.partition("=") for part in word.split(",")):
         if (name, value) == ("age", "0") or name == "lists" or (name == "plain" and value not in FORMS):
             return None
         if name in ("leeway", "age"):
+            if int(value) >= 1 << 63:
+                return None
             rules[name == "age"] = int(value)
         elif name in ("plain", "by"):
             rules[2 if name == "plain" else 3] = FORMS[value] if name == "plain" else {"sign": 1, "mac": 0, "any": 2}[value]

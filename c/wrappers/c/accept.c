@@ -15,7 +15,8 @@ int main(int count, char **names) {
   static uint8_t as[4096], hub[4096], in[4096], work[9 * sizeof in + 1024], subject[256];
   static const int64_t algorithms[] = {COSET_ES256, COSET_HMAC_256_256};
   static const coset_text here = COSET_LITERAL("coap://light.example.com");
-  if (count != 4) return 2;
+  const time_t now = time(NULL);
+  if (count != 4 || now < 1) return 2;
   const coset_issuer issuers[] = {
       {COSET_LITERAL("coap://as.example.com"), as, contents(names[1], as, sizeof as)},    /* a key for each algorithm */
       {COSET_LITERAL("coap://hub.example.com"), hub, contents(names[2], hub, sizeof hub)} /* a key for ES256 */
@@ -27,7 +28,7 @@ int main(int count, char **names) {
   policy.rules.leeway = 60;
   policy.algorithms = algorithms, policy.algorithms_len = 2;
   policy.audiences = &here, policy.audiences_len = 1;
-  coset_status status = coset_token_verify(in, contents(names[3], in, sizeof in), time(NULL), &policy, coset_openssl_open, &ring,
+  coset_status status = coset_token_verify(in, contents(names[3], in, sizeof in), now, &policy, coset_openssl_open, &ring,
                                            work, sizeof work, &token);
   if (!status)
     status = coset_label_bytes(COSET_CLAIMS, token.claims, token.claims_len, COSET_IN_ITEM, 2, subject, sizeof subject, &len);

@@ -10,8 +10,9 @@ const webCrypto = {
       const [x, y] = [-2, -3].map(label => coset.labelBytes(coset.KEY, key, coset.IN_ITEM, label));
       const point = await crypto.subtle.importKey("raw", Uint8Array.of(4, ...x, ...y), es256, false, ["verify"]);
       return await crypto.subtle.verify(es256, point, proof, input);
-    } catch {
-      return false; // the sign of y alone, or no point of the curve
+    } catch (error) {
+      if (error instanceof coset.WrongType || error instanceof DOMException) return false; // the sign of y alone, or no point
+      throw error;
     }
   },
 };

@@ -1,8 +1,8 @@
 /** coset from JavaScript: the calls of coset.h, by the WebAssembly module coset.wasm next to this file.
  *
  * A call takes bytes (a Uint8Array, another view or a buffer) and returns a Uint8Array, a number, an object or null. An
- * integer of CBOR is a number if that is exact, else a bigint. Each error is a CosetError; its `reason` is the name of
- * a Status.
+ * integer of CBOR is a number if that is exact, else a bigint. Each error of a call of the library is a CosetError; its
+ * `reason` is the name of a Status.
  * - Fault if the bytes aren't an item of the kind, or the new item wouldn't be.
  * - Absent if the bytes don't have the requested part. Or items of the kind, or the bytes that something is added to,
  *   have no place for an argument.
@@ -234,6 +234,7 @@ function call(name, ...given) {
     if (after.length > KEPT) instance = undefined;
     return status;
   } catch (stopped) {
+    new Uint8Array(memory.buffer).fill(0);
     instance = undefined;
     throw stopped instanceof RangeError ? new OutOfMemory({ cause: stopped }) : stopped;
   }
@@ -382,12 +383,19 @@ function flagged(content) {
   return content === null || content === undefined ? [0, NOTHING] : [1, bytes(content)];
 }
 
-/** Returns the options, with defaults for those that aren't given. */
+/** Returns true for an object of no class, such as a literal. */
+function isPlain(it) {
+  const proto = typeof it === "object" && it !== null ? Object.getPrototypeOf(it) : undefined;
+  return proto === null || (proto !== undefined && Object.getPrototypeOf(proto) === null);
+}
+
+/** Returns the options, with defaults for those that aren't given. Nothing is taken from a class or a prototype. */
 function settled(options, defaults) {
-  if (typeof options !== "object" || options === null) throw new Misuse("options are an object");
+  if (!isPlain(options)) throw new Misuse("options are a plain object");
   const unknown = Object.keys(options).find(name => !Object.hasOwn(defaults, name));
   if (unknown !== undefined) throw new Misuse(`there is no option ${unknown}`);
-  return Object.fromEntries(Object.entries(defaults).map(([name, value]) => [name, options[name] === undefined ? value : options[name]]));
+  const isGiven = name => Object.hasOwn(options, name) && options[name] !== undefined;
+  return Object.fromEntries(Object.entries(defaults).map(([name, value]) => [name, isGiven(name) ? options[name] : value]));
 }
 
 function number(value) {
@@ -829,7 +837,7 @@ function refuse(status, view) {
 }
 
 function seconds(value, name, least) {
-  if (!isInteger(value) || BigInt(value) < least || BigInt(value) >= 2n ** 64n) throw new Misuse(`${name} is a whole number of seconds, at least ${least}`);
+  if (!isInteger(value) || BigInt(value) < least || BigInt(value) >= 2n ** 63n) throw new Misuse(`${name} is a whole number of seconds, at least ${least}`);
   return value;
 }
 
@@ -870,7 +878,7 @@ function policy(options) {
  * `keys` is a KeyRing, or a function that is called with each layer:
  * `{ form, algorithm, keyId, keyIdMap, input, proof, iv, partialIv, index }`. It returns true if a key that fits verifies
  * the signature or the MAC. For an ENCRYPT0 it returns the plaintext, as bytes. Null, undefined or false refuses the token.
- * The answer may be an array of one of these and the name of the key's issuer, and a promise of each.
+ * The answer may be an array of one of these and the name of the key's issuer. It may be a promise of any of these.
  *
  * The options are those of the policy in docs/C.md, and `now`, in seconds since 1970 began in UTC. If `now` is null, it is
  * the clock's time. The token must be valid at the whole seconds before and after it. */

@@ -57,6 +57,7 @@ assert coset.sign1(coset.SIGN1, token, bytes(5_000)).payload == bytes(100_000) a
 assert coset.part(coset.SIGN1, token, coset.PAYLOAD) == bytes(100_000) and len(calls) == 3
 
 assert type(raised(coset.verify, coset.SIGN1, token, [-7], lambda question: 1)) is coset.Refused
+assert coset.put(coset.CLAIMS, b"", -70000, coset.Encoded(b"\xf5")) == coset.put_encoded(coset.CLAIMS, b"", -70000, b"\xf5")
 sealed = coset.make(coset.ENCRYPT0, coset.put(coset.HEADER, b"", 1, 1), b"", b"ciphertext")
 for answer, kind in ((None, coset.Refused), (False, coset.Refused), (True, TypeError), (0, TypeError), ("", TypeError), (b"plain", type(None))):
     assert type(raised(coset.decrypt, coset.ENCRYPT0, sealed, [1], lambda question: answer)) is kind, answer

@@ -1260,9 +1260,10 @@ fn token_form(number: i64) -> TokenForm {
 }
 
 impl TokenPolicy<'_> {
-    /// Returns the rules, if the greatest age isn't 0.
+    /// Returns the rules, if the greatest age isn't 0. Seconds above `i64::MAX` would switch off the checks of times.
     fn rules(&self) -> Result<c::Rules, Error> {
-        if self.max_age == Some(0) {
+        let most = i64::MAX as u64;
+        if self.max_age == Some(0) || self.leeway > most || self.max_age > Some(most) {
             return Err(Error::Misuse);
         }
         Ok(c::Rules {

@@ -18,6 +18,7 @@ import "C"
 
 import (
 	"fmt"
+	"math"
 	"time"
 	"unsafe"
 )
@@ -491,7 +492,8 @@ func KeyOf(data, keyID []byte) ([]byte, error) {
 
 // Options has what a structure has besides the message. Detached is the payload or ciphertext of a message that carries
 // none, and nil if it carries one. Critical has the critical labels that the caller understands. Signer is the content of
-// a countersignature's own protected header, or that of a signer.
+// a countersignature's own protected header, or that of a signer. A call returns ErrMisuse for a field that has no meaning for
+// it, unless that is zero.
 type Options struct {
 	Index       int
 	ExternalAAD []byte
@@ -500,8 +502,25 @@ type Options struct {
 	Signer      []byte
 }
 
+// The fields of Options that have a meaning for a call, besides ExternalAAD.
+const (
+	withIndex = 1 << iota
+	withDetached
+	withCritical
+	withSigner
+)
+
+// has returns true if each field that isn't zero has a meaning for the call.
+func (o Options) has(fields int) bool {
+	return (o.Index == 0 || fields&withIndex != 0) && (o.Detached == nil || fields&withDetached != 0) &&
+		(o.Critical == nil || fields&withCritical != 0) && (o.Signer == nil || fields&withSigner != 0)
+}
+
 // Structure returns the structure that is signed (by the signer at an index), authenticated, or goes with the ciphertext.
 func Structure(kind Kind, data []byte, o Options) ([]byte, error) {
+	if !o.has(withIndex | withDetached) {
+		return nil, ErrMisuse
+	}
 	in, n := at(data)
 	aad, aadLen := at(o.ExternalAAD)
 	content, contentLen := at(o.Detached)
@@ -523,6 +542,9 @@ func RecipientStructure(holder Kind, data, externalAAD []byte) ([]byte, error) {
 // CountersignStructure returns the structure that a countersignature of a message, a signature or a recipient signs. The
 // label is 7, 9, 11 or 12 (RFC 8152, section 4.5 and appendix A.2; RFC 9338, section 2).
 func CountersignStructure(kind Kind, data []byte, label int64, o Options) ([]byte, error) {
+	if !o.has(withDetached | withSigner) {
+		return nil, ErrMisuse
+	}
 	in, n := at(data)
 	signer, signerLen := at(o.Signer)
 	aad, aadLen := at(o.ExternalAAD)
@@ -551,6 +573,9 @@ type Message struct {
 // ReadMessage returns everything that verifying or decrypting a message takes. For a message with signers, it is for the
 // signer at an index.
 func ReadMessage(kind Kind, data []byte, o Options) (*Message, error) {
+	if !o.has(withIndex | withDetached | withCritical) {
+		return nil, ErrMisuse
+	}
 	in, n := at(data)
 	aad, aadLen := at(o.ExternalAAD)
 	content, contentLen := at(o.Detached)
@@ -608,8 +633,9 @@ type VerifierFunc func(question *Question) bool
 // Verify calls the function.
 func (f VerifierFunc) Verify(question *Question) bool { return f(question) }
 
-// A Decrypter returns the plaintext. An error refuses the message, and is returned. A message may have an IV in one header
-// and a partial IV in the other. Refuse it then (RFC 8152, section 3.1).
+// A Decrypter returns the plaintext. An error refuses the message, and is returned without the plaintext. Nil refuses it too;
+// an empty plaintext is []byte{}. A message may have an IV in one header and a partial IV in the other. Refuse it then (RFC
+// 8152, section 3.1).
 type Decrypter interface {
 	Decrypt(question *Question) ([]byte, error)
 }
@@ -687,11 +713,10 @@ func (q *Question) addIVs(kind Kind, data []byte) (err error) {
 // Decrypt returns the plaintext of an Encrypt0, with Tagged, Either or neither added. The decrypter gets the question, whose
 // proof is the ciphertext, with the IV and the partial IV.
 func Decrypt(kind Kind, data []byte, algorithms []int64, decrypter Decrypter, o Options) ([]byte, error) {
-	if kind&0xff != Encrypt0 || decrypter == nil {
+	if kind&0xff != Encrypt0 || decrypter == nil || !o.has(withDetached|withCritical) {
 		return nil, ErrMisuse
 	}
 	data, ciphertext := copied(data), o.Detached
-	o.Index = 0
 	found, err := ReadMessage(kind, data, o)
 	if err == nil && ciphertext == nil {
 		ciphertext, err = PartOf(kind, data, Ciphertext)
@@ -706,7 +731,14 @@ func Decrypt(kind Kind, data []byte, algorithms []int64, decrypter Decrypter, o 
 	if err != nil {
 		return nil, err
 	}
-	return decrypter.Decrypt(question)
+	plain, err := decrypter.Decrypt(question)
+	if err != nil {
+		return nil, err
+	}
+	if plain == nil {
+		return nil, ErrRefused
+	}
+	return plain, nil
 }
 
 // ---- Verifying tokens
@@ -917,7 +949,7 @@ func (o *opening) open(view *C.coset_layer, text []byte, opener Opener) error {
 // token is refused, the error is an *InvalidToken. ErrMisuse means that an argument or an answer has no meaning, such as an
 // unassigned algorithm, or a signature that has a plaintext.
 func VerifyToken(data []byte, opener Opener, policy TokenPolicy) (*VerifiedToken, error) {
-	if opener == nil {
+	if opener == nil || policy.Leeway > math.MaxInt64 || policy.MaxAge > math.MaxInt64 {
 		return nil, ErrMisuse
 	}
 	o := opening{
@@ -1277,6 +1309,9 @@ func PutAll(kind Kind, data []byte, pairs []Pair) ([]byte, error) {
 // StructureOf does the same as Structure for a message that isn't made yet, from its protected header. The content is the
 // payload; a structure that goes with a ciphertext has none. Signer is the signer's protected header, for Sign alone.
 func StructureOf(kind Kind, header, content []byte, o Options) ([]byte, error) {
+	if !o.has(withSigner) {
+		return nil, ErrMisuse
+	}
 	prot, protLen := at(header)
 	signer, signerLen := at(o.Signer)
 	aad, aadLen := at(o.ExternalAAD)

@@ -162,6 +162,44 @@ func TestRefusals(t *testing.T) {
 	}
 }
 
+func TestAnswersOfDecrypters(t *testing.T) {
+	sealed, own := must(t)(Make(Encrypt0, must(t)(PutInt(Header, nil, 1, 1)), nil, []byte("ciphertext"), nil)), errors.New("own")
+	for _, it := range []struct {
+		plain []byte
+		err   error
+		want  error
+	}{{nil, nil, ErrRefused}, {[]byte("plain"), own, own}, {[]byte{}, nil, nil}, {[]byte("plain"), nil, nil}} {
+		decrypter := DecrypterFunc(func(*Question) ([]byte, error) { return it.plain, it.err })
+		plain, err := Decrypt(Encrypt0, sealed, []int64{1}, decrypter, Options{})
+		if err != it.want || (plain == nil) != (it.want != nil) || it.want == nil && !bytes.Equal(plain, it.plain) {
+			t.Errorf("%q, %v and not %q, %v", plain, err, it.plain, it.want)
+		}
+	}
+}
+
+func TestFieldsWithoutMeaning(t *testing.T) {
+	signed, yes := message(t, "x"), VerifierFunc(func(*Question) bool { return true })
+	for name, call := range map[string]func() ([]byte, error){
+		"StructureOf":          func() ([]byte, error) { return StructureOf(Sign1, nil, nil, Options{Detached: []byte("x")}) },
+		"Structure":            func() ([]byte, error) { return Structure(Sign1+Either, signed, Options{Critical: []int64{9}}) },
+		"CountersignStructure": func() ([]byte, error) { return CountersignStructure(Sign1+Either, signed, 11, Options{Index: 1}) },
+		"Verify": func() ([]byte, error) {
+			return Verify(Sign1+Either, signed, []int64{ES256}, yes, Options{Signer: []byte{0xa0}})
+		},
+	} {
+		if _, err := call(); err != ErrMisuse {
+			t.Errorf("%s: %v", name, err)
+		}
+	}
+	for _, change := range []func(*TokenPolicy){func(p *TokenPolicy) { p.Leeway = 1 << 63 }, func(p *TokenPolicy) { p.MaxAge = 1 << 63 }} {
+		p := policy
+		change(&p)
+		if _, err := VerifyToken(token(t, 1), says, p); err != ErrMisuse {
+			t.Errorf("%v", err)
+		}
+	}
+}
+
 func TestFractionsOfSeconds(t *testing.T) {
 	claims := must(t)(PutAll(Claims, nil, []Pair{{1, "as"}, {3, "here"}, {4, 2000}, {5, 1000}}))
 	sealed := must(t)(Make(Sign1, must(t)(PutInt(Header, nil, 1, ES256)), nil, claims, make([]byte, 64)))

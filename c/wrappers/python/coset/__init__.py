@@ -819,8 +819,8 @@ def _seconds(number, field, least):
     """Returns a number of seconds that the library takes."""
     if isinstance(number, bool) or not isinstance(number, int):
         raise TypeError(f"{field} is a whole number of seconds")
-    if not least <= number < 1 << 64:
-        raise ValueError(f"{field} is a number of seconds from {least} to 2**64 - 1")
+    if not least <= number < 1 << 63:
+        raise ValueError(f"{field} is a number of seconds from {least} to 2**63 - 1")
     return number
 
 
@@ -1091,11 +1091,11 @@ def status_text(status):
 
 def put(kind, data, name, value):
     """Returns the header, key or claims set, which may be empty, with one more pair at its end. The pair is a label, an
-    int or a str, and an int, a float, a str, or bytes. True and False are no integers of CBOR: `put_encoded` takes them, as
+    int or a str, and an int, a float, a str, bytes, or an Encoded. True and False are no integers of CBOR: `put_encoded` takes them, as
     b"\xf5" and b"\xf4"."""
     if isinstance(value, bool):
         raise TypeError("True and False are no integers of CBOR: put_encoded takes their encodings")
-    if isinstance(name, str):
+    if isinstance(name, str) or isinstance(value, Encoded):
         return put_all(kind, data, [(name, value)])
     given = _kind(kind), *_bytes(data), _int64(name)
     if isinstance(value, int):
