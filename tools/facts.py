@@ -63,6 +63,9 @@ def unlike():
 
 # ---- promises
 
+# Cells of 'Where' that stand for many crates.
+EVERYWHERE = ("specs of each crate", "builders", "each call")
+
 
 def module(crate, name):
     """Returns the text of a crate's modules of that name, or of its folder specs/. An empty text: there are none."""
@@ -77,8 +80,10 @@ def crate_text(crate):
 
 
 def texts_at(cell):
-    """Yields each place that a cell 'Where' names, with its text: `crate`, module, .. or laws. Other words yield nothing."""
-    crate, parts = None, [it.strip() for it in cell.split(",")]
+    """Yields each place that a cell 'Where' names, with its text: `crate`, module, .. or laws, or many crates. Other words yield nothing."""
+    crate, parts = None, [it.strip() for it in re.split("[,;]", cell)]
+    if cell in EVERYWHERE:
+        yield cell, "".join(crate_text(it) for it in sorted(os.listdir(os.path.join(HERE, "crates"))))
     for at, part in enumerate(parts):
         if named := re.fullmatch(r"`(\w+)`", part):
             crate = named[1]
@@ -99,6 +104,8 @@ def misplaced():
         if len(cells) != 3 or cells[2] == "Where":
             continue
         texts = dict(texts_at(cells[2]))
+        if not texts:
+            yield f"PROVED: {cells[2]} is no place"
         yield from (f"PROVED: there is no {it}" for it, text in texts.items() if not text)
         known = set(WORD.findall("".join(texts.values())))
         for code in re.findall(r"`([^`]+)`", cells[1]) if texts else ():

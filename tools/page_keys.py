@@ -124,13 +124,13 @@ def message(signer, aad=b"", content=CONTENT, kid=KID, more=()):
     return head(6, 17 if is_mac else 18) + head(4, 4) + byte_string(protected) + unprotected + held + byte_string(proof)
 
 
-def signed_by(*signers):
+def signed_by(*signers, kid=KID):
     """Returns a COSE_Sign."""
     made = []
     for it in signers:
         protected = mapped((1, integer(it.number)))
         proof = it.sign(structure("Signature", b"", protected, b"", CONTENT))
-        made.append(head(4, 3) + byte_string(protected) + mapped((4, byte_string(KID))) + byte_string(proof))
+        made.append(head(4, 3) + byte_string(protected) + (mapped((4, byte_string(kid))) if kid else mapped()) + byte_string(proof))
     return head(6, 98) + head(4, 4) + b"\x40\xa0" + byte_string(CONTENT) + head(4, len(made)) + b"".join(made)
 
 
@@ -166,7 +166,8 @@ def of_algorithm(signer, other):
     yield f"{name}, another key", made, b"", other.cose().hex(), wrong
     yield f"{name}, a bit of the content", changed(made, made.index(CONTENT)), b"", signer.cose().hex(), wrong
     yield f"{name}, a bit of the proof", changed(made, len(made) - 1), b"", signer.cose().hex(), wrong
-    yield f"{name}, external_aad", message(signer, b"more"), b"more", signer.cose().hex(), right
+    told = [("verified", f"{title} verified by key 'our key' ({name}, with the given external_aad).")]
+    yield f"{name}, external_aad", message(signer, b"more"), b"more", signer.cose().hex(), told
     yield f"{name}, no external_aad", message(signer, b"more"), b"", signer.cose().hex(), wrong
 
 
@@ -182,6 +183,17 @@ def misfits(signer):
     critical = message(signer, more=((2, head(4, 1) + integer(-70000)), (-70000, integer(1))))
     yield "crit", critical, b"", signer.cose().hex(), [
         ("open", "Signature is of key 'our key' (ES256), but the message has critical labels (crit), and this page processes none.")]
+
+
+def of_many_keys(by_name, other):
+    """Yields a case with two keys in PEM, and signatures of the first by two algorithms: each key becomes two COSE_Keys."""
+    first, second = by_name["PS256"], by_name["RS256"]
+    wanted = [("verified", f"Signature {i} verified by key 0 ({it.name}).") for i, it in enumerate((first, second))]
+    yield "keys in PEM", signed_by(first, second, kid=b""), b"", first.pem() + other.pem(), wanted
+    quoted = message(by_name["ES256"], kid=b"root' (ES256). Signature 1 verified by key 'ca")
+    key = by_name["ES256"].cose(kid=b"root' (ES256). Signature 1 verified by key 'ca")
+    spelled = b"root' (ES256). Signature 1 verified by key 'ca".hex()
+    yield "a kid with quotes", quoted, b"", key.hex(), [("verified", f"Signature verified by key h'{spelled}' (ES256).")]
 
 
 def unusable(signer):
@@ -209,10 +221,11 @@ def of_several(first, second):
 
 def cases():
     """Yields all cases."""
-    by_name = {}
+    by_name, others = {}, {}
     for signer, other in signers():
-        by_name[signer.name] = signer
+        by_name[signer.name], others[signer.name] = signer, other
         yield from of_algorithm(signer, other)
+    yield from of_many_keys(by_name, others["RS256"])
     yield from misfits(by_name["ES256"])
     yield from unusable(by_name["ES256"])
     yield from of_several(by_name["ES256"], by_name["ES384"])

@@ -64,7 +64,7 @@ globalThis.verdictsOf = async (text, aad, key) => {
   field("aad", [...bytesOf(aad)].map(it => it.toString(16).padStart(2, "0")).join(""));
   await settled(() => open([new File([bytesOf(text)], "input")]));
   const found = [...at("verdicts").children].map(it => [it.className, it.firstChild.textContent, ...[...it.querySelectorAll("li")].map(it => it.textContent)]);
-  return [found, [...at("key-said").children].map(it => it.textContent), shownRows().map(it => it[6])];
+  return [found, [...at("key-said").children].map(it => it.textContent), shownRows().map(it => [it[0], it[5].split(" ")[1], it[6]])];
 };
 globalThis.hashOf = async (text, kind, form) => {
   const begun = performance.now(), told = await call("look", bytesOf(text), kind, form, NaN, new Uint8Array(0)), took = performance.now() - begun;
@@ -215,6 +215,16 @@ def compare(page, program, wrong, every, told):
     return f"inputs with kinds {len(every)}, rows shown {count}, answers {4 * len(every)}"
 
 
+def has_right_green(wanted, found):
+    """Returns true if rows are green as the states tell: each covered row if all signatures are verified, none if none is, and not the
+    content if a wrong signature covers it too."""
+    states = {state == "verified" for state, *_ in wanted}
+    green = [(digits, cover) for digits, cover, color in found if color == "s verified"]
+    if states == {True}:
+        return bool(green) and all(color == "s verified" for _, cover, color in found if cover in ("s", "a"))
+    return not green if states == {False} else not any(page_keys.CONTENT.hex() in digits for digits, _ in green)
+
+
 def verify(page, wrong, every):
     """Gives the page messages with keys, and compares its sentences. Only rows that a verified signature covers are green. Returns a
     line."""
@@ -223,8 +233,7 @@ def verify(page, wrong, every):
         given = json.dumps([[text(made), text(aad), key] for _, made, aad, key, _ in some])
         told = page.run(f"(async all => {{ const told = []; for (const it of all) told.push(await verdictsOf(...it)); return told; }})({given})")
         for (name, _, _, _, wanted), (found, said, colors) in zip(some, told):
-            is_green = any(state == "verified" for state, *_ in wanted)
-            if found != [list(it) for it in wanted] or is_green != ("s verified" in colors) or (said and "verified" in str(wanted)):
+            if found != [list(it) for it in wanted] or not has_right_green(wanted, colors) or (said and "verified" in str(wanted)):
                 wrong.append(f"{page.name} verifying {name}: {found} {said} {colors} and not {wanted}")
     return f"signatures and MACs {sum(len(it[4]) for it in every)}"
 
@@ -247,6 +256,8 @@ def compare_hostile(page, program, wrong, quick):
                     continue
                 if told[:2] != [status, hashlib.sha256(plain(answer.decode()).encode()).hexdigest()]:
                     wrong.append(f"{name} as {kind}, form {form}: {told} and not {status}, {len(answer)} bytes")
+    if stopped == tried:
+        wrong.append(f"the module stopped at each of {tried} hostile inputs")
     return f"hostile {tried}" + (f", of which the unproved module stopped at {stopped}" if stopped else "")
 
 
@@ -295,12 +306,12 @@ def test(path, program, given):
     for it in ENGINES:
         if not it.program():
             print(f"there is no {it.name}: the page isn't tried there")
-    if not found:
-        return None
     if not page_keys.HAS_CIPHERS:
-        print("there is no python3-cryptography: no signatures are tried")
+        print("there is no python3-cryptography: no signatures can be made")
+    if not found or not page_keys.HAS_CIPHERS or not (given.browser or browser.Browser.program()):
+        return None
     every = list(dict.fromkeys(cases()))[:: given.every]
-    inputs = every, native(program, every), list(page_keys.cases()) if page_keys.HAS_CIPHERS else []
+    inputs = every, native(program, every), list(page_keys.cases())
     wrong = []
     for it in found:
         tried(it, path, program, given, inputs, wrong)

@@ -131,7 +131,7 @@ def attack(folder, objects, calls, compiler="cc", runner=()):
     ran = subprocess.run(command, capture_output=True, text=True, check=False)
     told = ran.stdout.strip() or f"the attack says nothing: {ran.stderr.strip()[-500:]}"
     more = [f"not attacked: {', '.join(left)}"] if left else []
-    return ran.returncode == 0, "; ".join([told, *more])
+    return ran.returncode == 0 and not left, "; ".join([told, *more])
 
 
 def corpus(folder):

@@ -44,6 +44,7 @@ def refusals(program, lines, wanted, check):
             else:
                 check(agrees(got, want), f"refused {number}: {asked}: {got} and not {want}")
         if refused == before:
+            check(refused, "no allocation is refused")
             return refused
     check(False, "calls make more requests than are refused")
     return refused

@@ -108,15 +108,22 @@ def compare_functions(sources, check):
     check(not declared, f"the Rust wrapper has no {', '.join(declared)}")
 
 
+# Constants of the header that Python has by other words.
+NOT_IN_RANGES = {"FALSE", "TRUE", "NULL"}
+
+
 def compare_python(check):
     """Compares the constants of the Python wrapper with the header's."""
     numbers = {n: int(v, 0) for n, v in re.findall(CONSTANT, header() + read("c", "include", "coset_items.h"))}
-    python = read("c", "wrappers", "python", "coset", "__init__.py")
+    python, seen = read("c", "wrappers", "python", "coset", "__init__.py"), set()
     for names, first in re.findall(r"^([A-Z0-9_, ]+) = (?:map\(Kind, )?range\((\w+), \w+\)", python, re.M):
         for place, name in enumerate(names.strip().split(", ")):
             parts = [name] if "COSET_" + name in numbers else name.rsplit("_", 1)
             number = sum(numbers.get("COSET_" + part, 0) for part in parts)
             check(number == int(first, 0) + place, f"the Python wrapper's {name}")
+            seen |= set(parts)
+    unseen = {name.removeprefix("COSET_") for name in numbers} - seen
+    check(unseen <= NOT_IN_RANGES, f"the Python wrapper has no {', '.join(sorted(unseen - NOT_IN_RANGES))} in a range")
 
 
 def javascript():

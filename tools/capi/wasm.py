@@ -194,7 +194,9 @@ def with_hostile_input(caller, node, check):
     wanted = [NAMES[int(it.split()[0])].replace(NAMES[SHORT], NAMES[OK]) for it in calling.answers([caller], lines, check)]
     for asked, want, got, after in zip(lines, wanted, told[::2], told[1::2]):
         check(got.split()[0] in (want, NAMES[MEMORY]) and after.strip() == "ok", f"JavaScript: {asked[:80]}: {got[:80]} and not {want}, {after}")
-    return f"with hostile input {len(lines)}, without enough stack {told[::2].count(NAMES[MEMORY])}"
+    short = told[::2].count(NAMES[MEMORY])
+    check(short < len(lines), "JavaScript: no hostile input has enough stack")
+    return f"with hostile input {len(lines)}, without enough stack {short}"
 
 
 def laid_out(folder, quick):

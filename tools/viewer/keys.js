@@ -121,19 +121,21 @@ async function bytesOfText(text) {
   return bytesOfHex(digitsOf(0, found.count, found));
 }
 
-// Returns the COSE_Keys of JWKs and a sentence on each that isn't one. A JWK of RSA without an algorithm becomes a key for each of
-// these algorithms.
+// Returns the COSE_Keys of JWKs, the place of each in the list of JWKs, and a sentence on each JWK that isn't one. A JWK of RSA without
+// an algorithm becomes a key for each of these algorithms.
 function keysOfJwks(jwks, rsa) {
-  const keys = [], problems = [];
+  const keys = [], problems = [], places = [];
   for (const [i, jwk] of jwks.entries()) {
     try {
       const isOpen = jwk.kty === "RSA" && jwk.alg === undefined && rsa.length > 0;
-      keys.push(...(isOpen ? rsa.map(alg => coseKey({ ...jwk, alg })) : [coseKey(jwk)]));
+      const made = isOpen ? rsa.map(alg => coseKey({ ...jwk, alg })) : [coseKey(jwk)];
+      keys.push(...made);
+      places.push(...made.map(() => i));
     } catch (error) {
       problems.push(`key ${i}: ${error.message}`);
     }
   }
-  return { bytes: setOf(keys), problems };
+  return { bytes: setOf(keys), problems, places };
 }
 
 // Reads the key field. Returns a function from the RSA algorithms of the message to the bytes of a COSE_Key or a COSE_KeySet, with

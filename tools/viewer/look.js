@@ -51,6 +51,7 @@ function plainSummary(status) {
 }
 
 function put(status, answered) {
+  document.body.classList.remove("stale");
   rows = answered;
   verdicts = [];
   plant();
@@ -70,6 +71,7 @@ async function show() {
   const asked = given(), mine = waiting = {};
   if (!isReady) return;
   if (isEmpty()) return clearResult();
+  document.body.classList.add("stale");  // until there is an answer to what the fields contain now
   await asking;
   if (mine !== waiting) return;
   try {
@@ -83,6 +85,7 @@ async function show() {
 }
 
 function clearResult() {
+  document.body.classList.remove("stale");
   for (const id of ["result", "after", "ciphers"]) at(id).hidden = true;
   for (const id of ["verdicts", "key-said"]) at(id).replaceChildren();
   at("read").textContent = "";
@@ -115,7 +118,7 @@ async function copyAll(event) {
 
 function copyLink(event) {
   const digits = digitsOf(0, rows.count);
-  if (digits.length > 2 * LINK) return say("refused", "No link", `it would contain more than ${LINK} bytes`);
+  if (digits.length > 2 * LINK) return at("read").textContent = `no link: it would contain more than ${LINK} bytes`;
   copied(event.target, `${location.href.split("#")[0]}#${digits}`);
 }
 
@@ -123,16 +126,22 @@ function copyLink(event) {
 
 async function open(files) {
   if (!files.length) return;
+  const [{ name }] = files, mine = waiting = {};
   try {
-    file = { name: files[0].name, bytes: new Uint8Array(await files[0].arrayBuffer()) };
+    const bytes = new Uint8Array(await files[0].arrayBuffer());
+    if (mine !== waiting) return;
+    file = { name, bytes };
   } catch {
-    return say("refused", "Not read", `${files[0].name} can't be read: a folder has no bytes`);
+    if (mine !== waiting) return;
+    clearResult();
+    say("refused", "Not read");
+    return at("status").append(": ", element("bdi", name), " can't be read: a folder has no bytes");
   }
   at("input").value = "";
   at("file").value = "";
   at("sample").value = "";
   const others = files.length > 1 ? `; of ${files.length} files, the first is shown` : "";
-  at("dropped").textContent = `${file.name}, ${file.bytes.length.toLocaleString("en")} bytes${others}`;
+  at("dropped").replaceChildren(element("bdi", name), `, ${file.bytes.length.toLocaleString("en")} bytes${others}`);
   showAgain();
 }
 
@@ -147,11 +156,16 @@ function type(text) {
 // Shows a sample with its key.
 function showSample(i) {
   const { input, key = "" } = SAMPLES[i];
+  clearFields();
   at("sample").value = i;
-  at("kind").value = "auto";
-  at("aad").value = "";
   at("key").value = key;
   type(input);
+}
+
+// Clears what the input doesn't have: the sample, the kind, the key and external_aad.
+function clearFields() {
+  for (const id of ["sample", "key", "aad"]) at(id).value = "";
+  at("kind").value = "auto";
 }
 
 // Shows the input of the address, behind `#`. Returns false if there is none.
@@ -162,7 +176,7 @@ function showLinked() {
   } catch {
     // The text has a % that begins no character.
   }
-  if (text) at("key").value = "", at("sample").value = "", type(text);
+  if (text) clearFields(), type(text);
   return text !== "";
 }
 
@@ -188,7 +202,7 @@ function listen() {
   for (const id of ["kind", "clock", "moment", "aad", "key"]) at(id).oninput = showAgain;
   at("form").onsubmit = event => event.preventDefault();
   at("sample").onchange = () => at("sample").value && showSample(Number(at("sample").value));
-  at("clear").onclick = () => (at("key").value = "", at("sample").value = "", type(""));
+  at("clear").onclick = () => (clearFields(), type(""));
   at("file").onchange = event => open([...event.target.files]);
   at("copy").onclick = copyAll;
   at("link").onclick = copyLink;

@@ -16,9 +16,10 @@ const REASONS = {
 const CURVE_NAMES = Object.fromEntries(Object.entries(CURVES).map(([name, number]) => [number, name]));
 const MESSAGE = /^COSE_(Sign1|Sign|Mac0|Mac|Encrypt0|Encrypt)\b/;
 
-// Parses the module's lines on signatures. Returns these, each with its keys, and the errors of keys that can't be read.
-function sealsIn(text) {
-  const seals = [], unread = [];
+// Parses the module's lines on signatures. Returns these, each with its keys, and the errors of keys that can't be read. `places` has
+// the place of each key in what the user gave, if that differs.
+function sealsIn(text, places) {
+  const seals = [], unread = [], placeOf = index => places?.[index] ?? index;
   for (const line of text.split("\n")) {
     const [sort, ...fields] = line.split("\t");
     if (sort === "S") {
@@ -26,15 +27,15 @@ function sealsIn(text) {
       seals.push({ name, form, algorithm, structure, proof, keys: [] });
     } else if (sort === "K") {
       const [index, kid, verdict, kty, crv, ...members] = fields;
-      seals[seals.length - 1].keys.push({ index, kid, verdict, kty, crv, ...Object.fromEntries(members.map(it => it.split("="))) });
-    } else if (sort === "X") unread.push(fields[0] === "-" ? `the keys: ${fields[1]}` : `key ${fields[0]}: ${fields[1]}`);
+      seals[seals.length - 1].keys.push({ index: placeOf(index), kid, verdict, kty, crv, ...Object.fromEntries(members.map(it => it.split("="))) });
+    } else if (sort === "X") unread.push(fields[0] === "-" ? `the keys: ${fields[1]}` : `key ${placeOf(fields[0])}: ${fields[1]}`);
   }
   return { seals, unread, isCut: /^\.\. more/m.test(text) };
 }
 
-async function sealsOf([input, kind, , , aad], keys) {
+async function sealsOf([input, kind, , , aad], keys, places) {
   const { status, text } = await call("seals", input, kind, keys, aad);
-  return status === 0 ? sealsIn(decoder.decode(text)) : { seals: [], unread: [], isCut: false };
+  return status === 0 ? sealsIn(decoder.decode(text), places) : { seals: [], unread: [], isCut: false };
 }
 
 // ---- WebCrypto
@@ -89,7 +90,7 @@ async function isCritical(seal) {
 
 function nameOfKey({ index, kid }) {
   const text = kid === "-" || kid === "" ? "" : decoder.decode(bytesOfHex(kid));
-  return text === "" ? `key ${index}` : /^[\x20-\x7e]+$/.test(text) ? `key '${text}'` : `key h'${kid}'`;
+  return text === "" ? `key ${index}` : /^[\x20-\x26\x28-\x5b\x5d-\x7e]+$/.test(text) ? `key '${text}'` : `key h'${kid}'`;
 }
 
 function titleOf({ name, form }) {
@@ -117,7 +118,8 @@ async function verdictOf(seal) {
     const but = `${title} is of ${nameOfKey(right.key)} (${name}), but the message has critical labels (crit), and this page processes none.`;
     return { ...open([but]), isChecked: true };
   }
-  if (right) return { seal, state: "verified", said: [`${title} verified by ${nameOfKey(right.key)} (${name}).`] };
+  const how = at("aad").value.trim() === "" ? name : `${name}, with the given external_aad`;
+  if (right) return { seal, state: "verified", said: [`${title} verified by ${nameOfKey(right.key)} (${how}).`] };
   const names = wrong.map(it => nameOfKey(it.key)).join(", ");
   if (wrong.length) return { seal, state: "wrong", said: [`${title} does not verify with ${names} (${name}).`, ...problems] };
   if (!seal.keys.length) return open([`${title} (${name}) not checked: there is no key to check it with.`]);
@@ -209,6 +211,13 @@ function verdictElement({ state, said: [first, ...others] }) {
   return made;
 }
 
+// Returns a sentence on a key that isn't read. It may have a text of the key, which can't move its neighbours.
+function problemElement(problem) {
+  const made = element("li");
+  made.append(element("bdi", cut(problem, "cut")));
+  return made;
+}
+
 // Returns the sort of a seal by its name, as the summary calls it.
 function sortOf(name) {
   return /\btag\b/.test(name) ? "mac" : /\b(?:counter)?signature\b/.exec(name)?.[0];
@@ -226,10 +235,11 @@ function uncheckedSummary(summary) {
 
 // Returns the sentences on each signature, with its rows, and those on keys that aren't read.
 async function judged(asked) {
+  if (at("aad").getAttribute("aria-invalid") === "true") throw new Error("external_aad isn't hexadecimal");
   const given = await keysGiven(), bare = await sealsOf(asked, NO_BYTES);
   const rsa = [...new Set(bare.seals.map(it => CHECKS[it.algorithm]?.[0]).filter(it => /^[PR]S/.test(it)))];
-  const { bytes, problems } = given ? given(rsa) : { bytes: null, problems: [] };
-  const found = bytes ? await sealsOf(asked, bytes) : bare;
+  const { bytes, problems, places } = given ? given(rsa) : { bytes: null, problems: [] };
+  const found = bytes ? await sealsOf(asked, bytes, places) : bare;
   const more = found.isCut ? [{ state: "open", said: ["Further signatures are not checked."] }] : [];
   return { told: [...await Promise.all(found.seals.map(verdictOf)), ...more], problems: [...problems, ...(bytes ? found.unread : [])] };
 }
@@ -242,7 +252,7 @@ async function verify(asked, isCurrent) {
   verdicts = told.map(it => ({ ...it, ranges: it.seal ? rangesOf(it.seal) : [] }));
   colourVerified();
   at("verdicts").replaceChildren(...verdicts.map(verdictElement));
-  at("key-said").replaceChildren(...problems.map(it => element("li", it)));
+  at("key-said").replaceChildren(...problems.map(problemElement));
   const isChecked = verdicts.some(it => it.state !== "open" || it.isChecked);
   at("ciphers").hidden = !isChecked;
   if (isChecked) saySummary(uncheckedSummary(rows.summary));
