@@ -11,7 +11,7 @@ use Rattle.coset.specs.Errors.{UnlessMemory}
 use Rattle.ffi_query.specs.declared.kind.Kind as kinds
 use Rattle.ffi_query.specs.declared.kind.Kind.TheVariants.{Sign1, Sign, Mac0, Mac, Encrypt0, Encrypt, Signature, Recipient}
 use Rattle.ffi_query.specs.declared.kind.Kind.TheVariants.{Header, Key, KeySet, Claims, Any, KdfContext}
-use Rattle.ffi_query.specs.Kinds.{ChecksAs, HoldsOf, IsItemOf, IsOf, IsRefused, tag_of, without_tag}
+use Rattle.ffi_query.specs.Kinds.{Checks, ChecksAs, HoldsOf, IsItemOf, IsOf, IsRefused, tag_of, without_tag}
 
 -- A property of every shape is one of the kind's shape.
 holds_of_all : (k : kinds.Kind) (P : (A : Type 0) → Shape A → Type 0) → ((A : Type 0) (s : Shape A) → P A s) → HoldsOf k P
@@ -81,3 +81,7 @@ pub not_checked : {A : Type 0} (s : Shape A) (b : List ℕ) (e : CoseError) (r :
     → ChecksAs s b r
 not_checked s b e (Ok x) is f n = absurd is
 not_checked s b e (Err x) is f n = subst (λ y. ChecksAs s b (Err y)) (sym is) (λ m. (f m, n m))
+
+pub check_refused : (k : kinds.Kind) (b : List ℕ) (e : CoseError) (r : Result (Unit {0}) CoseError) → IsErrAnd r (λ x. x ≡ e) → IsRefused k b e → Checks k b r
+check_refused k b e (Ok x) is h = absurd is
+check_refused k b e (Err x) is h = subst (λ y. Checks k b (Err y)) (sym is) h

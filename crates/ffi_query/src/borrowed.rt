@@ -11,8 +11,8 @@ ghost use Rattle.coset.specs.Pulls.{pull_item};
 ghost use Rattle.coset.specs.Shortest.{IsShortest};
 ghost use Rattle.coset.specs.Structure.{structure};
 ghost use Rattle.coset_cbor.specs.Least.{least_head};
-ghost use Rattle.ffi_query.specs.Results.{Finds, IsEncodingOf};
-ghost use Rattle.ffi_query.specs.Labels.{IsNumber, IsProtected, unprotected_value};
+ghost use Rattle.ffi_query.specs.Results.{IsEncodingOf};
+ghost use Rattle.ffi_query.specs.Labels.{IsProtected, unprotected_value};
 ghost use Rattle.ffi_query.specs.Found.{IsFound};
 ghost use Rattle.ffi_query.specs.Borrowed.{AreHeaders, AreNamed, AreTexts, HasNoCritical, IsBehindThree, IsAttached, IsEmptyIn, IsBorrowedOf, IsMapOf, KnowsAlgorithm, KnowsKeyId, structure_by};
 ghost use Rattle.ffi_query.specs.Located.{AreElementsIn, IsLocated, IsTextIn, elements_left, located_item};
@@ -22,7 +22,7 @@ ghost use Rattle.ffi_query.specs.View.{IsAlgorithm, proof_in};
 
 use crate::found::Found;
 use crate::kind::Kind;
-use crate::located::{Elements, Located, Text, bytes_located, next_located};
+use crate::located::{Elements, Located, Text, bytes_located, next_located, number_of};
 use crate::named::{Named, named_in, nothing_named};
 use crate::part::Part;
 use crate::structure::is_given_twice;
@@ -112,16 +112,6 @@ fn unprotected_named(headers: Headers<'_>) -> Named<'_>
         → AreNamed b (λ l w. unprotected_value l v ≡ Some w) result }
 {
     named_in(headers.unprotected)
-}
-
-/// Returns the integer that the item is, if it fits in an `i64`.
-pub(crate) fn number_of(item: Pull<'_>) -> Option<i64>
-    ensures { Finds (λ n. n) (IsNumber (pull_item item.entry)) result }
-{
-    match item.integer() {
-        Some(number) => i64::try_from(number).ok(),
-        None => None,
-    }
 }
 
 /// Returns the algorithm that this value names.

@@ -13,13 +13,13 @@ ghost use Rattle.ffi_query.specs.Located.{IsLocated, IsTextIn, located_item};
 ghost use Rattle.ffi_query.specs.Places.{bytes_in};
 ghost use Rattle.ffi_query.specs.Spans.{IsAt};
 
-use crate::borrowed::{map_located, number_of};
+use crate::borrowed::map_located;
 use crate::found::whole_of;
 use crate::item::{item_located, item_of};
 use crate::kind::Kind;
 use crate::label::{Label, Map, find_value};
 use crate::located::{
-    Located, Text, after, bytes_located, element_located, member_located, opens_chunks,
+    Located, Text, after, bytes_located, element_located, member_located, number_of, opens_chunks,
     pair_located, string_located, value_located,
 };
 use crate::refusal::Refusal;

@@ -1,6 +1,6 @@
 //! Checks that an item is a message, without copying its content.
 
-ghost use Rattle.std.specs.Prelude.{◌≡◌, List, ℕ, IfSome, true};
+ghost use Rattle.std.specs.Prelude.{◌≡◌, List, ℕ, IfSome, IsTrue, true};
 ghost use Rattle.coset.specs.Headers.{header, protected};
 ghost use Rattle.coset.specs.Item.{Item};
 ghost use Rattle.coset.specs.PerhapsTagged.{untagged};
@@ -9,13 +9,16 @@ ghost use Rattle.coset.specs.Shape.{◌then◌, bstr, end, or_nil};
 ghost use Rattle.ffi_query.specs.Fits.{Fits, FitsElements, FitsForm, FitsKind, FitsThree, IsInForm};
 ghost use Rattle.ffi_query.specs.Kinds.{is_under, is_under_some, tag_of, without_tag};
 ghost use Rattle.ffi_query.specs.Located.{IsLocated, elements_left, located_item};
+ghost use Rattle.ffi_query.specs.Plain.{IsHeaderContent};
 ghost use Rattle.ffi_query.specs.Three.{AreThreeIn, IsThree};
 
 use crate::kind::{Form, Kind};
-use crate::located::{Elements, Located, next_located};
+use crate::located::{Elements, Located, next_located, only_bytes};
+use crate::plain::is_plain_header;
 use crate::three::{Three, three_of};
 use coset::cbor::de::Pull;
 use coset::{FromPull, Header, ProtectedHeader};
+use coset_codec::traits::whole_item;
 use std::alloc::Global;
 
 /// Returns true if the form allows a message that is or isn't under its tag, as `is_tagged` says.
@@ -30,19 +33,40 @@ fn is_in_form(form: Form, is_tagged: bool) -> bool
     }
 }
 
+/// Returns true if the content of a byte string is empty or encodes a plain header.
+fn is_plain_content(content: &[u8]) -> bool
+    ensures { IsTrue result → IsHeaderContent content.now }
+{
+    if content.is_empty() {
+        return true;
+    }
+    match whole_item(content) {
+        Ok(map) => is_plain_header(map),
+        Err(_) => false,
+    }
+}
+
 /// Returns true if the item is a valid protected header. False may also mean that an allocation
-/// failed.
+/// failed. A plain header is recognised without allocating.
 fn is_protected(alloc: Global, place: Pull<'_>) -> bool
     ensures { Fits protected (pull_item place.entry) result }
 {
+    if let Some(content) = only_bytes(place) {
+        if is_plain_content(content) {
+            return true;
+        }
+    }
     ProtectedHeader::from_pull_bstr(alloc, place).is_ok()
 }
 
 /// Returns true if the item is a valid unprotected header. False may also mean that an allocation
-/// failed.
+/// failed. A plain header is recognised without allocating.
 fn is_unprotected(alloc: Global, place: Pull<'_>) -> bool
     ensures { Fits header (pull_item place.entry) result }
 {
+    if is_plain_header(place) {
+        return true;
+    }
     Header::from_pull(alloc, place).is_ok()
 }
 
@@ -157,8 +181,9 @@ fn without_proof<'a>(
 /// Returns the first three elements of a message, if the item is found to be one of this kind.
 ///
 /// The messages found here are `COSE_Sign1`, `COSE_Mac0` and `COSE_Encrypt0`. `item` is without the
-/// message's tag, and `is_tagged` says whether the message had it. The headers are decoded, and the
-/// content isn't copied. If the result is `None`, the item may be a message all the same.
+/// message's tag, and `is_tagged` says whether the message had it. Headers that aren't plain are
+/// decoded, and the content isn't copied. If the result is `None`, the item may be a message all the
+/// same.
 pub(crate) fn fits<'a>(
     alloc: Global,
     kind: Kind,

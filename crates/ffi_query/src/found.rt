@@ -9,7 +9,7 @@ ghost use Rattle.ffi_query.specs.Found.{IsFound};
 ghost use Rattle.ffi_query.specs.Kinds.{Checks, IsRefused};
 
 use crate::fits::fits;
-use crate::kind::{Kind, check};
+use crate::kind::{Kind, check_by_decoding};
 use crate::located::{Located, without_tag_located};
 use crate::three::{Three, three_of};
 use coset::Result;
@@ -40,7 +40,7 @@ pub(crate) fn whole_of(alloc: Global, kind: Kind, bytes: &[u8]) -> Result<Pull<'
     if let Ok(whole) = whole_item(bytes) {
         return Ok(whole);
     }
-    check(alloc, kind, bytes)?;
+    check_by_decoding(alloc, kind, bytes)?;
     Ok(whole_item(bytes)?)
 }
 
@@ -53,7 +53,7 @@ fn check_item(alloc: Global, kind: Kind, bytes: &[u8]) -> Result<()>
 {
     match kind {
         Kind::Any => Ok(()),
-        _ => check(alloc, kind, bytes),
+        _ => check_by_decoding(alloc, kind, bytes),
     }
 }
 
@@ -83,4 +83,20 @@ pub(crate) fn find_item(alloc: Global, kind: Kind, bytes: &[u8]) -> Result<Found
         is_tagged,
         three: three_of(item),
     })
+}
+
+/// Checks that the bytes are an item of this kind.
+///
+/// Allocates nothing for a valid `COSE_Sign1`, `COSE_Mac0` or `COSE_Encrypt0` with plain headers
+/// (docs/C.md, 'Plain headers').
+///
+/// # Errors
+/// - The reason why the bytes aren't of the kind. If there are several, it is the one that decoding
+///   the type returns.
+/// - `OutOfMemory` if an allocation fails.
+pub fn check(alloc: Global, kind: Kind, bytes: &[u8]) -> Result<()>
+    ensures { Checks kind bytes.now result }
+{
+    find_item(alloc, kind, bytes)?;
+    Ok(())
 }

@@ -1,4 +1,4 @@
-//! Kinds of items, and the check that bytes are an item of one.
+//! Kinds of items, and the decoding of bytes as an item of one.
 
 ghost use Rattle.std.specs.Prelude.{◌≡◌};
 ghost use Rattle.coset.specs.PerhapsTagged.{perhaps_tagged};
@@ -115,13 +115,11 @@ fn check_message<T: CborSerializable + TaggedCborSerializable + Drop>(
     }
 }
 
-/// Checks that the bytes are an item of this kind.
+/// Decodes the bytes as an item of this kind.
 ///
 /// # Errors
-/// - The reason why the bytes aren't of the kind. If there are several, it is the one that decoding
-///   the type returns.
-/// - `OutOfMemory` if an allocation fails.
-pub fn check(alloc: Global, kind: Kind, bytes: &[u8]) -> Result<()>
+/// The errors of [`check`](crate::check).
+pub(crate) fn check_by_decoding(alloc: Global, kind: Kind, bytes: &[u8]) -> Result<()>
     ensures { Checks kind bytes.now result }
 {
     match kind {

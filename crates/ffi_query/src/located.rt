@@ -9,10 +9,11 @@ ghost use Rattle.coset.specs.LabelData.{number};
 ghost use Rattle.coset.specs.Parts.{as_array, as_bytes, as_map};
 ghost use Rattle.coset.specs.Pulls.{pull_bytes, pull_item};
 ghost use Rattle.ffi_query.specs.Kinds.{is_under, is_under_some, without_tag};
-ghost use Rattle.ffi_query.specs.Labels.{first_value, is_label, is_same, value_under};
+ghost use Rattle.ffi_query.specs.Labels.{IsNumber, first_value, is_label, is_same, value_under};
 ghost use Rattle.ffi_query.specs.Located.{AreElementsIn, AreEntriesIn, AreLocated, IsContentOf, IsLocated, IsNoContent, IsNoString, IsTextIn, elements_left, entries_left, head_len, located_item, opens_chunks};
 ghost use Rattle.ffi_query.specs.Pairs.{nth_pair, pair_in};
 ghost use Rattle.ffi_query.specs.Places.{array_in, element, member_at, members, nth, string_in};
+ghost use Rattle.ffi_query.specs.Results.{Finds};
 
 use crate::kind::Kind;
 use coset::cbor::de::{Items, Pairs, Pull};
@@ -273,6 +274,16 @@ pub(crate) fn pair_located(map: Located<'_>, index: usize) -> Option<(Located<'_
     }
 }
 
+/// Returns the integer that the item is, if it fits in an `i64`.
+pub(crate) fn number_of(item: Pull<'_>) -> Option<i64>
+    ensures { Finds (λ n. n) (IsNumber (pull_item item.entry)) result }
+{
+    match item.integer() {
+        Some(number) => i64::try_from(number).ok(),
+        None => None,
+    }
+}
+
 /// Returns true if the key is the integer `label`.
 pub(crate) fn is_number(key: &Option<Integer>, label: i64) -> bool
     ensures { result ≡ is_same int_eq key.now label }
@@ -329,7 +340,7 @@ pub(crate) fn opens_chunks(is_text: bool, bytes: &[u8]) -> bool
 }
 
 /// Returns the content of a byte string of definite length, which is its only chunk.
-fn only_bytes(item: Pull<'_>) -> Option<&[u8]>
+pub(crate) fn only_bytes(item: Pull<'_>) -> Option<&[u8]>
     ensures { MatchOption result (IsNoString false (pull_bytes item.entry) (pull_item item.entry))
         (IsContentOf false (pull_bytes item.entry) (pull_item item.entry)) }
 {

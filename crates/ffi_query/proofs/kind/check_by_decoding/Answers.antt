@@ -1,4 +1,4 @@
-use Rattle.ffi_query.proofs.kind.check.Goals as goal
+use Rattle.ffi_query.proofs.kind.check_by_decoding.Goals as goal
 
 pub returns-in-Sign1 : goal.returns-in-Sign1
 returns-in-Sign1 c = rw c.in-Sign1.is c.check_message.ensures

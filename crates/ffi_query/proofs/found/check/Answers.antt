@@ -1,0 +1,9 @@
+use Rattle.ffi_query.proofs.EachKind.{check_refused}
+use Rattle.ffi_query.proofs.found.check.Goals as goal
+
+pub returns-in_err-find_item : goal.returns-in_err-find_item
+returns-in_err-find_item c =
+    check_refused c.args.kind c.args.bytes.now c.in_err-find_item.field-0.0 c.from_residual.result c.from_residual.ensures.1 c.in_err-find_item.ensures
+
+pub returns : goal.returns
+returns c = c.in_ok-find_item.ensures.is_item.is_of
