@@ -23,6 +23,7 @@ FORMS = {1: ["--color=always"], 2: ["--edn"], 3: ["--where"]}
 MOMENT = 1_500_000_000
 AAD = b"more"
 MEGABYTE = 1 << 20
+NESTED = ("deepest", "nested", "recipients", "layers")  # hostile input whose headers or recipients nest as deeply as the library allows
 STEPS, BYTES = 32, 32  # as many levels are indented, and as many digits are in a row
 COLORS = {"s": "\33[94m", "a": "\33[94m", "n": "\33[33m", "u": "\33[33m", "c": "\33[36m", "r": "\33[1;31m", "": ""}
 WORDS = {"s": "covered by the signature", "a": "covered by MAC or cipher", "n": "not covered", "u": "not covered", "c": "", "r": "refused", "-": ""}
@@ -239,8 +240,9 @@ def verify(page, wrong, every):
 
 
 def compare_hostile(page, program, wrong, quick):
-    """Compares hostile input by the hashes of outputs. An unproved module may stop."""
-    tried = stopped = 0
+    """Compares hostile input by the hashes of outputs. An unproved module may stop. Input that nests deeply may need more stack than
+    the engine has: then there is no answer."""
+    tried = stopped = short = 0
     for name, data in hostile().items():
         kinds = ["encrypt", "mac"] if name.startswith("recipients") else ["auto", "claims"] if name.startswith("long") else ["auto", "sign1"]
         for kind in kinds:
@@ -251,14 +253,16 @@ def compare_hostile(page, program, wrong, quick):
                     told = page.run(f'hashOf("{text(data.hex().encode())}", {KINDS.index(kind)}, {form})')
                 except RuntimeError as error:
                     stopped += 1
-                    if not quick:
+                    if "Maximum call stack size exceeded" in str(error) and name.startswith(NESTED):
+                        short += 1
+                    elif not quick:
                         wrong.append(f"{name} as {kind}: {str(error)[:300]}")
                     continue
                 if told[:2] != [status, hashlib.sha256(plain(answer.decode()).encode()).hexdigest()]:
                     wrong.append(f"{name} as {kind}, form {form}: {told} and not {status}, {len(answer)} bytes")
     if stopped == tried:
         wrong.append(f"the module stopped at each of {tried} hostile inputs")
-    return f"hostile {tried}" + (f", of which the unproved module stopped at {stopped}" if stopped else "")
+    return f"hostile {tried}, without enough stack {short}" + (f", of which the unproved module stopped at {stopped - short}" if stopped > short else "")
 
 
 # ---- all of it
@@ -296,7 +300,7 @@ def tried(engine, path, program, given, inputs, wrong):
             wrong += page_use.shots(page)
             print(f"  a megabyte: {times(page)}", flush=True)
             print(f"  {compare_hostile(page, program, wrong, given.quick)}", flush=True)
-        others = [it for it in page.requests if it != f"file://{path}" and not it.startswith(("blob:", "https://example.com/"))]
+        others = [it for it in page.requests if it != f"file://{path}" and not it.startswith(("blob:", "data:", "https://example.com/"))]
         wrong += [f"a request to {it}" for it in others]
 
 
