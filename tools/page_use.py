@@ -125,6 +125,12 @@ def times(page):
     show(page, 'at("clock").checked = false; at("moment").value = "2015-10-05T12:00:00"; showAgain()')
     before = page.run('at("rows").textContent.includes("expired")')
     show(page, 'at("clock").checked = true; showAgain()')
+    show(page, 'at("clock").checked = false; at("moment").value = ""; at("more").open = false; showAgain()')
+    if not page.run('at("more").open'):
+        yield "a moment that is missing isn't seen"
+    show(page, "showSample(0)")
+    if "Expired" not in page.run('at("status").textContent'):
+        yield "a sample isn't judged by the clock"
     here = page.run('[...at("rows").querySelectorAll("small")].map(it => it.textContent).join()')
     if here != "5 Oct 2015, 19:09 here,4 Oct 2015, 09:49 here,4 Oct 2015, 09:49 here":
         yield f"times in the browser's zone: {here}"

@@ -20,6 +20,7 @@ function given() {
   at("aad").setAttribute("aria-invalid", String(!isHex));
   at("aad-said").textContent = isHex ? "" : "not hexadecimal: taken as empty";
   at("moment").disabled = at("clock").checked;
+  if (!isHex || isNaN(now)) at("more").open = true;  // what is wrong there must be seen
   at("date").textContent = isNaN(now) ? "no moment: times are not judged" : `${new Date(1000 * now).toISOString().slice(0, 16).replace("T", " ")} UTC`;
   const input = file ? file.bytes : encoder.encode(at("input").value);
   return [input, Object.keys(KINDS).indexOf(at("kind").value), ROWS, now, isHex ? bytesOfHex(digits) : NO_BYTES];
@@ -162,10 +163,11 @@ function showSample(i) {
   type(input);
 }
 
-// Clears what the input doesn't have: the sample, the kind, the key and external_aad.
+// Clears what the input doesn't have: the sample, the kind, the key, external_aad and the moment.
 function clearFields() {
-  for (const id of ["sample", "key", "aad"]) at(id).value = "";
+  for (const id of ["sample", "key", "aad", "moment"]) at(id).value = "";
   at("kind").value = "auto";
+  at("clock").checked = true;
 }
 
 // Shows the input of the address, behind `#`. Returns false if there is none.
