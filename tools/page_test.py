@@ -208,7 +208,8 @@ def compare(page, program, wrong, every, told):
             status, wanted = told[case, 1]
             said, lines, notes = shown[place]
             count += len(lines)
-            if said != ["", "refused"][status] or annotated(lines, notes) != wanted or not has_words(lines):
+            is_sequence = "/ item 1 of " in wanted and "/ refused" not in wanted  # its status is 1, and nothing in it is refused
+            if said != ["", "refused"][status and not is_sequence] or annotated(lines, notes) != wanted or not has_words(lines):
                 wrong.append(f"{page.name} shown {case}: {said} {lines} {annotated(lines, notes)} and not {wanted}")
             for form, (status, answer) in zip(FORMS, forms[3 * place : 3 * place + 3]):
                 if (status, answer) != (told[case, form][0], plain(told[case, form][1])):

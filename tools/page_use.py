@@ -99,6 +99,9 @@ def give(page):
       const drop = new DragEvent("drop", {dataTransfer: held, cancelable: true}); document.dispatchEvent(drop); return drop.defaultPrevented; })()""")
     if taken:
         yield "a dropped text is swallowed"
+    show(page, "at('kind').value = 'auto'; type('8440bfff40818340bfff40')")
+    if not page.run('at("status").textContent').startswith("COSE_Sign"):
+        yield "empty maps of indefinite length: " + page.run('at("status").textContent')
     show(page, f"type('{FAULT}'); at('kind').value = 'auto'")
     page.run('at("fault").click()')
     if not page.run('document.querySelector("[aria-selected=true]")?.className ?? ""').startswith("row r"):

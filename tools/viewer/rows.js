@@ -2,6 +2,7 @@
 const ROWS = 0, ANNOTATED = 1;  // forms
 const COVERS = { s: "covered by the signature", a: "covered by MAC or cipher", n: "not covered", u: "not covered", r: "refused" };
 const CLOSING = /^(\]|\}|\)|>>)/;  // the text of an item's last row
+const OPENING = /(\[|\{|\(|<<)(_\d?)?$/;  // the text of an item's first row
 const DATE = /\d{4}-\d\d-\d\d[T ]\d\d:\d\d(?::\d\d)?(?:Z| UTC)/g;
 const HERE = new Intl.DateTimeFormat("en-GB", { dateStyle: "medium", timeStyle: "short" });
 
@@ -25,9 +26,10 @@ function row(i, of = rows) {
   return { cover, depth: Number(depth), digits, text, note };
 }
 
+// Returns the depth of a row, or 0 if there is no such row.
 function depthOf(i) {
   let depth = 0;
-  for (let place = rows.starts[i] + 2; rows.bytes[place] !== 9; place++) depth = 10 * depth + rows.bytes[place] - 48;
+  for (let place = rows.starts[i] + 2; place < rows.bytes.length && rows.bytes[place] !== 9; place++) depth = 10 * depth + rows.bytes[place] - 48;
   return depth;
 }
 
@@ -44,7 +46,8 @@ function behind(i) {
   const depth = depthOf(i);
   let last = i + 1;
   while (last < rows.count && depthOf(last) > depth) last++;
-  const isEnd = last > i + 1 && last < rows.count && CLOSING.test(row(last).text);
+  const isOpen = last > i + 1 || OPENING.test(row(i).text);  // an empty item of indefinite length has two rows
+  const isEnd = isOpen && last < rows.count && CLOSING.test(row(last).text);
   return isEnd && depthOf(last) === depth ? last + 1 : last;
 }
 

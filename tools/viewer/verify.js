@@ -133,7 +133,7 @@ let verdicts = [];  // each with its rows
 
 function elementsAt(i) {
   const found = [];
-  for (let j = i + 1, depth = depthOf(i); j < rows.count && depthOf(j) > depth; j = behind(j)) found.push(j);
+  for (let j = i + 1, depth = depthOf(i); i < rows.count && j < rows.count && depthOf(j) > depth; j = behind(j)) found.push(j);
   return found;
 }
 
