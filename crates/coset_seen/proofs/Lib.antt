@@ -1,0 +1,9 @@
+mod Fronts
+mod Walking
+mod Structured
+mod Messages
+mod Ascending
+mod Parts
+mod Values
+mod Seeing
+mod Found

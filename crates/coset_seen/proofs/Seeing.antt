@@ -1,0 +1,129 @@
+-- Messages, as their types see them.
+use Rattle.std.proofs.Common.{◌≡◌, ◌≢◌, ℕ, ℤ, negsuc, List, [], ◌∷◌, Option, Some, None, Bor, Bool, true, false, true≢false, refl, sym, ap, subst, inl, inr}
+use Rattle.std.specs.Prelude.{IfSome, is_some, option_map}
+use Rattle.coset.specs.Item.{Item, Items, Pairs, tag, array, item, no_items, bytes, dict, integer}
+use Rattle.coset.specs.Grammar.{IsItem}
+use Rattle.coset.specs.Maps.{optional, unless_empty}
+use Rattle.coset.specs.Results.{Describes}
+use Rattle.coset.specs.Serialized.{ContentDescribes}
+use Rattle.coset.specs.Shape.{◌then◌, Elements as ElementsShape, Shape, bstr, end, nonempty_bstr, or_nil}
+use Rattle.coset.specs.ShapeLaws.{some-one}
+use Rattle.coset.specs.Headers.{HeaderView, empty_header, fields_in, header, layered_header, layered_protected, protected}
+use Rattle.coset.specs.Messages.{with_headers}
+use Rattle.coset.specs.Encrypt0.{encrypt0}
+use Rattle.coset.specs.Mac0.{mac0}
+use Rattle.coset.specs.Sign1.{sign1}
+use Rattle.coset.specs.LabelData.{RegisteredLabelView, as_label, assigned, number, private_use, text_name}
+use Rattle.coset.specs.Labels.{algorithm}
+use Rattle.coset_seen.specs.declared.elements.Elements.{Elements}
+use Rattle.coset_seen.specs.declared.forward.Ahead.{Ahead}
+use Rattle.coset_seen.specs.declared.header.Named.{Named}
+use Rattle.coset_seen.specs.declared.kind.Kind as kinds
+use Rattle.coset_seen.specs.declared.kind.Kind.TheVariants.{Sign1, Mac0, Encrypt0}
+use Rattle.coset_seen.specs.Elements.{IsContent, IsProof, content_item, content_of, items_of, perhaps_tag}
+use Rattle.coset_seen.specs.Kinds.{tag_of}
+use Rattle.coset_seen.specs.Named.{AreNamed, BeginsHeader}
+use Rattle.coset_seen.specs.Seen.{DescribesMessage, in_form}
+use Rattle.coset_seen.specs.Plain.{ArePlain}
+use Rattle.coset_seen.proofs.Messages.{OneItem, whole_is}
+use Rattle.coset_seen.proofs.Ascending.{plain_view}
+
+-- ---- what a header names
+
+algorithm_is : (o : Option ℤ) (a : Option RegisteredLabelView) → (optional algorithm).describes (option_map integer o) a → option_map as_label a ≡ option_map number o
+unfolding algorithm
+algorithm_is None a d = ap (option_map as_label) d
+algorithm_is (Some m) None d = absurd d
+algorithm_is (Some m) (Some (assigned n)) d = ap (option_map number) (sym d.1.1.0)
+algorithm_is (Some m) (Some (private_use n)) d = ap (option_map number) (sym d.1.1.0.0)
+algorithm_is (Some m) (Some (text_name s)) d = absurd (true≢false d.0)
+
+-- The key identifier of a header, which is empty if there is none.
+abbrev pub KeyIs : List ℕ → Option Ahead → Type 0
+KeyIs l None = l ≡ []
+KeyIs l (Some t) = (l ≡ t.bytes.now) × (l ≢ [])
+
+key_id_is : (o : Option Ahead) (l : List ℕ) → (unless_empty nonempty_bstr).describes (option_map (λ t. bytes t.bytes.now) o) l → KeyIs l o
+key_id_is None l d = d
+key_id_is (Some t) l d = (sym (some-one refl d.0), d.1)
+
+-- A header, and what it names.
+pub record IsView (n : Named) (x : HeaderView) : Type 0 where
+  pub algorithm : option_map as_label (fields_in x).alg ≡ option_map number n.algorithm
+  pub key_id : KeyIs (fields_in x).key_id n.key_id
+
+pub view_of : (k : ℕ) (ps : Pairs) (n : Named) → ArePlain (negsuc 0) ps → AreNamed ps n → (x : HeaderView) × (layered_header k).describes (dict ps) x × IsView n x
+view_of k ps n plain named =
+    let x = plain_view k (dict ps) ps (negsuc 0) refl plain in (
+      x.0,
+      x.1.describes,
+      record {
+        algorithm = algorithm_is n.algorithm (fields_in x.0).alg (subst (λ o. (optional algorithm).describes o (fields_in x.0).alg) named.algorithm x.1.algorithm);
+        key_id = key_id_is n.key_id (fields_in x.0).key_id
+            (subst (λ o. (unless_empty nonempty_bstr).describes o (fields_in x.0).key_id) named.key_id x.1.key_id);
+      },
+    )
+
+-- The header in the content of a protected header's byte string.
+pub content_view : (b : List ℕ) (n : Named) → IsContent b n → (x : HeaderView) × ContentDescribes empty_header (layered_header 15) b x × IsView n x
+content_view b n (inl e) = (
+  empty_header,
+  subst (λ c. ContentDescribes empty_header (layered_header 15) c empty_header) (sym e.0) refl,
+  record {
+    algorithm = ap (option_map number) (sym e.1.0);
+    key_id = subst (KeyIs []) (sym e.1.1) refl;
+  },
+)
+content_view [] n (inr h) = absurd (h.filled refl)
+content_view (c ∷ b) n (inr h) =
+    let x = view_of 15 h.pairs n h.are_plain h.named in
+    (x.0, (dict h.pairs, h.is_item, x.1), x.2)
+
+pub protected_view : (b : List ℕ) (x : HeaderView) → ContentDescribes empty_header (layered_header 15) b x → protected.describes (bytes b) (record { original = Some b; header = x })
+unfolding layered_protected
+protected_view b x d = (b, refl, refl, d)
+
+pub content_describes : (o : Option (List ℕ)) → (or_nil bstr).describes (content_item o) o
+content_describes None = (refl, refl)
+content_describes (Some t) = (refl, refl)
+
+-- ---- messages
+
+-- The two headers and the content of the elements.
+three :
+    {A : Type 0} (ps : ElementsShape A) (p : List ℕ) (x u : HeaderView) (us : Pairs) (o : Option (List ℕ)) (vs : Items) (y : A)
+    → ContentDescribes empty_header (layered_header 15) p x → header.describes (dict us) u → ps.describes vs y
+    → (with_headers (or_nil bstr then ps)).describes (array (item (bytes p) (item (dict us) (item (content_item o) vs))))
+    (record { original = Some p; header = x }, (u, (o, y)))
+three ps p x u us o vs y d e f = (_, refl, (protected_view p x d, (e, (content_describes o, f))))
+
+-- The item describes the value in its form.
+formed :
+    {A : Type 0} (s : Shape A) (t : Bool) (n : ℕ) (b : List ℕ) (w : Item) (x : A) → IsItem b (perhaps_tag t n w) → s.describes w x
+    → Describes (in_form t n s) b x
+formed s true n b w x is d = (tag n w, is, (w, refl, d))
+formed s false n b w x is d = (w, is, d)
+
+pub message_described :
+    (k : kinds.Kind) (t : Bool) (b : List ℕ) (e : Elements) (us : Pairs) (x u : HeaderView) → IsProof k e.proof
+    → IsItem b (perhaps_tag t (tag_of k) (array (items_of k e us))) → ContentDescribes empty_header (layered_header 15) e.protected.bytes.now x
+    → header.describes (dict us) u
+    → DescribesMessage k t b (record { original = Some e.protected.bytes.now; header = x }) u (content_of e.content) e.proof.bytes.now
+message_described Sign1 t b e us x u is_proof is d f =
+    formed sign1 t 18 b (array (items_of Sign1 e us)) _ is
+    (three (bstr then end) e.protected.bytes.now x u us (content_of e.content) (item (bytes e.proof.bytes.now) no_items) (e.proof.bytes.now, tt) d f (refl, tt))
+message_described Mac0 t b e us x u is_proof is d f =
+    formed mac0 t 17 b (array (items_of Mac0 e us)) _ is
+    (three (bstr then end) e.protected.bytes.now x u us (content_of e.content) (item (bytes e.proof.bytes.now) no_items) (e.proof.bytes.now, tt) d f (refl, tt))
+message_described Encrypt0 t b e us x u is_proof is d f =
+    (formed encrypt0 t 16 b (array (items_of Encrypt0 e us)) _ is (three end e.protected.bytes.now x u us (content_of e.content) no_items tt d f tt), is_proof)
+
+-- A plain header that was found.
+pub plain_header_found :
+    OneItem → (b : List ℕ) (o : Option (Named × Bor (List ℕ))) → IfSome o (λ x. BeginsHeader b x.0 x.1.now) → is_some o ≡ true → (k : ℕ) (v : Item)
+    → IsItem b v
+    → (x : HeaderView) × (layered_header k).describes v x
+plain_header_found one b None h t k v is = absurd (true≢false (sym t))
+plain_header_found one b (Some n) h t k v is =
+    let x = view_of k h.pairs n.0 h.are_plain h.named in
+    (x.0, subst (λ w. (layered_header k).describes w x.0) (sym (whole_is one b v (dict h.pairs) n.1.now is h.begins)) x.1)

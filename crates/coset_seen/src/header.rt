@@ -1,0 +1,184 @@
+//! Headers that are checked without allocating (`see` says which), and what they name.
+
+ghost use Rattle.std.specs.Prelude.{◌≡◌, ◌≢◌, ◌<ℤ◌, [], ℕ, IfSome, None, IsTrue, pos, negsuc};
+ghost use Rattle.coset.specs.Item.{Item, bytes, integer};
+ghost use Rattle.coset.specs.Grammar.{IsItem};
+ghost use Rattle.coset.specs.Headers.{HeaderView, layered_header};
+ghost use Rattle.coset_seen.specs.Begins.{Begins, IsAhead};
+ghost use Rattle.coset_seen.specs.Named.{BeginsHeader, BeginsPlain, IsParameter, with_parameter};
+ghost use Rattle.coset_seen.specs.Plain.{IsPlainValue};
+
+use crate::forward::{Ahead, bytes_at, headed, integer_at, item_at};
+use coset::cbor::head::MajorType;
+use coset::iana::{Algorithm, CoapContentFormat, EnumI64, WithPrivateRange};
+use coset::laws::one_item;
+
+/// The algorithm and the key identifier that a header names.
+#[derive(Clone, Copy)]
+pub(crate) struct Named<'a> {
+    pub(crate) algorithm: Option<i64>,
+    pub(crate) key_id: Option<Ahead<'a>>,
+}
+
+/// A header parameter. `Other` is any parameter except `alg` and `kid`.
+#[derive(Clone, Copy)]
+enum Parameter<'a> {
+    Algorithm(i64),
+    KeyId(Ahead<'a>),
+    Other,
+}
+
+/// Returns true if the number is that of a registered or private algorithm.
+fn is_algorithm(number: i64) -> bool
+    ensures { IsTrue result → IsPlainValue (pos 1) (integer number) }
+{
+    Algorithm::from_i64(number).is_some() || Algorithm::is_private(number)
+}
+
+/// Returns true if the number is that of a registered content format.
+fn is_content_format(number: i64) -> bool
+    ensures { IsTrue result → IsPlainValue (pos 3) (integer number) }
+{
+    CoapContentFormat::from_i64(number).is_some()
+}
+
+/// Returns the algorithm at the front, and the bytes after it. Returns `None` unless it is a
+/// registered or private number.
+#[inline(always)]
+fn algorithm_at(input: &[u8]) -> Option<(Parameter<'_>, &[u8])>
+    ensures { IfSome result (λ x. IsParameter (pos 1) input.now x.0 x.1.now) }
+{
+    let (number, rest) = integer_at(input)?;
+    if !is_algorithm(number) {
+        return None;
+    }
+    Some((Parameter::Algorithm(number), rest))
+}
+
+/// Returns the content type at the front, and the bytes after it. Returns `None` unless it is a
+/// registered number.
+fn content_format_at(input: &[u8]) -> Option<(Parameter<'_>, &[u8])>
+    ensures { IfSome result (λ x. IsParameter (pos 3) input.now x.0 x.1.now) }
+{
+    let (number, rest) = integer_at(input)?;
+    if !is_content_format(number) {
+        return None;
+    }
+    Some((Parameter::Other, rest))
+}
+
+/// Returns the content of the byte string at the front. Returns `None` for any other item, and if
+/// the content is empty.
+#[inline(always)]
+fn filled_at(input: &[u8]) -> Option<Ahead<'_>>
+    ensures begins { IfSome result (λ t. Begins (bytes t.bytes.now) t.behind.now input.now) }
+    ensures ahead { IfSome result (IsAhead input.now) }
+    ensures filled { IfSome result (λ t. t.bytes.now ≢ []) }
+{
+    let found = bytes_at(input)?;
+    if found.bytes.is_empty() {
+        return None;
+    }
+    Some(found)
+}
+
+/// Returns the parameter whose value is at the front, and the bytes after it. Returns `None` if a
+/// plain header can't have this value under the label.
+#[inline(always)]
+fn parameter_at(label: i64, value: &[u8]) -> Option<(Parameter<'_>, &[u8])>
+    ensures { IfSome result (λ x. IsParameter label value.now x.0 x.1.now) }
+{
+    match label {
+        // alg
+        1 => algorithm_at(value),
+        // content type
+        3 => content_format_at(value),
+        // kid
+        4 => {
+            let found = filled_at(value)?;
+            Some((Parameter::KeyId(found), found.behind))
+        }
+        // IV
+        5 => {
+            let found = filled_at(value)?;
+            Some((Parameter::Other, found.behind))
+        }
+        // crit, Partial IV, and countersignatures of both versions
+        2 | 6 | 7 | 11 | 12 => None,
+        _ => {
+            let rest = item_at(value)?;
+            Some((Parameter::Other, rest))
+        }
+    }
+}
+
+impl<'a> Named<'a> {
+    /// Returns the result for a header without parameters.
+    pub(crate) fn nothing() -> Named<'a>
+        ensures algorithm { result.algorithm ≡ None }
+        ensures key_id { result.key_id ≡ None }
+    {
+        Named {
+            algorithm: None,
+            key_id: None,
+        }
+    }
+
+    /// Returns the same with one more parameter.
+    #[inline(always)]
+    fn with(self, parameter: Parameter<'a>) -> Named<'a>
+        ensures { result ≡ with_parameter self.entry parameter.entry }
+    {
+        match parameter {
+            Parameter::Algorithm(number) => Named {
+                algorithm: Some(number),
+                key_id: self.key_id,
+            },
+            Parameter::KeyId(found) => Named {
+                algorithm: self.algorithm,
+                key_id: Some(found),
+            },
+            Parameter::Other => self,
+        }
+    }
+}
+
+/// Returns the algorithm and the key identifier that the pairs at the front name, and the bytes
+/// after them. Returns `None` if the pairs aren't those of a plain header.
+fn named_at(bytes: &[u8], count: u64) -> Option<(Named<'_>, &[u8])>
+    ensures { IfSome result (λ x. BeginsPlain count bytes.now x.0 x.1.now) }
+{
+    let mut named = Named::nothing();
+    let mut last: i64 = -1;
+    let mut rest = bytes;
+    for _ in 0..count {
+        let (label, value) = integer_at(rest)?;
+        if label <= last {
+            return None;
+        }
+        let (parameter, behind) = parameter_at(label, value)?;
+        named = named.with(parameter);
+        last = label;
+        rest = behind;
+    }
+    Some((named, rest))
+}
+
+/// Returns the algorithm and the key identifier that the plain header at the front names, and the
+/// bytes after it. Returns `None` if no plain header is there.
+pub(crate) fn header_at(input: &[u8]) -> Option<(Named<'_>, &[u8])>
+    ensures { IfSome result (λ x. BeginsHeader input.now x.0 x.1.now) }
+{
+    let (count, rest) = headed(input, MajorType::Map)?;
+    named_at(rest, count)
+}
+
+/// Returns true if the bytes of an item encode a plain header (`see` says what that is). False says
+/// nothing. Allocates nothing.
+pub fn is_plain_header(input: &[u8]) -> bool
+    ensures { IsTrue result → (k : ℕ) (v : Item) → IsItem input.now v
+        → (x : HeaderView) × (layered_header k).describes v x }
+{
+    one_item();
+    header_at(input).is_some()
+}

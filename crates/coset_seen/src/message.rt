@@ -1,0 +1,198 @@
+//! Messages, seen in the bytes that encode them.
+
+ghost use Rattle.std.specs.Option.{option_copied};
+ghost use Rattle.std.specs.Prelude.{◌≡◌, ◌<◌, ◌^◌, ℕ, List, IfSome, length};
+ghost use Rattle.coset_seen.specs.Begins.{IsAhead};
+ghost use Rattle.coset_seen.specs.Seen.{FindsKeyId, GivesContent, IsContentOf, IsPart, IsSeen, LiesIn, MakesStructure, PutsStructure};
+
+use crate::elements::{Elements, elements_of};
+use crate::forward::Ahead;
+use crate::kind::Kind;
+use crate::structure::{StructureError, put_structure, structure_of};
+use std::alloc::Global;
+
+/// A part of the input.
+#[derive(Clone, Copy, Debug)]
+pub struct Part<'a> {
+    /// The bytes of the part.
+    pub bytes: &'a [u8],
+    /// The offset of the first byte in the input.
+    pub at: usize,
+}
+
+/// A key identifier (`kid`, RFC 8152, section 3.1).
+#[derive(Clone, Copy, Debug)]
+pub struct KeyId<'a> {
+    /// The bytes of the identifier. They aren't empty.
+    pub part: Part<'a>,
+    /// Whether the protected header has it. Otherwise the unprotected header has it.
+    pub is_protected: bool,
+}
+
+/// A message, seen in the bytes that encode it. Each of its parts is a part of these bytes.
+#[derive(Clone, Copy, Debug)]
+pub struct Seen<'a> {
+    /// The kind of the message.
+    pub kind: Kind,
+    /// Whether the message is under its tag.
+    pub is_tagged: bool,
+    /// The content of the protected header's byte string, which a signature or a MAC covers.
+    pub protected: Part<'a>,
+    /// The number of the algorithm in the protected header, if there is one.
+    pub algorithm: Option<i64>,
+    /// The key identifier, from the protected header if that has one.
+    pub key_id: Option<KeyId<'a>>,
+    /// The payload or the ciphertext. It is `None` if the message has `nil` in its place.
+    pub content: Option<Part<'a>>,
+    /// The signature or the tag. It is empty for an encrypted message.
+    pub proof: Part<'a>,
+}
+
+/// Returns the bytes as a part of the input.
+fn part_of<'a>(found: Ahead<'a>, input: &[u8]) -> Part<'a>
+    ensures bytes { result.bytes.now ≡ found.entry.bytes.now }
+    ensures part { IsAhead input.now found.entry → IsPart input.now result }
+{
+    let behind = found.behind.len().saturating_add(found.bytes.len());
+    Part {
+        bytes: found.bytes,
+        at: input.len().saturating_sub(behind),
+    }
+}
+
+/// Returns a part of a part of the input as a part of the input.
+fn within<'a>(outer: Part<'_>, inner: Part<'a>) -> Part<'a>
+    ensures bytes { result.bytes.now ≡ inner.entry.bytes.now }
+    ensures part { (b : List ℕ) → length b < 2 ^ 64 → IsPart b outer.entry
+        → IsPart outer.entry.bytes.now inner.entry → IsPart b result }
+{
+    Part {
+        bytes: inner.bytes,
+        at: outer.at.saturating_add(inner.at),
+    }
+}
+
+/// Returns the key identifier of a message.
+fn key_id_of<'a>(elements: Elements<'a>, protected: Part<'a>, input: &[u8]) -> Option<KeyId<'a>>
+    ensures { FindsKeyId input.now protected.entry elements.entry.first.key_id
+        elements.entry.second.key_id result }
+{
+    if let Some(found) = elements.first.key_id {
+        return Some(KeyId {
+            part: within(protected, part_of(found, protected.bytes)),
+            is_protected: true,
+        });
+    }
+    match elements.second.key_id {
+        Some(found) => Some(KeyId {
+            part: part_of(found, input),
+            is_protected: false,
+        }),
+        None => None,
+    }
+}
+
+/// Returns the content of a message.
+fn content_of<'a>(elements: Elements<'a>, input: &[u8]) -> Option<Part<'a>>
+    ensures { IsContentOf input.now elements.entry.content result }
+{
+    match elements.content {
+        Some(found) => Some(part_of(found, input)),
+        None => None,
+    }
+}
+
+/// Finds a message of this kind, with or without its tag, in the bytes that encode it. Allocates
+/// nothing.
+///
+/// `None` says nothing: the bytes may be such a message all the same. A message is found if both
+/// its headers are plain and its strings have definite lengths (RFC 8949, section 3.2.3).
+///
+/// The labels of a plain header are integers from 0 on, in ascending order. It has no `crit`, no
+/// Partial IV and no countersignatures. Its algorithm and its content type are numbers.
+pub fn see(kind: Kind, input: &[u8]) -> Option<Seen<'_>>
+    // The bytes describe the message.
+    ensures describes { IfSome result (IsSeen kind input.now) }
+    // The items that the bytes encode.
+    ensures lies { IfSome result (LiesIn kind input.now) }
+{
+    let (is_tagged, elements) = elements_of(kind, input)?;
+    let protected = part_of(elements.protected, input);
+    Some(Seen {
+        kind,
+        is_tagged,
+        protected,
+        algorithm: elements.first.algorithm,
+        key_id: key_id_of(elements, protected, input),
+        content: content_of(elements, input),
+        proof: part_of(elements.proof, input),
+    })
+}
+
+impl Seen<'_> {
+    /// Returns the content that the message carries, or `detached` if it carries none.
+    ///
+    /// # Errors
+    /// - `TwoContents` if the message carries its content and `detached` is given.
+    /// - `NoContent` if the message carries no content and none is given.
+    fn content_or<'b>(&'b self, detached: Option<&'b [u8]>) -> Result<&'b [u8], StructureError>
+        ensures { GivesContent self.now.content (option_copied detached.entry) result }
+    {
+        match (&self.content, detached) {
+            (Some(content), None) => Ok(content.bytes),
+            (None, Some(content)) => Ok(content),
+            (Some(_), Some(_)) => Err(StructureError::TwoContents),
+            (None, None) => Err(StructureError::NoContent),
+        }
+    }
+
+    /// Writes the structure that is signed, authenticated, or goes with the ciphertext to the front
+    /// of `out`. Returns its length (RFC 8152, sections 4.4, 5.3 and 6.3).
+    ///
+    /// This is the structure that the facade makes of the decoded message (the law
+    /// `laws::structure_of_a_seen_message`). Allocates nothing.
+    ///
+    /// # Errors
+    /// - `TwoContents` if the message carries its content and `detached` is given.
+    /// - `NoContent` if the message carries no content and none is given.
+    /// - `Short` with the length needed, if `out` is too small.
+    /// - `OutOfMemory` if the length doesn't fit in a `usize`.
+    ///
+    /// `out` is then unchanged.
+    pub fn put_structure(
+        &self,
+        external_aad: &[u8],
+        detached: Option<&[u8]>,
+        out: &mut [u8],
+    ) -> Result<usize, StructureError>
+        ensures { PutsStructure self.now external_aad.now self.now.content
+            (option_copied detached.entry) out.old out.new result }
+    {
+        let content = self.content_or(detached)?;
+        put_structure(self.kind, self.protected.bytes, external_aad, content, out)
+    }
+    /// Returns the structure that [`put_structure`](Seen::put_structure) writes, as a vector.
+    ///
+    /// # Errors
+    /// - `TwoContents` if the message carries its content and `detached` is given.
+    /// - `NoContent` if the message carries no content and none is given.
+    /// - `OutOfMemory` if an allocation fails.
+    pub fn structure(
+        &self,
+        alloc: Global,
+        external_aad: &[u8],
+        detached: Option<&[u8]>,
+    ) -> Result<Vec<u8>, StructureError>
+        ensures { MakesStructure (λ v. v.items) self.now external_aad.now self.now.content
+            (option_copied detached.entry) result }
+    {
+        let content = self.content_or(detached)?;
+        structure_of(
+            alloc,
+            self.kind,
+            self.protected.bytes,
+            external_aad,
+            content,
+        )
+    }
+}
