@@ -6,14 +6,13 @@ use Rattle.std.specs.List.{AllByRecursion, IsDistinct}
 use Rattle.std.specs.Map.{keys_of, lookup}
 use Rattle.std.specs.Prelude.{◌≢◌, is_some}
 use Rattle.coset.specs.Item.{Item, Pairs, no_pairs, pair}
-use Rattle.coset.specs.Grammar.{IsItem}
 use Rattle.coset.specs.Fields.{FieldsView, content_type, fields, partial_header}
-use Rattle.coset.specs.Headers.{HeaderView, ProtectedView, empty_header, fields_in, header_of, layered_header, layered_protected, no_signatures, protected}
+use Rattle.coset.specs.Headers.{HeaderView, fields_in, header_of, layered_header, no_signatures}
 use Rattle.coset.specs.LabelData.{LabelView, RegisteredLabelView, assigned, number, private_use, same_label, text_label}
 use Rattle.coset.specs.Labels.{algorithm, cose_labels, is_integer, is_some_known, label}
 use Rattle.coset.specs.LabelLaws.{cose_labels_laws}
 use Rattle.coset.specs.Maps.{AreLabelled, FieldShape, optional, rest_of, unless_empty}
-use Rattle.coset.specs.Parts.{as_bytes, as_integer, as_map}
+use Rattle.coset.specs.Parts.{as_integer, as_map}
 use Rattle.coset.specs.Registry.{first_numbered}
 use Rattle.coset.specs.Shape.{any, int64, nonempty_bstr}
 use Rattle.coset.specs.WithPrivateRange.{is_private_use}
@@ -24,7 +23,7 @@ use Rattle.coset_iana.specs.CoapContentFormat as content_formats
 use Rattle.coset_iana.specs.declared.algorithms.TheConstants.{ALGORITHMS}
 use Rattle.coset_iana.specs.declared.content_formats.TheConstants.{COAP_CONTENT_FORMATS}
 use Rattle.coset_seen.specs.Named.{is_same, value_of}
-use Rattle.coset_seen.specs.Plain.{ArePlain, IsHeaderContent, IsPlainValue}
+use Rattle.coset_seen.specs.Plain.{ArePlain, IsPlainValue}
 
 -- ---- numbers
 
@@ -203,19 +202,3 @@ plain_view k v ps last m h =
         key_id = subst (λ o. (unless_empty nonempty_bstr).describes o kid.0) (lookup_value (pos 4) last ps h) kid.1;
       },
     )
-
-pub plain_header : (k : ℕ) (v : Item) (ps : Pairs) (last : ℤ) → as_map v ≡ Some ps → ArePlain last ps → (x : HeaderView) × (layered_header k).describes v x
-plain_header k v ps last m h = let x = plain_view k v ps last m h in (x.0, x.1.describes)
-
--- ---- the content of a protected header
-
-pub no_content : (b : List ℕ) → b ≡ [] → IsHeaderContent b
-no_content b e = subst IsHeaderContent (sym e) (empty_header, refl)
-
-pub header_content : (b : List ℕ) (v : Item) → IsItem b v → (h : HeaderView) × (layered_header 15).describes v h → IsHeaderContent b
-header_content [] v is d = (empty_header, refl)
-header_content (c ∷ b) v is d = (d.0, (v, is, d.1))
-
-pub protected_header : (v : Item) (b : List ℕ) → as_bytes v ≡ Some b → IsHeaderContent b → (x : ProtectedView) × protected.describes v x
-unfolding layered_protected
-protected_header v b e h = (record { original = Some b; header = h.0 }, (b, e, refl, h.1))

@@ -30,10 +30,6 @@ in_range Sign1 p aad c i j l = (lit< tt, ((lit< tt, context_utf8 Sign1), (i, (j,
 in_range Mac0 p aad c i j l = (lit< tt, ((lit< tt, context_utf8 Mac0), (i, (j, (l, tt)))))
 in_range Encrypt0 p aad c i j l = (lit< tt, ((lit< tt, context_utf8 Encrypt0), (i, (j, tt))))
 
--- A head and its string, and what follows them.
-string_is : (h p x : List ℕ) → h ≡ least_head 2 (length p) → h ++ p ≡ least_head 2 (length p) ++ p
-string_is h p x e = ap (λ y. y ++ p) e
-
 pub three_text :
     (k : kinds.Kind) (p aad c h i j : List ℕ) → (k ≡ Sign1) ⊎ (k ≡ Mac0) → h ≡ least_head 2 (length p) → i ≡ least_head 2 (length aad)
     → j ≡ least_head 2 (length c) → front_of k ++ ((h ++ p) ++ ((i ++ aad) ++ (j ++ c))) ≡ least_encoding (structure_of k p aad c)

@@ -44,25 +44,6 @@ pub record Walked (count left : ℕ) (b s : List ℕ) (last : ℤ) (n : Named) :
   pub parts : b ≡ passed ++ s
   pub placed : IfSome n.key_id (IsAhead b)
 
-pub begun : (count : ℕ) (b : List ℕ) (n : Named) → n.algorithm ≡ None → n.key_id ≡ None → Walked count count b b (negsuc 0) n
-begun count b n no_alg no_kid = record {
-  completes = λ qs c a e enc k plain. record {
-    pairs = qs;
-    encoding = c;
-    parts = e;
-    are_encoded = enc;
-    counted = k;
-    are_plain = plain;
-    algorithm = ap (λ o. option_or (option_map integer o) (value_of (pos 1) qs)) (sym no_alg);
-    key_id = ap (λ o. option_or (option_map (λ t. bytes t.bytes.now) o) (value_of (pos 4) qs)) (sym no_kid);
-  };
-  no_algorithm = λ h. no_alg;
-  no_key_id = λ h. no_kid;
-  passed = [];
-  parts = refl;
-  placed = subst (λ o. IfSome o (IsAhead b)) (sym no_kid) tt;
-}
-
 -- ---- one more pair
 
 apart : (l n : ℤ) → l ≢ n → int_eq l n ≡ false

@@ -1,11 +1,9 @@
 -- Headers that are checked without memory: their labels are integers in ascending order.
 use Rattle.std.specs.Prelude.{◌≡◌, ◌≢◌, ◌<ℤ◌, ℕ, ℤ, pos, List, ⊤}
 use Rattle.coset.specs.Fields.{content_type}
-use Rattle.coset.specs.Headers.{HeaderView, empty_header, layered_header}
 use Rattle.coset.specs.Item.{Item, Pairs, no_pairs, pair}
 use Rattle.coset.specs.LabelData.{LabelView, RegisteredLabelView}
 use Rattle.coset.specs.Labels.{algorithm}
-use Rattle.coset.specs.Serialized.{ContentDescribes}
 use Rattle.coset.specs.Shape.{int64, nonempty_bstr}
 
 -- The value v under the label l describes a header parameter. The label isn't `crit`, Partial IV, or the label of
@@ -25,7 +23,3 @@ pub record IsPlainValue (l : ℤ) (v : Item) : Type 0 where
 abbrev pub ArePlain : ℤ → Pairs → Type 0
 ArePlain last no_pairs = ⊤
 ArePlain last (pair k v ps) = (l : ℤ) × int64.describes k l × (last <ℤ l) × IsPlainValue l v × ArePlain l ps
-
--- The content of a protected header's byte string describes a header, which is one layer deeper.
-abbrev pub IsHeaderContent : List ℕ → Type 0
-IsHeaderContent b = (h : HeaderView) × ContentDescribes empty_header (layered_header 15) b h
