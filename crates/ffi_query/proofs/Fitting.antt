@@ -1,12 +1,13 @@
 -- Items that are found to be messages.
-use Rattle.std.proofs.Common.{◌≡◌, ◌∙◌, ℕ, List, Option, Some, None, Bool, false, true, true≢false, cond, not, ap, sym, subst, refl}
+use Rattle.std.proofs.Common.{◌≡◌, ◌∙◌, ℕ, List, [], ◌∷◌, Option, Some, None, Bool, false, true, true≢false, cond, not, ap, sym, subst, refl}
 use Rattle.std.specs.Prelude.{IfSome}
 use Rattle.coset.specs.Encrypt0.{encrypt0, encrypt0_of}
 use Rattle.coset.specs.Item.{Item, integer, bytes, float, text, boolean, null, tag, array, dict, Items, item}
 use Rattle.coset.specs.Mac0.{mac0, mac0_of}
 use Rattle.coset.specs.ShapeLaws.{some-none}
 use Rattle.coset.specs.Sign1.{sign1, sign1_of}
-use Rattle.coset.specs.Headers.{HeaderView, ProtectedView}
+use Rattle.coset.specs.Grammar.{IsItem}
+use Rattle.coset.specs.Headers.{HeaderView, ProtectedView, empty_header, layered_header, layered_protected, protected}
 use Rattle.coset.specs.Messages.{with_headers}
 use Rattle.coset.specs.Parts.{as_bytes, as_tag}
 use Rattle.coset.specs.PerhapsTagged.{untagged}
@@ -18,7 +19,7 @@ use Rattle.ffi_query.specs.declared.kind.Kind as kinds
 use Rattle.ffi_query.specs.declared.kind.Kind.TheVariants.{Sign1, Sign, Mac0, Mac, Encrypt0, Encrypt, Signature, Recipient}
 use Rattle.ffi_query.specs.declared.kind.Kind.TheVariants.{Header, Key, KeySet, Claims, Any, KdfContext}
 use Rattle.ffi_query.specs.declared.three.Three.{Three}
-use Rattle.ffi_query.specs.Fits.{Fits, FitsElements, FitsForm, FitsKind, FitsThree, IsInForm}
+use Rattle.ffi_query.specs.Fits.{Fits, FitsElements, FitsForm, FitsKind, FitsThree, IsHeaderContent, IsInForm}
 use Rattle.ffi_query.specs.Kinds.{HoldsOf, IsOf, in_form, is_under}
 use Rattle.ffi_query.specs.Located.{elements_left}
 use Rattle.ffi_query.specs.Three.{IsThree}
@@ -138,3 +139,16 @@ follows KdfContext P Q h p = h _ _ p
 pub of_kind : (k : kinds.Kind) (b : List ℕ) (w : Item) → IsOnlyItem b w → FitsKind k w → IsOf k b
 of_kind k b w is =
     follows k (λ A s. (x : A) × s.describes w x) (λ A s. (x : A) × Describes s b x) (λ A s d. (d.0, (w, is.0, d.1)))
+
+-- ---- the content of a protected header
+
+pub no_content : (b : List ℕ) → b ≡ [] → IsHeaderContent b
+no_content b e = subst IsHeaderContent (sym e) (empty_header, refl)
+
+pub header_content : (b : List ℕ) (v : Item) → IsItem b v → (h : HeaderView) × (layered_header 15).describes v h → IsHeaderContent b
+header_content [] v is d = (empty_header, refl)
+header_content (c ∷ b) v is d = (d.0, (v, is, d.1))
+
+pub protected_header : (v : Item) (b : List ℕ) → as_bytes v ≡ Some b → IsHeaderContent b → (x : ProtectedView) × protected.describes v x
+unfolding layered_protected
+protected_header v b e h = (record { original = Some b; header = h.0 }, (b, e, refl, h.1))

@@ -1,9 +1,9 @@
 -- The parts borrowed from the input b to verify or decrypt a message.
 use Rattle.std.proofs.Common.{◌≡◌, ◌∙◌, ◌++◌, ◌+◌, ℕ, ℤ, List, [], length, Option, Some}
-use Rattle.std.proofs.Common.{None, Bor, true, false, ap, sym, subst, refl, inl, inr, arith}
+use Rattle.std.proofs.Common.{None, Result, Ok, Err, Bool, Bor, true, false, ap, sym, subst, refl, inl, inr, arith}
 use Rattle.std.proofs.lemmas.List.{length-append}
 use Rattle.std.specs.Option.{option_copied}
-use Rattle.std.specs.Prelude.{IfSome, codes, option_and_then, option_map}
+use Rattle.std.specs.Prelude.{IfOk, IfSome, codes, option_and_then, option_map}
 use Rattle.coset.specs.Results.{IsOnlyItem}
 use Rattle.coset.specs.Grammar.{IsItem}
 use Rattle.coset.specs.Item.{Item, integer, bytes, float, text, boolean, null, tag, array, dict}
@@ -13,6 +13,7 @@ use Rattle.coset.specs.ShapeLaws.{some-none}
 use Rattle.ffi_query.specs.declared.kind.Kind as kinds
 use Rattle.ffi_query.specs.declared.kind.Kind.TheVariants.{Sign1, Sign, Mac0, Mac, Encrypt0, Encrypt, Signature, Recipient}
 use Rattle.ffi_query.specs.declared.kind.Kind.TheVariants.{Header, Key, KeySet, Claims, Any, KdfContext}
+use Rattle.ffi_query.specs.declared.borrowed.Borrowed as declared
 use Rattle.ffi_query.specs.declared.borrowed.Texts.{Texts}
 use Rattle.ffi_query.specs.declared.located.Located.{Located}
 use Rattle.ffi_query.specs.declared.located.Text.{Text}
@@ -23,12 +24,13 @@ use Rattle.ffi_query.specs.declared.view.KeyIdPlace.TheVariants as found
 use Rattle.ffi_query.specs.declared.view.MessageView.{MessageView}
 use Rattle.ffi_query.specs.Results.{Finds, IsEncodingOf}
 use Rattle.ffi_query.specs.Critical.{IsCriticalIn, IsCriticalOf}
+use Rattle.ffi_query.specs.Kinds.{IsItemOf, TellsTagOf, tag_of}
 use Rattle.ffi_query.specs.Labels.{IsProtected, IsUnderIn, unprotected_value, value_under}
-use Rattle.ffi_query.specs.Borrowed.{AreTexts, HasNoCritical, IsAttached, IsEmptyIn, IsSigned, KnowsAlgorithm, KnowsKeyId, Says, structure_by}
+use Rattle.ffi_query.specs.Borrowed.{AreTexts, HasNoCritical, IsAttached, IsBorrowed, IsBorrowedOf, IsEmptyIn, IsSigned, KnowsAlgorithm, KnowsKeyId, Says, structure_by}
 use Rattle.ffi_query.specs.Located.{AreLocated, located_item}
 use Rattle.ffi_query.specs.Parts.{content_part, has_headers, place_of}
 use Rattle.ffi_query.specs.Places.{bytes_in, element, string_in}
-use Rattle.ffi_query.specs.Structures.{IsStructure, content_at, content_in, content_structure, encryption_structure, structure_of_one, structure_of_two}
+use Rattle.ffi_query.specs.Structures.{IsStructure, is_given_twice, content_at, content_in, content_structure, encryption_structure, structure_of_one, structure_of_two}
 use Rattle.ffi_query.specs.View.{HasAlgorithm, IsAlgorithm, IsContent, IsKeyId, alg_label, bearer, kind_of_bearer, proof_at, proof_in}
 
 none_is : {A : Type 0} {x : A} → None ≡ Some x → ⊥
@@ -208,23 +210,23 @@ module _
 
   pub says_of :
       (k : kinds.Kind) (texts : AreTexts k d b v x)
-      → IsEncodingOf (structure_by k aad x.protected.bytes.now (option_copied x.signed)) s
+      → IsEncodingOf (structure_by k aad x.protected.now (option_copied x.signed)) s
       → Says k i aad d ns v n s x.proof.bytes.now x.content.bytes.now x.key_id.text.bytes.now
   says_of (Sign1 f) a h =
       says_by (Sign1 f) a refl refl refl refl (λ c. c)
-      (over (codes "Signature1") aad x.protected.bytes.now s d v a.place a.is_protected (option_copied x.signed) a.is_place a.is_signed h)
+      (over (codes "Signature1") aad x.protected.now s d v a.place a.is_protected (option_copied x.signed) a.is_place a.is_signed h)
   says_of (Mac0 f) a h =
       says_by (Mac0 f) a refl refl refl refl (λ c. c)
-      (over (codes "MAC0") aad x.protected.bytes.now s d v a.place a.is_protected (option_copied x.signed) a.is_place a.is_signed h)
+      (over (codes "MAC0") aad x.protected.now s d v a.place a.is_protected (option_copied x.signed) a.is_place a.is_signed h)
   says_of (Mac f) a h =
       says_by (Mac f) a refl refl refl refl (λ c. c)
-      (over (codes "MAC") aad x.protected.bytes.now s d v a.place a.is_protected (option_copied x.signed) a.is_place a.is_signed h)
+      (over (codes "MAC") aad x.protected.now s d v a.place a.is_protected (option_copied x.signed) a.is_place a.is_signed h)
   says_of (Encrypt0 f) a h =
       says_by (Encrypt0 f) a refl refl refl refl (λ c. c)
-      (beside (codes "Encrypt0") aad x.protected.bytes.now s d v a.place a.is_protected h)
+      (beside (codes "Encrypt0") aad x.protected.now s d v a.place a.is_protected h)
   says_of (Encrypt f) a h =
       says_by (Encrypt f) a refl refl refl refl (λ c. c)
-      (beside (codes "Encrypt") aad x.protected.bytes.now s d v a.place a.is_protected h)
+      (beside (codes "Encrypt") aad x.protected.now s d v a.place a.is_protected h)
   says_of (Sign f) a h = absurd (none_is h.1)
   says_of Signature a h = absurd (none_is h.1)
   says_of Recipient a h = absurd (none_is h.1)
@@ -234,3 +236,21 @@ module _
   says_of Claims a h = absurd (none_is h.1)
   says_of Any a h = absurd (none_is h.1)
   says_of KdfContext a h = absurd (none_is h.1)
+
+-- ---- borrowed messages
+
+-- A consequence of two facts about what was made, if it was.
+both_made :
+    {T E : Type 0} (r : Result (Option T) E) (P Q R : T → Type 0) → ((x : T) → P x → Q x → R x) → IfOk r (λ o. IfSome o P) → IfOk r (λ o. IfSome o Q)
+    → IfOk r (λ o. IfSome o R)
+both_made (Ok o) P Q R f p q = if_both o P Q R f p q
+both_made (Err e) P Q R f p q = p
+
+pub borrowed_of :
+    {E : Type 0} (k : kinds.Kind) (i : ℕ) (aad : List ℕ) (d : Option (List ℕ)) (ns : List ℤ) (b : List ℕ) (v : Item) (t : Bool)
+    (r : Result (Option declared.Borrowed) E) → IsItemOf k b v → TellsTagOf (tag_of k) b t → is_given_twice k d v ≡ false
+    → IfOk r (λ o. IfSome o (IsBorrowed k i aad d ns b v)) → IfOk r (λ o. IfSome o (λ x. x.view.is_tagged ≡ t))
+    → IfOk r (λ o. IfSome o (IsBorrowedOf k i aad d ns b))
+borrowed_of k i aad d ns b v t r is_item tagged once lent same =
+    both_made r (IsBorrowed k i aad d ns b v) (λ x. x.view.is_tagged ≡ t) (IsBorrowedOf k i aad d ns b)
+    (λ x p q. record { item = v; is_item = is_item; lent = p; is_tagged = subst (TellsTagOf (tag_of k) b) (sym q) tagged; is_once = once }) lent same

@@ -11,4 +11,4 @@ pub mod Lending
 pub mod Spanning
 pub mod Placing
 pub mod Missing
-pub mod Ascending
+pub mod PlainMessages

@@ -99,7 +99,7 @@ IsSigned place d (Some c) = content_at place d ≡ Some c
 -- The texts are those of the item v.
 pub record AreTexts (k : kinds.Kind) (d : Option (List ℕ)) (b : List ℕ) (v : Item) (x : Texts) : Type 0 where
   pub place : Item
-  pub is_protected : bytes_in 0 v ≡ Some x.protected.bytes.now
+  pub is_protected : bytes_in 0 v ≡ Some x.protected.now
   pub is_algorithm : KnowsAlgorithm v x.algorithm
   pub is_place : element 2 v ≡ Some place
   pub is_uncritical : HasNoCritical v

@@ -1,10 +1,11 @@
 -- Facts about an item once its kind was found.
-use Rattle.std.specs.Prelude.{◌≡◌, ℕ, Some, Bool, IsTrue}
-use Rattle.coset.specs.Headers.{HeaderView, ProtectedView, header, protected}
+use Rattle.std.specs.Prelude.{◌≡◌, ℕ, List, Some, Bool, IsTrue}
+use Rattle.coset.specs.Headers.{HeaderView, ProtectedView, empty_header, header, layered_header, protected}
 use Rattle.coset.specs.Item.{Item, Items}
 use Rattle.coset.specs.Messages.{with_headers}
 use Rattle.coset.specs.Parts.{as_tag}
 use Rattle.coset.specs.PerhapsTagged.{untagged}
+use Rattle.coset.specs.Serialized.{ContentDescribes}
 use Rattle.coset.specs.Shape.{Elements, Shape, bstr, or_nil}
 use Rattle.ffi_query.specs.declared.kind.Form as forms
 use Rattle.ffi_query.specs.declared.kind.Form.TheVariants.{Plain, Tagged, Either}
@@ -39,3 +40,7 @@ FitsForm {A} f n ps v w = IsInForm f n v w × ((x : ProtectedView × (HeaderView
 -- The item is of kind k.
 abbrev pub FitsKind : kinds.Kind → Item → Type 0
 FitsKind k v = HoldsOf k (λ A s. (x : A) × s.describes v x)
+
+-- The content of a protected header's byte string describes a header, which is one layer deeper.
+abbrev pub IsHeaderContent : List ℕ → Type 0
+IsHeaderContent b = (h : HeaderView) × ContentDescribes empty_header (layered_header 15) b h

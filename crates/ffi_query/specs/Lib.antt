@@ -18,4 +18,4 @@ pub mod Found
 pub mod Borrowed
 pub mod Spans
 pub mod Elements
-pub mod Plain
+pub mod Seen

@@ -1,9 +1,10 @@
 //! Everything that verifying or decrypting a message takes, borrowed from the input.
 //!
 //! This covers messages without a list of signatures and without `crit`, whose strings have
-//! definite lengths. All other messages are read by copies (`view`).
+//! definite lengths. A message with plain headers is found in one walk (`seen`). All other messages
+//! are read by copies (`view`).
 
-ghost use Rattle.std.specs.Prelude.{◌≡◌, ◌<◌, ◌+◌, ◌^◌, ◌++◌, ◌∷◌, [], ℕ, ℤ, List, Some, IfOk, IfErr, IfSome, OnOk, false, length};
+ghost use Rattle.std.specs.Prelude.{◌≡◌, ◌<◌, ◌+◌, ◌^◌, ◌++◌, ◌∷◌, [], ℕ, ℤ, List, Option, Some, IfOk, IfErr, IfSome, OnOk, false, length};
 ghost use Rattle.std.specs.Option.{option_copied};
 ghost use Rattle.coset.specs.CoseError.TheVariants.{OutOfMemory};
 ghost use Rattle.coset.specs.Item.{Item};
@@ -14,7 +15,7 @@ ghost use Rattle.coset_cbor.specs.Least.{least_head};
 ghost use Rattle.ffi_query.specs.Results.{IsEncodingOf};
 ghost use Rattle.ffi_query.specs.Labels.{IsProtected, unprotected_value};
 ghost use Rattle.ffi_query.specs.Found.{IsFound};
-ghost use Rattle.ffi_query.specs.Borrowed.{AreHeaders, AreNamed, AreTexts, HasNoCritical, IsBehindThree, IsAttached, IsEmptyIn, IsBorrowedOf, IsMapOf, KnowsAlgorithm, KnowsKeyId, structure_by};
+ghost use Rattle.ffi_query.specs.Borrowed.{AreHeaders, AreNamed, AreTexts, HasNoCritical, IsBehindThree, IsAttached, IsBorrowed, IsEmptyIn, IsBorrowedOf, IsMapOf, KnowsAlgorithm, KnowsKeyId, structure_by};
 ghost use Rattle.ffi_query.specs.Located.{AreElementsIn, IsLocated, IsTextIn, elements_left, located_item};
 ghost use Rattle.ffi_query.specs.Places.{bytes_in, element};
 ghost use Rattle.ffi_query.specs.Structures.{content_at, is_given_twice, structure_of_one, structure_of_two};
@@ -25,11 +26,12 @@ use crate::kind::Kind;
 use crate::located::{Elements, Located, Text, bytes_located, next_located, number_of};
 use crate::named::{Named, named_in, nothing_named};
 use crate::part::Part;
+use crate::seen::{has_both, seen_of, texts_of_seen};
 use crate::structure::is_given_twice;
 use crate::view::{Algorithm, KeyIdPlace, MessageView};
 use coset::Result;
 use coset::cbor::de::Pull;
-use coset_cbor::laws::least_encoding_is_shortest;
+use coset_cbor::laws::{least_encoding_is_shortest, one_item};
 use coset_codec::traits::whole_item;
 use coset_core::structure::{begin_structure, structure_bytes};
 use std::alloc::Global;
@@ -44,9 +46,9 @@ struct Headers<'a> {
 
 /// A key identifier, and where it is.
 #[derive(Clone, Copy)]
-struct KeyId<'a> {
-    place: KeyIdPlace,
-    text: Text<'a>,
+pub(crate) struct KeyId<'a> {
+    pub(crate) place: KeyIdPlace,
+    pub(crate) text: Text<'a>,
 }
 
 /// An encoded structure in two parts. `end` is the content that it ends with, or empty.
@@ -385,13 +387,13 @@ fn sum_of(a: usize, b: usize, c: usize, d: usize) -> Option<usize>
 
 /// A message's algorithm and its texts, without the structure.
 #[derive(Clone, Copy)]
-struct Texts<'a> {
-    protected: Text<'a>,
-    algorithm: Algorithm,
-    proof: Text<'a>,
-    content: Text<'a>,
-    key_id: KeyId<'a>,
-    signed: Option<&'a [u8]>,
+pub(crate) struct Texts<'a> {
+    pub(crate) protected: &'a [u8],
+    pub(crate) algorithm: Algorithm,
+    pub(crate) proof: Text<'a>,
+    pub(crate) content: Text<'a>,
+    pub(crate) key_id: KeyId<'a>,
+    pub(crate) signed: Option<&'a [u8]>,
 }
 
 /// Returns the texts of an item of this kind, if the input contains each of them and no header has
@@ -413,7 +415,7 @@ fn texts_of<'a>(kind: Kind, found: &Found<'a>, detached: Option<&'a [u8]>) -> Op
     let place = three.content;
     let content = attached(place, nothing)?;
     Some(Texts {
-        protected: headers.protected,
+        protected: headers.protected.bytes,
         algorithm: algorithm_in(&protected),
         proof: proof_located(kind, three.behind, nothing)?,
         content,
@@ -434,6 +436,80 @@ fn lengths_of(structure: &Structure<'_>, texts: &Texts<'_>) -> Option<(usize, us
     let key_id_len = texts.key_id.text.bytes.len();
     let len = sum_of(structure_len, proof_len, content_len, key_id_len)?;
     Some((structure_len, len))
+}
+
+/// Returns everything that verifying or decrypting a message with these texts takes. It is `None`
+/// if messages of the kind have no structure, or if there is no content for it.
+///
+/// # Errors
+/// `OutOfMemory` if an allocation fails.
+fn borrowed_by<'a>(
+    alloc: Global,
+    kind: Kind,
+    texts: Texts<'a>,
+    is_tagged: bool,
+    external_aad: &[u8],
+) -> Result<Option<Borrowed<'a>>>
+    ensures lent { (b : List ℕ) (d : Option (List ℕ)) (i : ℕ) (ns : List ℤ) (v : Item)
+        → AreTexts kind d b v texts.entry
+        → IfOk result (λ o. IfSome o (IsBorrowed kind i external_aad.now d ns b v)) }
+    ensures tagged { IfOk result (λ o. IfSome o (λ x. x.view.is_tagged ≡ is_tagged)) }
+    ensures memory { IfErr result (λ e. e ≡ OutOfMemory) }
+{
+    let structure = borrowed_structure(alloc, kind, texts.protected, external_aad, texts.signed)?;
+    let Some(structure) = structure else {
+        return Ok(None);
+    };
+    let Some((structure_len, len)) = lengths_of(&structure, &texts) else {
+        return Ok(None);
+    };
+    let view = MessageView {
+        algorithm: texts.algorithm,
+        key_id_place: texts.key_id.place,
+        has_critical: false,
+        is_understood: true,
+        is_tagged,
+        structure_len,
+        proof_len: texts.proof.bytes.len(),
+        content_len: texts.content.bytes.len(),
+        key_id_len: texts.key_id.text.bytes.len(),
+        len,
+    };
+    Ok(Some(Borrowed {
+        view,
+        structure,
+        proof: texts.proof,
+        content: texts.content,
+        key_id: texts.key_id.text,
+    }))
+}
+
+/// Returns everything that verifying or decrypting a message with plain headers takes. Returns
+/// `None` if the bytes aren't such a message of this kind. It is also `None` if there is no content,
+/// or if the content is given twice. The message is found without allocating.
+///
+/// # Errors
+/// `OutOfMemory` if an allocation fails.
+pub(crate) fn borrowed_plain<'a>(
+    alloc: Global,
+    kind: Kind,
+    bytes: &'a [u8],
+    external_aad: &[u8],
+    detached: Option<&'a [u8]>,
+) -> Result<Option<Borrowed<'a>>>
+    ensures lent { (i : ℕ) (ns : List ℤ) → IfOk result (λ o. IfSome o
+        (IsBorrowedOf kind i external_aad.now (option_copied detached.entry) ns bytes.now)) }
+    ensures memory { IfErr result (λ e. e ≡ OutOfMemory) }
+{
+    one_item();
+    let Some(seen) = seen_of(kind, bytes) else {
+        return Ok(None);
+    };
+    if has_both(seen.content, detached) {
+        return Ok(None);
+    }
+    let texts = texts_of_seen(seen, bytes, detached);
+    borrowed_by(alloc, kind, texts, seen.is_tagged, external_aad)
 }
 
 /// Returns the texts of a message whose content is either carried or detached, as parts of the
@@ -457,33 +533,7 @@ fn borrowed_once<'a>(
     let Some(texts) = texts_of(kind, found, detached) else {
         return Ok(None);
     };
-    let protected = texts.protected.bytes;
-    let structure = borrowed_structure(alloc, kind, protected, external_aad, texts.signed)?;
-    let Some(structure) = structure else {
-        return Ok(None);
-    };
-    let Some((structure_len, len)) = lengths_of(&structure, &texts) else {
-        return Ok(None);
-    };
-    let view = MessageView {
-        algorithm: texts.algorithm,
-        key_id_place: texts.key_id.place,
-        has_critical: false,
-        is_understood: true,
-        is_tagged: found.is_tagged,
-        structure_len,
-        proof_len: texts.proof.bytes.len(),
-        content_len: texts.content.bytes.len(),
-        key_id_len: texts.key_id.text.bytes.len(),
-        len,
-    };
-    Ok(Some(Borrowed {
-        view,
-        structure,
-        proof: texts.proof,
-        content: texts.content,
-        key_id: texts.key_id.text,
-    }))
+    borrowed_by(alloc, kind, texts, found.is_tagged, external_aad)
 }
 
 /// Returns everything that verifying or decrypting the item takes, if it can be borrowed from the

@@ -6,25 +6,26 @@ ghost use Rattle.coset.specs.Item.{Item};
 ghost use Rattle.coset.specs.PerhapsTagged.{untagged};
 ghost use Rattle.coset.specs.Pulls.{pull_item};
 ghost use Rattle.coset.specs.Shape.{◌then◌, bstr, end, or_nil};
-ghost use Rattle.ffi_query.specs.Fits.{Fits, FitsElements, FitsForm, FitsKind, FitsThree, IsInForm};
+ghost use Rattle.ffi_query.specs.Fits.{Fits, FitsElements, FitsForm, FitsKind, FitsThree, IsHeaderContent, IsInForm};
 ghost use Rattle.ffi_query.specs.Kinds.{is_under, is_under_some, tag_of, without_tag};
 ghost use Rattle.ffi_query.specs.Located.{IsLocated, elements_left, located_item};
-ghost use Rattle.ffi_query.specs.Plain.{IsHeaderContent};
+ghost use Rattle.ffi_query.specs.Seen.{IsAllowed};
 ghost use Rattle.ffi_query.specs.Three.{AreThreeIn, IsThree};
 
 use crate::kind::{Form, Kind};
 use crate::located::{Elements, Located, next_located, only_bytes};
-use crate::plain::is_plain_header;
 use crate::three::{Three, three_of};
 use coset::cbor::de::Pull;
 use coset::{FromPull, Header, ProtectedHeader};
 use coset_codec::traits::whole_item;
+use coset_seen::is_plain_header;
 use std::alloc::Global;
 
 /// Returns true if the form allows a message that is or isn't under its tag, as `is_tagged` says.
-fn is_in_form(form: Form, is_tagged: bool) -> bool
-    ensures { (n : ℕ) (v : Item) → is_tagged ≡ is_under n v → result ≡ true
+pub(crate) fn is_in_form(form: Form, is_tagged: bool) -> bool
+    ensures form { (n : ℕ) (v : Item) → is_tagged ≡ is_under n v → result ≡ true
         → IsInForm form n v (untagged n v) }
+    ensures allowed { result ≡ true → IsAllowed form is_tagged }
 {
     match form {
         Form::Plain => !is_tagged,
@@ -41,7 +42,7 @@ fn is_plain_content(content: &[u8]) -> bool
         return true;
     }
     match whole_item(content) {
-        Ok(map) => is_plain_header(map),
+        Ok(_) => is_plain_header(content),
         Err(_) => false,
     }
 }
@@ -64,7 +65,7 @@ fn is_protected(alloc: Global, place: Pull<'_>) -> bool
 fn is_unprotected(alloc: Global, place: Pull<'_>) -> bool
     ensures { Fits header (pull_item place.entry) result }
 {
-    if is_plain_header(place) {
+    if is_plain_header(place.slice()) {
         return true;
     }
     Header::from_pull(alloc, place).is_ok()

@@ -11,6 +11,7 @@ ghost use Rattle.ffi_query.specs.Kinds.{Checks, IsRefused};
 use crate::fits::fits;
 use crate::kind::{Kind, check_by_decoding};
 use crate::located::{Located, without_tag_located};
+use crate::seen::seen_of;
 use crate::three::{Three, three_of};
 use coset::Result;
 use coset::cbor::de::Pull;
@@ -97,6 +98,9 @@ pub(crate) fn find_item(alloc: Global, kind: Kind, bytes: &[u8]) -> Result<Found
 pub fn check(alloc: Global, kind: Kind, bytes: &[u8]) -> Result<()>
     ensures { Checks kind bytes.now result }
 {
+    if seen_of(kind, bytes).is_some() {
+        return Ok(());
+    }
     find_item(alloc, kind, bytes)?;
     Ok(())
 }

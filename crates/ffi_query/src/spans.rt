@@ -9,7 +9,7 @@ ghost use Rattle.ffi_query.specs.Spans.{AreBorrowedSpans, IsAt, IsMessageSpans, 
 ghost use Rattle.ffi_query.specs.declared.spans.MessageSpans.{MessageSpans};
 ghost use Rattle.ffi_query.specs.View.{HasNoView};
 
-use crate::borrowed::{Borrowed, find_borrowed};
+use crate::borrowed::{Borrowed, borrowed_plain, find_borrowed};
 use crate::elements::text_span;
 use crate::found::find_item;
 use crate::kind::Kind;
@@ -161,6 +161,11 @@ pub fn message_spans(
         (IsMessageSpans kind index external_aad.now d known.now bytes.now)
         (HasNoView kind index external_aad.now d known.now) out.old out.new result }
 {
+    match borrowed_plain(alloc, kind, bytes, external_aad, detached) {
+        Ok(Some(lent)) => return put_borrowed(&lent, bytes, out),
+        Ok(None) => {}
+        Err(error) => return Err(Refusal::Cose(error)),
+    }
     let found = match find_item(alloc, kind, bytes) {
         Ok(found) => found,
         Err(error) => return Err(Refusal::Cose(error)),

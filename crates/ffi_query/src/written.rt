@@ -1,11 +1,12 @@
 //! Results in the caller's memory.
 
 ghost use Rattle.std.specs.List.{flat_map};
-ghost use Rattle.std.specs.Prelude.{◌≡◌, IfSome, length};
+ghost use Rattle.std.specs.Prelude.{length};
 ghost use Rattle.ffi_query.specs.Results.{Puts, PutsTexts, WritesFound};
 
 use crate::refusal::Refusal;
 use coset::{CoseError, Result};
+use coset_seen::StructureError;
 
 /// Writes the bytes to the front of `out`, and returns their number.
 ///
@@ -22,17 +23,6 @@ pub(crate) fn put(bytes: &[u8], out: &mut [u8]) -> Result<usize, Refusal>
     Ok(bytes.len())
 }
 
-/// Returns the total length of the texts, if it fits in a `usize`.
-fn total_len(texts: &[&[u8]]) -> Option<usize>
-    ensures { IfSome result (λ n. n ≡ length (flat_map (λ t. t.now) texts.now)) }
-{
-    let mut total: usize = 0;
-    for text in texts {
-        total = total.checked_add(text.len())?;
-    }
-    Some(total)
-}
-
 /// Writes the texts to the front of `out`, one after another, and returns their total length.
 ///
 /// # Errors
@@ -44,20 +34,11 @@ pub(crate) fn put_texts(texts: &[&[u8]], out: &mut [u8]) -> Result<usize, Refusa
     ensures { let t = flat_map (λ t. t.now) texts.now in
         PutsTexts (length t) t out.old out.new result }
 {
-    let Some(len) = total_len(texts) else {
-        return Err(Refusal::Cose(CoseError::OutOfMemory));
-    };
-    if out.len() < len {
-        return Err(Refusal::Short(len));
+    match coset_seen::put_texts(texts, out) {
+        Ok(len) => Ok(len),
+        Err(StructureError::Short(len)) => Err(Refusal::Short(len)),
+        Err(_) => Err(Refusal::Cose(CoseError::OutOfMemory)),
     }
-    let mut at = 0;
-    for text in texts {
-        let (_, rest) = out.split_at_mut(at);
-        let (front, _) = rest.split_at_mut(text.len());
-        front.copy_from_slice(text);
-        at += text.len();
-    }
-    Ok(len)
 }
 
 /// Writes the bytes that were found to the front of `out`, and returns their number. `ffi_make`

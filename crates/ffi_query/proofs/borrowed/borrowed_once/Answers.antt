@@ -1,33 +1,12 @@
-use Rattle.std.proofs.Common.{◌∙◌, ◌++◌, refl, sym}
-use Rattle.std.proofs.lemmas.List.{length-append}
 use Rattle.std.specs.Option.{option_copied}
 use Rattle.ffi_query.specs.Located.{located_item}
-use Rattle.ffi_query.proofs.Lending.{says_of}
+use Rattle.ffi_query.proofs.Lending.{borrowed_of}
 use Rattle.ffi_query.proofs.borrowed.borrowed_once.Goals as goal
 
 pub returns-clause-lent : goal.returns-clause-lent
 returns-clause-lent c =
     λ b i ns f once.
     let v = located_item c.args.found.now.item in
-    let aad = c.args.external_aad.now in
     let d = option_copied c.args.detached in
-    let x = c.in-Some.texts in
-    let texts = c.in-Some.ensures b f in
-    let front = c.in-Some-structure.structure.front.items in
-    let end = c.in-Some-structure.structure.end.now in
-    let s = front ++ end in
-    let found = rw c.in-Some-structure.is at c.in_ok-structure.ensures.found in
-    let long = c.in-Some-lengths_of.ensures.structure ∙ sym (length-append front end) in record {
-      item = v;
-      is_item = f.is_item;
-      lent = record {
-        says =
-            says_of b aad s i d ns v _ x texts.is_algorithm refl refl refl long refl refl refl c.in-Some-lengths_of.ensures.all c.args.kind
-            texts found;
-        proof_in_b = texts.proof_in_b;
-        content_in_b = texts.content_in_b;
-        key_id_in_b = texts.key_id_in_b;
-      };
-      is_tagged = f.is_tagged;
-      is_once = once;
-    }
+    borrowed_of c.args.kind i c.args.external_aad.now d ns b v c.args.found.now.is_tagged c.borrowed_by.result f.is_item f.is_tagged once
+    (c.borrowed_by.ensures.lent b d i ns v (c.in-Some.ensures b f)) c.borrowed_by.ensures.tagged

@@ -1,7 +1,7 @@
 use Rattle.std.proofs.Common.{◌≡◌, [], arith}
 use Rattle.std.proofs.lemmas.Grind.{common_steps}
 use Rattle.coset.specs.Pulls.{pull_item}
-use Rattle.ffi_query.proofs.Ascending.{header_content, no_content}
+use Rattle.ffi_query.proofs.Fitting.{header_content, no_content}
 use Rattle.ffi_query.proofs.fits.is_plain_content.Goals as goal
 
 pub returns-then-is_empty : goal.returns-then-is_empty
@@ -11,4 +11,4 @@ returns-then-is_empty c =
 
 pub returns-in-Ok : goal.returns-in-Ok
 returns-in-Ok c =
-    λ t. header_content c.args.content.now (pull_item c.in-Ok.map) c.in-Ok.ensures.whole.0 (c.is_plain_header.ensures 15 t)
+    λ t. header_content c.args.content.now (pull_item c.in-Ok.field-0) c.in-Ok.ensures.whole.0 (c.is_plain_header.ensures t 15 (pull_item c.in-Ok.field-0) c.in-Ok.ensures.whole.0)

@@ -1,5 +1,5 @@
 use Rattle.coset.specs.Pulls.{pull_item}
-use Rattle.ffi_query.proofs.Ascending.{protected_header}
+use Rattle.ffi_query.proofs.Fitting.{protected_header}
 use Rattle.ffi_query.proofs.fits.is_protected.Goals as goal
 
 pub returns-then-is_plain_content : goal.returns-then-is_plain_content

@@ -14,14 +14,27 @@ returns-in-Ok-Some c =
     let aad = c.args.external_aad.now in
     let d = option_copied c.args.detached in
     let ns = c.args.known.now in
-    let lent = rw c.in-Ok-Some.field-0-is at (c.in-Ok-Some.ensures.lent c.args.bytes.now i ns c.in-Ok.ensures) in
+    let lent = rw c.in-Ok-Some.field-0-is at (c.in-Ok-Some.ensures.lent i ns) in
     let puts = c.put_borrowed.ensures in
     lent_answered k i aad d ns c.args.bytes.now c.args.out.now c.put_borrowed.new.out (HasNoView k i aad d ns) c.in-Ok-Some.lent puts.0 c.put_borrowed.result
     lent
     puts.1 puts.2
 
-pub returns-in-Ok-None : goal.returns-in-Ok-None
-returns-in-Ok-None c =
+pub returns-in-Ok-Some-find_borrowed : goal.returns-in-Ok-Some-find_borrowed
+returns-in-Ok-Some-find_borrowed c =
+    let k = c.args.kind in
+    let i = c.args.index in
+    let aad = c.args.external_aad.now in
+    let d = option_copied c.args.detached in
+    let ns = c.args.known.now in
+    let lent = rw c.in-Ok-Some-find_borrowed.field-0-is at (c.in-Ok-Some-find_borrowed.ensures.lent c.args.bytes.now i ns c.in-Ok.ensures) in
+    let puts = c.put_borrowed-in-Ok-Some-find_borrowed.ensures in
+    lent_answered k i aad d ns c.args.bytes.now c.args.out.now c.put_borrowed-in-Ok-Some-find_borrowed.new.out (HasNoView k i aad d ns) c.in-Ok-Some-find_borrowed.lent puts.0 c.put_borrowed-in-Ok-Some-find_borrowed.result
+    lent
+    puts.1 puts.2
+
+pub returns-in-Ok-None-find_borrowed : goal.returns-in-Ok-None-find_borrowed
+returns-in-Ok-None-find_borrowed c =
     let k = c.args.kind in
     let b = c.args.bytes.now in
     let i = c.args.index in
@@ -33,3 +46,6 @@ returns-in-Ok-None c =
 
 pub returns-in-Err-find_borrowed : goal.returns-in-Err-find_borrowed
 returns-in-Err-find_borrowed c = (memory_refuses c.args.kind c.args.bytes.now c.in-Err-find_borrowed.error c.in-Err-find_borrowed.ensures.memory, refl)
+
+pub returns-in-Err : goal.returns-in-Err
+returns-in-Err c = (memory_refuses c.args.kind c.args.bytes.now c.in-Err.error c.in-Err.ensures.memory, refl)
