@@ -1,6 +1,6 @@
 -- Messages with plain headers.
 use mir.Syntax.{w64}
-use Rattle.std.proofs.Common.{◌≡◌, ◌∙◌, ◌++◌, ℕ, ℤ, pos, negsuc, List, [], ◌∷◌, Option, Some, None, Bool, true, false, true≢false, cond, refl, sym, ap, subst, inl, inr, FitsSigned}
+use Rattle.std.proofs.Common.{◌≡◌, ◌∙◌, ◌++◌, ℕ, ℤ, pos, negsuc, List, [], ◌∷◌, Option, Some, None, Result, Err, Bool, true, false, true≢false, cond, refl, sym, ap, subst, inl, inr, FitsSigned}
 use Rattle.std.proofs.lemmas.Bool.Decides.{Decides-int_eq}
 use Rattle.std.specs.Option.{option_copied}
 use Rattle.std.specs.Ordering.{int_eq}
@@ -12,6 +12,7 @@ use Rattle.coset.specs.Labels.{algorithm}
 use Rattle.coset.specs.Parts.{as_integer, as_tag}
 use Rattle.coset.specs.PerhapsTagged.{DescribesNoTag, plain_is_perhaps, tagged_is_perhaps, untagged}
 use Rattle.coset.specs.Results.{Describes}
+use Rattle.coset.specs.Shortest.{IsShortest}
 use Rattle.coset.specs.Shape.{Elements, Shape, array_of}
 use Rattle.coset.specs.ShapeLaws.{some-none, some-one}
 use Rattle.coset.specs.Encrypt0.{encrypt0}
@@ -20,22 +21,28 @@ use Rattle.coset.specs.Sign1.{sign1}
 use Rattle.coset_seen.specs.declared.kind.Kind as seen
 use Rattle.coset_seen.specs.declared.kind.Kind.TheVariants as plain
 use Rattle.coset_seen.specs.declared.message.KeyId.{KeyId}
+use Rattle.coset_seen.specs.declared.message.Part.{Part}
 use Rattle.coset_seen.specs.declared.message.Seen.{Seen}
 use Rattle.coset_seen.specs.Elements.{content_item, message_items, perhaps_tag}
 use Rattle.coset_seen.specs.Kinds.{tag_of as seen_tag}
 use Rattle.coset_seen.specs.Named.{is_same as is_same_seen, value_of}
 use Rattle.coset_seen.specs.Plain.{ArePlain, IsPlainValue}
-use Rattle.coset_seen.specs.Seen.{IsMapOf, IsSeen, IsUnderKid, bytes_of, in_form as seen_form}
+use Rattle.coset_seen.specs.declared.structure.StructureError.{StructureError}
+use Rattle.coset_seen.specs.declared.structure.StructureError.TheVariants.{NoContent, TwoContents}
+use Rattle.coset_seen.specs.Puts.{PutsTexts}
+use Rattle.coset_seen.specs.Structures.{PutsItem, structure_of}
+use Rattle.coset_seen.specs.Seen.{IsMapOf, PutsStructure, IsSeen, IsUnderKid, bytes_of, in_form as seen_form}
 use Rattle.ffi_query.specs.declared.kind.Form as forms
 use Rattle.ffi_query.specs.declared.kind.Form.TheVariants.{Plain, Tagged, Either}
 use Rattle.ffi_query.specs.declared.kind.Kind as kinds
 use Rattle.ffi_query.specs.declared.kind.Kind.TheVariants.{Sign1, Sign, Mac0, Mac, Encrypt0, Encrypt, Signature, Recipient}
 use Rattle.ffi_query.specs.declared.kind.Kind.TheVariants.{Header, Key, KeySet, Claims, Any, KdfContext}
 use Rattle.ffi_query.specs.declared.borrowed.Texts.{Texts}
-use Rattle.ffi_query.specs.Borrowed.{AreTexts, HasNoCritical, IsAttached, IsSigned, KnowsAlgorithm, KnowsKeyId}
+use Rattle.ffi_query.specs.Borrowed.{AreTexts, HasNoCritical, IsAttached, IsSigned, KnowsAlgorithm, KnowsKeyId, structure_by}
 use Rattle.ffi_query.specs.Kinds.{IsItemOf, IsOf, TellsTag, TellsTagOf, in_form, tag_of, without_tag}
 use Rattle.ffi_query.specs.Labels.{IsUnderIn, first_value, is_label, is_same, value_under}
 use Rattle.ffi_query.specs.Located.{IsTextIn}
+use Rattle.ffi_query.specs.Results.{IsEncodingOf}
 use Rattle.ffi_query.specs.Seen.{IsAllowed, IsSeenOf, algorithm_of, key_id_bytes, both_given, key_id_place, kind_in, or_nothing, place_by, seen_item, signed_of}
 use Rattle.ffi_query.specs.Structures.{is_given_twice}
 use Rattle.ffi_query.specs.View.{proof_in}
@@ -304,3 +311,30 @@ texts_are one k b s h d x protected algorithm proof proof_in content content_in 
       key_id_in_b = key_id_in;
       is_signed = subst (IsSigned (content_item c) d) (sym signed) (signed_is c d);
     }
+
+-- ---- the structure
+
+abbrev NoError : Result ℕ StructureError → Type 0
+NoError r = (r ≡ Err NoContent → ⊥) × (r ≡ Err TwoContents → ⊥)
+
+-- The structure of a message was written, over the carried content or the given one.
+pub structure_of_plain :
+    (k : kinds.Kind) (b : List ℕ) (s : Seen) (h : IsSeenOf k b s) (aad old new : List ℕ) (d : Option (List ℕ)) (r : Result ℕ StructureError)
+    → PutsStructure s aad s.content d old new r → NoError r
+    → (t : List ℕ) × IsEncodingOf (structure_by k aad s.protected.bytes.now (signed_of (bytes_of s.content) d)) t × PutsTexts t old new r
+structure_of_plain k b s h aad old new d r puts none =
+    let c = content s.content d puts in
+    let t : List ℕ = c.2.0 in
+    let encoded =
+    by_kind k h.kind h.form
+    (λ j z. IsShortest t (structure_of z s.protected.bytes.now aad c.0) → IsEncodingOf (structure_by j aad s.protected.bytes.now (Some c.0)) t) h.is_kind
+    (λ f x. (_, refl, x)) (λ f x. (_, refl, x)) (λ f x. (_, refl, x))
+    (subst (λ z. IsShortest t (structure_of z s.protected.bytes.now aad c.0)) h.is_seen.kind c.2.1) in
+    (t, subst (λ o. IsEncodingOf (structure_by k aad s.protected.bytes.now o) t) (sym c.1) encoded, c.2.2)
+  where
+    content : (o : Option Part) (d : Option (List ℕ)) → PutsStructure s aad o d old new r
+        → (c : List ℕ) × (signed_of (bytes_of o) d ≡ Some c) × PutsItem (structure_of s.kind s.protected.bytes.now aad c) old new r
+    content (Some q) None x = (q.bytes.now, refl, x)
+    content None (Some e) x = (e, refl, x)
+    content (Some q) (Some e) x = absurd (none.1 x.0)
+    content None None x = absurd (none.0 x.0)

@@ -1,23 +1,33 @@
 -- Texts that are given by their places.
 use Rattle.std.proofs.Common.{◌≡◌, ◌∙◌, ◌++◌, ◌-◌, ◌+◌, ℕ, ℤ, List, [], length}
-use Rattle.std.proofs.Common.{Option, Result, Ok, Err, true, false, ap, sym, subst, refl, arith}
+use Rattle.std.proofs.Common.{Option, Some, Result, Ok, Err, Bool, true, false, ap, sym, subst, refl, arith}
 use Rattle.std.proofs.lemmas.List.{append-nil, append_assoc, length-append}
 use Rattle.std.specs.Prelude.{if◌then◌else◌}
 use Rattle.coset.specs.Item.{Item}
 use Rattle.ffi_query.specs.declared.kind.Kind as kinds
 use Rattle.ffi_query.specs.declared.borrowed.Borrowed as declared
+use Rattle.ffi_query.specs.declared.borrowed.Texts.{Texts}
 use Rattle.ffi_query.specs.declared.refusal.Refusal as refusals
 use Rattle.ffi_query.specs.declared.refusal.Refusal.TheVariants.{Short, Absent, WrongType, Empty, Misuse, Cose}
 use Rattle.ffi_query.specs.declared.spans.MessageSpans.{MessageSpans}
 use Rattle.ffi_query.specs.declared.spans.Start.{Start}
 use Rattle.ffi_query.specs.declared.view.MessageView.{MessageView}
-use Rattle.ffi_query.specs.Results.{ReturnsWith, PutsTexts}
+use Rattle.ffi_query.specs.Results.{IsEncodingOf, ReturnsWith, PutsTexts}
 use Rattle.ffi_query.specs.Kinds.{TellsTagOf, tag_of}
-use Rattle.ffi_query.specs.Borrowed.{IsBorrowed, IsBorrowedOf, Says}
+use Rattle.ffi_query.specs.Borrowed.{AreTexts, IsBorrowed, IsBorrowedOf, KnowsAlgorithm, Says, structure_by}
 use Rattle.ffi_query.specs.Located.{AreLocated}
-use Rattle.ffi_query.specs.Spans.{AreBorrowedSpans, IsAt, IsMessageSpans, IsStart, copied, copied_spans}
+use Rattle.ffi_query.specs.Spans.{AreBorrowedSpans, AreUnsizedSpans, IsAt, IsMessageSpans, IsStart, copied, copied_spans, refusal_of, with_structure}
 use Rattle.ffi_query.specs.Structures.{is_given_twice}
 use Rattle.ffi_query.specs.View.{IsMessageView}
+use Rattle.std.specs.Option.{option_copied}
+use Rattle.coset.specs.ShapeLaws.{some-none, some-one}
+use Rattle.coset_seen.specs.declared.message.Seen.{Seen}
+use Rattle.coset_seen.specs.declared.structure.StructureError.{StructureError}
+use Rattle.coset_seen.specs.declared.structure.StructureError.TheVariants as seen
+use Rattle.coset_seen.specs.Seen.{PutsStructure, bytes_of}
+use Rattle.ffi_query.specs.Seen.{IsSeenOf, seen_item, signed_of}
+use Rattle.ffi_query.proofs.PlainMessages.{item_of, structure_of_plain}
+use Rattle.ffi_query.proofs.Lending.{says_of}
 use Rattle.ffi_query.proofs.EachKind.{memory_refuses}
 
 -- The place where a text of the input begins.
@@ -123,3 +133,55 @@ module _
     copied_answered (Err WrongType) h = h
     copied_answered (Err Empty) h = h
     copied_answered (Err Misuse) h = h
+
+-- ---- messages with plain headers
+
+-- The view and the places of texts, once the structure is written.
+pub plain_spans_are :
+    (k : kinds.Kind) (i : ℕ) (aad : List ℕ) (d : Option (List ℕ)) (ns : List ℤ) (b t : List ℕ) (v : Item) (x : Texts) (tagged : Bool) (sum : ℕ)
+    (m : MessageSpans) → AreTexts k d b v x → AreUnsizedSpans b x tagged sum m
+    → sum ≡ 0 + (length x.proof.bytes.now + (length x.content.bytes.now + length x.key_id.text.bytes.now))
+    → IsEncodingOf (structure_by k aad x.protected.now (option_copied x.signed)) t → TellsTagOf (tag_of k) b tagged → is_given_twice k d v ≡ false
+    → IsMessageSpans k i aad d ns b v (with_structure m (length t)) t
+plain_spans_are k i aad d ns b t v x tagged sum m texts spans sums encoded tells once =
+    let n = with_structure m (length t) in
+    let all : n.view.len ≡ n.view.structure_len + (n.view.proof_len + (n.view.content_len + n.view.key_id_len)) =
+    omega (arith, spans.len, sums, spans.proof_len, spans.content_len, spans.key_id_len) in
+    let says =
+    says_of b aad t i d ns v n.view x (subst (KnowsAlgorithm v) (sym spans.algorithm) texts.is_algorithm) spans.place spans.uncritical
+    spans.understood refl spans.proof_len spans.content_len spans.key_id_len all k texts encoded in record {
+      text = says.text;
+      view = says.view;
+      is_tagged = subst (TellsTagOf (tag_of k) b) (sym spans.is_tagged) tells;
+      is_once = once;
+      structure = at_front t says.view.signed says.is_signed;
+      proof = in_input b t x.proof.bytes.now says.view.proof m.proof spans.proof.0 says.is_proof (spans.proof.1 texts.proof_in_b);
+      content = in_input b t x.content.bytes.now says.view.content m.content spans.content.0 says.is_content (spans.content.1 texts.content_in_b);
+      key_id = in_input b t x.key_id.text.bytes.now says.view.key_id m.key_id spans.key_id.0 says.is_key_id (spans.key_id.1 texts.key_id_in_b);
+      len = refl;
+    }
+
+-- A structure that couldn't be written.
+pub plain_refused :
+    (k : kinds.Kind) (i : ℕ) (aad : List ℕ) (d : Option (List ℕ)) (ns : List ℤ) (b : List ℕ) (s : Seen) (h : IsSeenOf k b s) (x : Texts) (sum : ℕ)
+    (m : MessageSpans) (old new : List ℕ) (Q : Item → refusals.Refusal → Type 0) (e : StructureError) (r : refusals.Refusal)
+    → AreTexts k d b (seen_item h) x → x.protected.now ≡ s.protected.bytes.now → option_copied x.signed ≡ signed_of (bytes_of s.content) d
+    → AreUnsizedSpans b x s.is_tagged sum m
+    → sum ≡ 0 + (length x.proof.bytes.now + (length x.content.bytes.now + length x.key_id.text.bytes.now)) → TellsTagOf (tag_of k) b s.is_tagged
+    → is_given_twice k d (seen_item h) ≡ false → PutsStructure s aad s.content d old new (Err e) → refusal_of e ≡ Some r
+    → ReturnsWith k b (IsMessageSpans k i aad d ns b) Q old new (Err r)
+plain_refused k i aad d ns b s h x sum m old new Q (seen.Short n) r texts protected signed spans sums tells once puts is =
+    let found = structure_of_plain k b s h aad old new d (Err (seen.Short n)) puts ((λ e. absurd (cc)), (λ e. absurd (cc))) in
+    let t = found.0 in
+    let encoded = subst (λ o. IsEncodingOf (structure_by k aad x.protected.now o) t) (sym signed)
+    (subst (λ p. IsEncodingOf (structure_by k aad p (signed_of (bytes_of s.content) d)) t) (sym protected) found.1) in
+    let are = plain_spans_are k i aad d ns b t (seen_item h) x s.is_tagged sum m texts spans sums encoded tells once in
+    subst (λ q. ReturnsWith k b (IsMessageSpans k i aad d ns b) Q old new (Err q)) (some-one refl is)
+    (seen_item h, item_of k b s h, (with_structure m (length t), (t, are, found.2)))
+plain_refused k i aad d ns b s h x sum m old new Q seen.OutOfMemory r texts protected signed spans sums tells once puts is =
+    let found = structure_of_plain k b s h aad old new d (Err seen.OutOfMemory) puts ((λ e. absurd (cc)), (λ e. absurd (cc))) in
+    subst (λ q. ReturnsWith k b (IsMessageSpans k i aad d ns b) Q old new (Err q)) (some-one refl is) (memory_refuses k b _ refl, found.2.1)
+plain_refused k i aad d ns b s h x sum m old new Q seen.NoContent r texts protected signed spans sums tells once puts is =
+    absurd (some-none refl (sym is))
+plain_refused k i aad d ns b s h x sum m old new Q seen.TwoContents r texts protected signed spans sums tells once puts is =
+    absurd (some-none refl (sym is))

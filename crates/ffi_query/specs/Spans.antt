@@ -1,9 +1,15 @@
 -- The result of a call that gives a message's texts by their places, in the input or in the bytes that were written.
-use Rattle.std.specs.Prelude.{◌≡◌, ◌++◌, ◌-◌, ℕ, ℤ, List, length, Option, true, false, Result, Ok, Err, if◌then◌else◌}
+use Rattle.std.specs.Prelude.{◌≡◌, ◌++◌, ◌-◌, ◌+◌, ℕ, ℤ, List, length, Option, Some, None, Bool, true, false, Result, Ok, Err, if◌then◌else◌}
 use Rattle.coset.specs.Item.{Item}
 use Rattle.ffi_query.specs.declared.kind.Kind as kinds
 use Rattle.ffi_query.specs.declared.borrowed.Borrowed as declared
+use Rattle.ffi_query.specs.declared.borrowed.Texts.{Texts}
+use Rattle.ffi_query.specs.declared.located.Text.{Text}
+use Rattle.coset.specs.CoseError.TheVariants as memory
+use Rattle.coset_seen.specs.declared.structure.StructureError.{StructureError}
+use Rattle.coset_seen.specs.declared.structure.StructureError.TheVariants.{Short, OutOfMemory, NoContent, TwoContents}
 use Rattle.ffi_query.specs.declared.refusal.Refusal as refusals
+use Rattle.ffi_query.specs.declared.refusal.Refusal.TheVariants as refused
 use Rattle.ffi_query.specs.declared.spans.MessageSpans.{MessageSpans}
 use Rattle.ffi_query.specs.declared.spans.Start.{Start}
 use Rattle.ffi_query.specs.declared.view.MessageView.{MessageView}
@@ -45,6 +51,37 @@ pub record AreBorrowedSpans (b : List ℕ) (x : declared.Borrowed) (m : MessageS
   pub content : (m.content.is_input ≡ true) × (IsTextIn b x.content → IsAt b m.content.at x.content.bytes.now)
   pub key_id : (m.key_id.is_input ≡ true) × (IsTextIn b x.key_id → IsAt b m.key_id.at x.key_id.bytes.now)
   pub len : m.len ≡ x.view.structure_len
+
+-- The text s of the input b is at that place.
+abbrev pub IsBorrowedStart : List ℕ → Start → Text → Type 0
+IsBorrowedStart b p s = (p.is_input ≡ true) × (IsTextIn b s → IsAt b p.at s.bytes.now)
+
+-- The view and the places of the texts x, without the length of the structure. The texts' lengths have the sum n. t says
+-- whether the message is under its tag.
+pub record AreUnsizedSpans (b : List ℕ) (x : Texts) (t : Bool) (n : ℕ) (m : MessageSpans) : Type 0 where
+  pub algorithm : m.view.algorithm ≡ x.algorithm
+  pub place : m.view.key_id_place ≡ x.key_id.place
+  pub uncritical : m.view.has_critical ≡ false
+  pub understood : m.view.is_understood ≡ true
+  pub is_tagged : m.view.is_tagged ≡ t
+  pub proof_len : m.view.proof_len ≡ length x.proof.bytes.now
+  pub content_len : m.view.content_len ≡ length x.content.bytes.now
+  pub key_id_len : m.view.key_id_len ≡ length x.key_id.text.bytes.now
+  pub len : m.view.len ≡ n
+  pub proof : IsBorrowedStart b m.proof x.proof
+  pub content : IsBorrowedStart b m.content x.content
+  pub key_id : IsBorrowedStart b m.key_id x.key_id.text
+
+-- The same with a structure of length n.
+abbrev pub with_structure : MessageSpans → ℕ → MessageSpans
+with_structure m n = record m { view = record m.view { structure_len = n; len = m.view.len + n }; len = n }
+
+-- The refusal for an error in writing a structure, unless the error is about the content.
+abbrev pub refusal_of : StructureError → Option refusals.Refusal
+refusal_of (Short n) = Some (refused.Short n)
+refusal_of OutOfMemory = Some (refused.Cose memory.OutOfMemory)
+refusal_of NoContent = None
+refusal_of TwoContents = None
 
 -- A place in the bytes that were written.
 abbrev pub written_at : ℕ → Start

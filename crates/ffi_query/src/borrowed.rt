@@ -379,7 +379,7 @@ fn length_of(front: &[u8], end: &[u8]) -> Option<usize>
 }
 
 /// Returns the sum, if it fits in a `usize`.
-fn sum_of(a: usize, b: usize, c: usize, d: usize) -> Option<usize>
+pub(crate) fn sum_of(a: usize, b: usize, c: usize, d: usize) -> Option<usize>
     ensures { IfSome result (λ n. n ≡ a + (b + (c + d))) }
 {
     a.checked_add(b)?.checked_add(c)?.checked_add(d)

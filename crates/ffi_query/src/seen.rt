@@ -135,8 +135,11 @@ pub(crate) fn texts_of_seen<'a>(
     input: &'a [u8],
     detached: Option<&'a [u8]>,
 ) -> Texts<'a>
-    ensures { (k : Kind) (h : IsSeenOf k input.now seen.entry)
+    ensures texts { (k : Kind) (h : IsSeenOf k input.now seen.entry)
         → AreTexts k (option_copied detached.entry) input.now (seen_item h) result }
+    ensures protected { result.protected.now ≡ seen.entry.protected.bytes.now }
+    ensures signed { option_copied result.signed
+        ≡ signed_of (bytes_of seen.entry.content) (option_copied detached.entry) }
 {
     one_item();
     Texts {

@@ -1,22 +1,26 @@
 //! Everything that verifying or decrypting a message takes. The message's own texts are given by
 //! their places in the input, or are copied if they can't be borrowed.
 
-ghost use Rattle.std.specs.Prelude.{◌≡◌, ◌++◌, length, true};
+ghost use Rattle.std.specs.Prelude.{◌≡◌, ◌<◌, ◌+◌, ◌^◌, ◌++◌, ℕ, ℤ, List, Option, MatchOption, length, true};
 ghost use Rattle.std.specs.Option.{option_copied};
 ghost use Rattle.ffi_query.specs.Results.{ReturnsWith, PutsTexts};
 ghost use Rattle.ffi_query.specs.Located.{IsTextIn};
-ghost use Rattle.ffi_query.specs.Spans.{AreBorrowedSpans, IsAt, IsMessageSpans, copied, copied_spans, written_at};
+ghost use Rattle.ffi_query.specs.Spans.{AreBorrowedSpans, AreUnsizedSpans, IsAt, IsMessageSpans, copied, copied_spans, refusal_of, with_structure, written_at};
 ghost use Rattle.ffi_query.specs.declared.spans.MessageSpans.{MessageSpans};
 ghost use Rattle.ffi_query.specs.View.{HasNoView};
 
-use crate::borrowed::{Borrowed, borrowed_plain, find_borrowed};
+use crate::borrowed::{Borrowed, Texts, find_borrowed, sum_of};
 use crate::elements::text_span;
 use crate::found::find_item;
 use crate::kind::Kind;
 use crate::located::Text;
 use crate::refusal::Refusal;
+use crate::seen::{has_both, seen_of, texts_of_seen};
 use crate::view::{MessageView, view_of};
 use crate::written::put_texts;
+use coset::CoseError;
+use coset::laws::one_item;
+use coset_seen::StructureError;
 use std::alloc::Global;
 
 /// The place where a text begins.
@@ -100,6 +104,95 @@ fn put_borrowed(lent: &Borrowed<'_>, input: &[u8], out: &mut [u8]) -> Result<Mes
     }
 }
 
+/// Returns the view of a message with these texts, and their places. The length of the structure is
+/// left out, in the view too.
+fn unsized_spans(texts: &Texts<'_>, is_tagged: bool, len: usize, input: &[u8]) -> MessageSpans
+    ensures { AreUnsizedSpans input.now texts.now is_tagged len result }
+{
+    MessageSpans {
+        view: MessageView {
+            algorithm: texts.algorithm,
+            key_id_place: texts.key_id.place,
+            has_critical: false,
+            is_understood: true,
+            is_tagged,
+            structure_len: 0,
+            proof_len: texts.proof.bytes.len(),
+            content_len: texts.content.bytes.len(),
+            key_id_len: texts.key_id.text.bytes.len(),
+            len,
+        },
+        proof: start_of(texts.proof, input),
+        content: start_of(texts.content, input),
+        key_id: start_of(texts.key_id.text, input),
+        len: 0,
+    }
+}
+
+/// Returns the same with a structure of this length.
+fn with_structure(spans: MessageSpans, len: usize) -> MessageSpans
+    requires { spans.view.len + len < 2 ^ 64 }
+    ensures { result ≡ with_structure spans len }
+{
+    MessageSpans {
+        view: MessageView {
+            structure_len: len,
+            len: spans.view.len + len,
+            ..spans.view
+        },
+        len,
+        ..spans
+    }
+}
+
+/// Returns the refusal for an error in writing a structure, or `None` if the error is about the
+/// content.
+fn refusal_of(error: StructureError) -> Option<Refusal>
+    ensures { result ≡ refusal_of error }
+{
+    match error {
+        StructureError::Short(needed) => Some(Refusal::Short(needed)),
+        StructureError::OutOfMemory => Some(Refusal::Cose(CoseError::OutOfMemory)),
+        StructureError::NoContent | StructureError::TwoContents => None,
+    }
+}
+
+/// Writes the structure of a message with plain headers to the front of `out`, and returns the
+/// places of the message's other texts. Allocates nothing.
+///
+/// `None` says nothing; `out` is then unchanged. It is returned if the message isn't found in one
+/// walk, if it has no content, or if the content is given twice.
+fn plain_spans<'a>(
+    kind: Kind,
+    bytes: &'a [u8],
+    external_aad: &[u8],
+    detached: Option<&'a [u8]>,
+    out: &mut [u8],
+) -> Option<Result<MessageSpans, Refusal>>
+    ensures { (i : ℕ) (ns : List ℤ) → let d = option_copied detached.entry in
+        MatchOption result (out.new ≡ out.old) (ReturnsWith kind bytes.now
+        (IsMessageSpans kind i external_aad.now d ns bytes.now)
+        (HasNoView kind i external_aad.now d ns) out.old out.new) }
+{
+    one_item();
+    let seen = seen_of(kind, bytes)?;
+    if has_both(seen.content, detached) {
+        return None;
+    }
+    let texts = texts_of_seen(seen, bytes, detached);
+    let (proof_len, content_len) = (texts.proof.bytes.len(), texts.content.bytes.len());
+    let len = sum_of(0, proof_len, content_len, texts.key_id.text.bytes.len())?;
+    len.checked_add(out.len())?;
+    let spans = unsized_spans(&texts, seen.is_tagged, len, bytes);
+    match seen.put_structure(external_aad, detached, out) {
+        Ok(structure_len) => Some(Ok(with_structure(spans, structure_len))),
+        Err(error) => {
+            let refusal = refusal_of(error)?;
+            Some(Err(refusal))
+        }
+    }
+}
+
 /// Returns a place in the bytes that were written.
 fn written_at(at: usize) -> Start
     ensures { result ≡ written_at at }
@@ -134,6 +227,42 @@ fn copied(answer: Result<MessageView, Refusal>) -> Result<MessageSpans, Refusal>
     }
 }
 
+/// Returns the same as [`message_spans`], by walks over the message's items.
+fn any_spans(
+    alloc: Global,
+    kind: Kind,
+    bytes: &[u8],
+    index: usize,
+    external_aad: &[u8],
+    detached: Option<&[u8]>,
+    known: &[i64],
+    out: &mut [u8],
+) -> Result<MessageSpans, Refusal>
+    ensures { let d = option_copied detached.entry in
+        ReturnsWith kind bytes.now
+        (IsMessageSpans kind index external_aad.now d known.now bytes.now)
+        (HasNoView kind index external_aad.now d known.now) out.old out.new result }
+{
+    let found = match find_item(alloc, kind, bytes) {
+        Ok(found) => found,
+        Err(error) => return Err(Refusal::Cose(error)),
+    };
+    match find_borrowed(alloc, kind, &found, external_aad, detached) {
+        Ok(Some(lent)) => put_borrowed(&lent, bytes, out),
+        Ok(None) => copied(view_of(
+            alloc,
+            kind,
+            &found,
+            index,
+            external_aad,
+            detached,
+            known,
+            out,
+        )),
+        Err(error) => Err(Refusal::Cose(error)),
+    }
+}
+
 /// Writes a message's structure to the front of `out`, and returns the places of the message's
 /// other texts.
 ///
@@ -161,27 +290,17 @@ pub fn message_spans(
         (IsMessageSpans kind index external_aad.now d known.now bytes.now)
         (HasNoView kind index external_aad.now d known.now) out.old out.new result }
 {
-    match borrowed_plain(alloc, kind, bytes, external_aad, detached) {
-        Ok(Some(lent)) => return put_borrowed(&lent, bytes, out),
-        Ok(None) => {}
-        Err(error) => return Err(Refusal::Cose(error)),
+    if let Some(answer) = plain_spans(kind, bytes, external_aad, detached, out) {
+        return answer;
     }
-    let found = match find_item(alloc, kind, bytes) {
-        Ok(found) => found,
-        Err(error) => return Err(Refusal::Cose(error)),
-    };
-    match find_borrowed(alloc, kind, &found, external_aad, detached) {
-        Ok(Some(lent)) => put_borrowed(&lent, bytes, out),
-        Ok(None) => copied(view_of(
-            alloc,
-            kind,
-            &found,
-            index,
-            external_aad,
-            detached,
-            known,
-            out,
-        )),
-        Err(error) => Err(Refusal::Cose(error)),
-    }
+    any_spans(
+        alloc,
+        kind,
+        bytes,
+        index,
+        external_aad,
+        detached,
+        known,
+        out,
+    )
 }

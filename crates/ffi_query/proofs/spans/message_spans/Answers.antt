@@ -1,51 +1,21 @@
-use Rattle.std.proofs.Common.{refl, sym, subst}
+use Rattle.std.proofs.Common.{subst}
 use Rattle.std.specs.Option.{option_copied}
 use Rattle.ffi_query.specs.Results.{ReturnsWith}
 use Rattle.ffi_query.specs.Spans.{IsMessageSpans}
 use Rattle.ffi_query.specs.View.{HasNoView}
-use Rattle.ffi_query.proofs.EachKind.{memory_refuses}
-use Rattle.ffi_query.proofs.Spanning.{copied_answered, lent_answered}
 use Rattle.ffi_query.proofs.spans.message_spans.Goals as goal
 
-pub returns-in-Ok-Some : goal.returns-in-Ok-Some
-returns-in-Ok-Some c =
-    let k = c.args.kind in
-    let i = c.args.index in
-    let aad = c.args.external_aad.now in
-    let d = option_copied c.args.detached in
-    let ns = c.args.known.now in
-    let lent = rw c.in-Ok-Some.field-0-is at (c.in-Ok-Some.ensures.lent i ns) in
-    let puts = c.put_borrowed.ensures in
-    lent_answered k i aad d ns c.args.bytes.now c.args.out.now c.put_borrowed.new.out (HasNoView k i aad d ns) c.in-Ok-Some.lent puts.0 c.put_borrowed.result
-    lent
-    puts.1 puts.2
+pub returns-in-Some : goal.returns-in-Some
+returns-in-Some c = rw c.in-Some.is at (c.plain_spans.ensures c.args.index c.args.known.now)
 
-pub returns-in-Ok-Some-find_borrowed : goal.returns-in-Ok-Some-find_borrowed
-returns-in-Ok-Some-find_borrowed c =
-    let k = c.args.kind in
-    let i = c.args.index in
-    let aad = c.args.external_aad.now in
-    let d = option_copied c.args.detached in
-    let ns = c.args.known.now in
-    let lent = rw c.in-Ok-Some-find_borrowed.field-0-is at (c.in-Ok-Some-find_borrowed.ensures.lent c.args.bytes.now i ns c.in-Ok.ensures) in
-    let puts = c.put_borrowed-in-Ok-Some-find_borrowed.ensures in
-    lent_answered k i aad d ns c.args.bytes.now c.args.out.now c.put_borrowed-in-Ok-Some-find_borrowed.new.out (HasNoView k i aad d ns) c.in-Ok-Some-find_borrowed.lent puts.0 c.put_borrowed-in-Ok-Some-find_borrowed.result
-    lent
-    puts.1 puts.2
-
-pub returns-in-Ok-None-find_borrowed : goal.returns-in-Ok-None-find_borrowed
-returns-in-Ok-None-find_borrowed c =
+pub returns : goal.returns
+returns c =
     let k = c.args.kind in
     let b = c.args.bytes.now in
     let i = c.args.index in
     let aad = c.args.external_aad.now in
     let d = option_copied c.args.detached in
     let ns = c.args.known.now in
-    subst (ReturnsWith k b (IsMessageSpans k i aad d ns b) (HasNoView k i aad d ns) c.args.out.now c.view_of.new.out) (sym c.copied.ensures)
-    (copied_answered k i aad d ns b c.args.out.now c.view_of.new.out (HasNoView k i aad d ns) c.view_of.result (c.view_of.ensures b c.in-Ok.ensures))
-
-pub returns-in-Err-find_borrowed : goal.returns-in-Err-find_borrowed
-returns-in-Err-find_borrowed c = (memory_refuses c.args.kind c.args.bytes.now c.in-Err-find_borrowed.error c.in-Err-find_borrowed.ensures.memory, refl)
-
-pub returns-in-Err : goal.returns-in-Err
-returns-in-Err c = (memory_refuses c.args.kind c.args.bytes.now c.in-Err.error c.in-Err.ensures.memory, refl)
+    let same = rw c.in_default.is at (c.plain_spans.ensures i ns) in
+    subst (λ old. ReturnsWith k b (IsMessageSpans k i aad d ns b) (HasNoView k i aad d ns) old c.any_spans.new.out c.any_spans.result) same
+    c.any_spans.ensures
