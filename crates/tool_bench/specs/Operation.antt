@@ -7,7 +7,7 @@ use Rattle.tool_bench.specs.declared.structure.Structure.{Structure}
 use Rattle.tool_bench.specs.declared.structure.Structure.TheVariants.{CountersignatureTbs, Sign1Tbs, SignTbs, Mac0Tbm, MacTbm, Encrypt0Aad, EncryptAad}
 use Rattle.tool_bench.specs.declared.operation.Operation.{Operation}
 use Rattle.tool_bench.specs.declared.operation.Operation.TheVariants.{Check, Read, Write, Make, Sign1Refused, Sign1Copy, Sign1Compare, RecipientRefused}
-use Rattle.tool_bench.specs.declared.operation.Operation.TheVariants.{RecipientCopy, RecipientCompare, KeyCanonicalize, VerifyToken, Judge, TokenByHand}
+use Rattle.tool_bench.specs.declared.operation.Operation.TheVariants.{RecipientCopy, RecipientCompare, KeyCanonicalize, VerifyToken, Seen, Judge, TokenByHand}
 
 -- The name of the operation that reads a type.
 abbrev pub kind_name : Kind → List ℕ
@@ -50,5 +50,6 @@ operation_name RecipientCopy = codes "recipient_copy"
 operation_name RecipientCompare = codes "recipient_compare"
 operation_name KeyCanonicalize = codes "key_canonicalize"
 operation_name VerifyToken = codes "verify_token"
+operation_name Seen = codes "seen"
 operation_name Judge = codes "judge"
 operation_name TokenByHand = codes "token_by_hand"

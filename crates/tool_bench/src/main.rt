@@ -12,6 +12,7 @@ mod figure;
 mod kind;
 mod operation;
 mod run;
+mod seen;
 mod structure;
 mod structured;
 mod tokens;

@@ -6,6 +6,7 @@ ghost use Rattle.tool_bench.specs.Operation.{operation_name};
 use crate::calls::{time_canonicalize, time_check, time_compare, time_copy, time_refusal};
 use crate::fault::Fault;
 use crate::kind::Kind;
+use crate::seen::time_seen;
 use crate::structure::Structure;
 use crate::tokens::{time_by_hand, time_judge, time_verify_token};
 use coset_recipient::{CoseRecipient, CoseSign1};
@@ -39,6 +40,8 @@ pub enum Operation {
     KeyCanonicalize,
     /// Verifying a token by a ring of keys and a policy, with `verify_token`.
     VerifyToken,
+    /// Finding a message without allocating, and writing its structure.
+    Seen,
     /// Judging a token with `judge`.
     Judge,
     /// Reading a token's message, its structure and its claims by hand.
@@ -70,6 +73,7 @@ impl Operation {
             "recipient_compare" => Some(Operation::RecipientCompare),
             "key_canonicalize" => Some(Operation::KeyCanonicalize),
             "verify_token" => Some(Operation::VerifyToken),
+            "seen" => Some(Operation::Seen),
             "judge" => Some(Operation::Judge),
             "token_by_hand" => Some(Operation::TokenByHand),
             _ => None,
@@ -99,6 +103,7 @@ impl Operation {
             Operation::RecipientCompare => time_compare::<CoseRecipient, R>(rt, bytes, calls),
             Operation::KeyCanonicalize => time_canonicalize(rt, bytes, calls),
             Operation::VerifyToken => time_verify_token(rt, bytes, calls),
+            Operation::Seen => time_seen(rt, bytes, calls),
             Operation::Judge => time_judge(rt, bytes, calls),
             Operation::TokenByHand => time_by_hand(rt, bytes, calls),
         }

@@ -1,0 +1,47 @@
+//! `test_seen` reads calls from standard input, one a line, and writes what each returns.
+//!
+//! KIND is `sign1`, `mac0` or `encrypt0`. Bytes are in hexadecimal, and `-` means no bytes. These
+//! are the calls:
+//!
+//! - `see KIND BYTES`: the fields of the message, or `none`. A part is `OFFSET:BYTES`.
+//! - `agree KIND BYTES`: `agrees` if the decoded message has the same fields, or `none`.
+//! - `put KIND BYTES AAD DETACHED SIZE`: the structure, in memory of that many bytes `ee`.
+//! - `make KIND BYTES AAD DETACHED`: the structure as a vector.
+//! - `facade KIND BYTES AAD`: the structure that the decoded message makes.
+//! - `header BYTES`: whether the header is plain.
+//! - `texts SIZE BYTES..`: the texts, in memory of that many bytes `ee`.
+//!
+//! DETACHED is `none`, or the content that the message doesn't carry.
+#![tactic(auto)]
+
+mod owned;
+mod seen;
+mod structures;
+
+use coset::Result;
+use std::alloc::Global;
+use std::io;
+use test_lines::line::{Calls, answer_input, unknown};
+use test_lines::words::Words;
+
+/// The calls that the program makes.
+struct SeenCalls;
+
+impl Calls for SeenCalls {
+    fn of_no_type(alloc: Global, name: &str, words: &Words<'_>) -> Result<String> {
+        match name {
+            "see" => seen::fields(alloc, words),
+            "header" => seen::header(alloc, words),
+            "agree" => owned::agreement(alloc, words),
+            "facade" => owned::structure(alloc, words),
+            "put" => structures::put(alloc, words),
+            "make" => structures::make(alloc, words),
+            "texts" => structures::texts(alloc, words),
+            _ => Err(unknown()),
+        }
+    }
+}
+
+fn main(rt: HostRuntime) -> io::Result<()> {
+    answer_input::<SeenCalls, _>(&rt)
+}
