@@ -1,4 +1,4 @@
-"""Makes the page docs/API.md: each public item of the facade and of the crates for web tokens, as the sources declare it, without contracts."""
+"""Makes the page docs/API.md: each public item of the facade, of coset_seen and of the crates for web tokens, as the sources declare it, without contracts."""
 import functools
 import os
 import re
@@ -10,12 +10,12 @@ import sources  # noqa: E402
 
 HEADING = """# API
 
-Each public type and function of `coset`, and of `cwt_verify`, `cwt_ring`, `cwt_keys`, `cwt_confirm` and `cwt_gate`, by the paths by which they are called, with the first sentence of its comment: `tools/pages --write` makes this page of the sources, where the contracts are too. Where a closure is an argument, its own type is in the place of a type parameter. What a call asks for first (`requires`) is in a table of docs/CALLING.md. Registries are under `coset::iana`, with their numbers and names; each has `EnumI64`, `Named` and `Display`.
+Each public type and function of `coset`, and of `coset_seen`, `cwt_verify`, `cwt_ring`, `cwt_keys`, `cwt_confirm` and `cwt_gate`, by the paths by which they are called, with the first sentence of its comment: `tools/pages --write` makes this page of the sources, where the contracts are too. Where a closure is an argument, its own type is in the place of a type parameter. What a call asks for first (`requires`) is in a table of docs/CALLING.md. Registries are under `coset::iana`, with their numbers and names; each has `EnumI64`, `Named` and `Display`.
 
 A type that has `Codec` is read and written by the calls of `CborSerializable`, `AsCborValue` and `FromPull`, and one that has `TaggedCodec` by those of `TaggedCborSerializable` too.
 """
-# The crates for web tokens, beside the facade.
-TOKENS = ("cwt_verify", "cwt_ring", "cwt_keys", "cwt_confirm", "cwt_gate")
+# The crates over the facade: messages that are seen, and web tokens.
+OVER = ("coset_seen", "cwt_verify", "cwt_ring", "cwt_keys", "cwt_confirm", "cwt_gate")
 FACADE = ("", "cwt", "cbor", "cbor::value", "cbor::de", "cbor::ser", "cbor::head", "cbor::cursor", "iana")
 ITEM = re.compile(r"((?:^ *///[^\n]*\n|^ *#\[[^\n]*\n)*)^( *)pub (struct|enum|trait|type|const fn|fn|const) (\w+)(.*?)$", re.M)
 IMPL = re.compile(r"^impl\b(.*?)\s*\{(\}?)\n", re.M | re.S)
@@ -152,7 +152,7 @@ def without_generics(text):
 def impls():
     """Returns each impl of the library and the gate: its type's name, its trait or none, its file, and its body."""
     found = []
-    for crate in common.below("coset", *TOKENS):
+    for crate in common.below("coset", *OVER):
         for path, code in crate_files(crate).items():
             for it in IMPL.finditer(code):
                 head = re.sub(r"\s+", " ", without_generics(it[1])).partition(" where ")[0]
@@ -166,7 +166,7 @@ def impls():
 @functools.lru_cache(maxsize=None)
 def of_one_name():
     """Returns the names that several items of the library and the gate share."""
-    names = [it[4] for crate in common.below("coset", *TOKENS) for code in crate_files(crate).values() for it in ITEM.finditer(code) if not it[2]]
+    names = [it[4] for crate in common.below("coset", *OVER) for code in crate_files(crate).values() for it in ITEM.finditer(code) if not it[2]]
     return {it for it in names if names.count(it) > 1}
 
 
@@ -269,7 +269,7 @@ def page():
     for module in FACADE:
         crate, inner = ("coset", module) if module_file("coset", module) else through("coset", module.split("::"))[:2]
         lines += section(crate, inner, "::".join(filter(None, ["coset", module])), known)
-    for crate in TOKENS:
+    for crate in OVER:
         lines += section(crate, "", crate, known)
     lines += laws()
     return re.sub(r"\n{3,}", "\n\n", "\n".join(lines)).rstrip("\n") + "\n"
