@@ -9,6 +9,7 @@
 //! - `make KIND BYTES AAD DETACHED`: the structure as a vector.
 //! - `facade KIND BYTES AAD`: the structure that the decoded message makes.
 //! - `header BYTES`: whether the header is plain.
+//! - `covered BYTES ALG SIZE`: what the example `covered` writes and returns, or `none`.
 //! - `texts SIZE BYTES..`: the texts, in memory of that many bytes `ee`.
 //!
 //! DETACHED is `none`, or the content that the message doesn't carry.
@@ -36,6 +37,7 @@ impl Calls for SeenCalls {
             "facade" => owned::structure(alloc, words),
             "put" => structures::put(alloc, words),
             "make" => structures::make(alloc, words),
+            "covered" => structures::covered_bytes(alloc, words),
             "texts" => structures::texts(alloc, words),
             _ => Err(unknown()),
         }

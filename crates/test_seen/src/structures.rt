@@ -1,8 +1,10 @@
 //! Structures and texts, in memory of a given size or as vectors.
 
 use crate::seen::{kind, unseen};
+use coset::iana::{Algorithm, EnumI64};
 use coset::{CoseError, Result};
 use coset_seen::{StructureError, put_texts, see};
+use example_seen::covered::covered;
 use std::alloc::Global;
 use test_lines::mark;
 use test_lines::tell::hexadecimal;
@@ -119,4 +121,28 @@ pub fn texts(alloc: Global, words: &Words<'_>) -> Result<String> {
     let answer = put_texts(&texts, &mut out);
     mark::end(alloc);
     written(alloc, answer, &out)
+}
+
+/// Writes the bytes that a signature covers to memory, by the example of docs/CALLING.md.
+///
+/// # Errors
+/// - A fault in the words, or an algorithm that isn't registered.
+/// - `OutOfMemory` if an allocation for the text fails.
+pub fn covered_bytes(alloc: Global, words: &Words<'_>) -> Result<String> {
+    let input = words.bytes(alloc, 1)?;
+    let Some(algorithm) = Algorithm::from_i64(words.number(2)?) else {
+        return Err(CoseError::UnexpectedItem("word", "algorithm"));
+    };
+    let mut out = memory(alloc, words.word(3))?;
+    mark::begin(alloc);
+    let answer = covered(&input, algorithm, &mut out);
+    mark::end(alloc);
+    let memory = hexadecimal(alloc, &out)?;
+    match answer {
+        Some((len, signature)) => {
+            let signature = hexadecimal(alloc, signature)?;
+            Ok(format!(in alloc; "ok {len} {memory} {signature}")?)
+        }
+        None => Ok(format!(in alloc; "none {memory}")?),
+    }
 }
