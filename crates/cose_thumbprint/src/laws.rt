@@ -4,8 +4,8 @@ ghost use Rattle.cose_thumbprint.specs.ThumbprintLaws.{InputsAgree, InputsAreDet
 
 use coset::laws::{one_item, one_shortest, shortest_is_encoding, shortest_is_in_range};
 
-/// Two keys have the same thumbprint input exactly if they have the same type and the same values
-/// of the members that it requires.
+/// If two keys have thumbprint inputs, these are the same exactly if both keys have the same type
+/// and the same values of the members that it requires.
 pub fn inputs_agree()
     ensures { InputsAgree }
 {

@@ -187,11 +187,13 @@ fn read_confirmation(
 /// by a signature over a challenge. If the result is `None`, whoever has the token may use it.
 ///
 /// - The claim has at most one of `COSE_Key` and `Encrypted_COSE_Key`. A `kid` next to a key is an
-///   identifier of that key. It isn't returned, and a key with another identifier is refused.
+///   identifier of that key. It isn't returned. A `COSE_Key` with another identifier is refused,
+///   and that of an encrypted key isn't compared.
 /// - Members that aren't understood are ignored. A claim without any other is refused, because it
 ///   names a key that isn't known.
-/// - A symmetric key in `COSE_Key` counts only if a layer is encrypted. A header that isn't
-///   encrypted must not have the claim too (RFC 9597).
+/// - A symmetric key in `COSE_Key` is refused unless a layer is encrypted. It is also refused if a
+///   header of `token.layers` that isn't encrypted has the claim too (RFC 9597). Other signatures
+///   and countersignatures aren't looked at.
 /// - A private key is refused in any token.
 ///
 /// # Errors

@@ -114,7 +114,8 @@ fn nonces_in(alloc: Global, value: &Value) -> Result<Vec<&[u8]>, NonceError>
 /// list is empty exactly if the token has no such claim.
 ///
 /// A nonce is a byte string of 8 to 64 bytes. The claim is one nonce, or an array of at least two.
-/// The caller compares them with the nonce that it sent, so that no old token is accepted.
+/// A caller that sent a nonce refuses the token unless one of these equals it. An empty list is no
+/// success: the token may be an old one.
 ///
 /// # Errors
 /// - `OutOfMemory` if an allocation fails.

@@ -12,8 +12,8 @@ use std::alloc::Global;
 
 /// Returns the claims of a token that is valid at `now`, if `verify` accepts its signature.
 ///
-/// `verify_token` of the crate `cwt_verify` is the safe choice. It also makes the checks that are
-/// left to the caller here, except the one for replay.
+/// `verify_token` of the crate `cwt_verify` is the safe choice. It makes most of the checks that
+/// are left to the caller here, as its policy says. It doesn't check for replay.
 ///
 /// `now` is in seconds since 1970 began in UTC. The token is a message with one signature
 /// (`COSE_Sign1`). It is plain, under its tag, or under the tag of web tokens and then its own (RFC
@@ -23,10 +23,10 @@ use std::alloc::Global;
 /// once, unless the token is refused before. The payload is read only after that.
 ///
 /// This function doesn't check any of the following. The caller must check them before it relies on
-/// the claims:
+/// the claims. Neither `verify` nor the result has the headers, so the caller must decode `token`
+/// to see them.
 ///
 /// - the algorithm (`alg`), and that the key is for this algorithm (RFC 8725, section 3.1).
-///   `verify` doesn't receive the headers.
 /// - that each critical label (`crit`) is understood, and that no label is in both headers (RFC
 ///   9052, sections 3 and 3.1).
 /// - that the key belongs to the issuer (`iss`; RFC 8725, section 3.8).

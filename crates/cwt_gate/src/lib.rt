@@ -1,8 +1,8 @@
 //! Judges web tokens (RFC 8392) by one signature and two times, on the public contracts of `coset`.
 //!
 //! A service that accepts tokens should call `verify_token` of the crate `cwt_verify` instead. It
-//! also checks the algorithm, the key, the issuer, the audience and the headers, and it takes MACs,
-//! encryption and nested tokens.
+//! also checks the algorithm and the headers, and the issuer, the audience and the type as its
+//! policy says. It takes MACs, encryption and nested tokens too.
 //!
 //! [`judge`] returns the claims of a token if the caller's closure accepts its signature, and `exp`
 //! and `nbf` allow it at a given time. Every other check is left to the caller.

@@ -10,9 +10,16 @@ use std::alloc::Global;
 /// The keys of a verifier. Each method finds a key for the layer, such as by the identifier in a
 /// header, and uses it.
 ///
+/// `verify_token` doesn't see the keys, so an implementer must check these points, as `KeyRing` of
+/// the crate `cwt_ring` does:
+///
+/// - The key is for the algorithm of the protected header, and for no other (RFC 8725, section
+///   3.1).
+/// - The name that is returned is that of the issuer to whom the key belongs (RFC 8725, section
+///   3.8). It doesn't come from the token.
+///
 /// An implementer states in `view` which layers the keys may accept, for whom, and which errors
-/// they may return. The methods have no default bodies, so an error comes only from keys that were
-/// asked.
+/// they may return.
 pub trait Keys {
     /// The reason why no key is found, or why the key doesn't accept a layer.
     type Error: Drop;

@@ -29,8 +29,8 @@ pub struct Sealed<'a> {
     /// section 4.4), and for a MAC `MAC_structure` (section 6.3). For a ciphertext it is
     /// `Enc_structure` (section 5.3), the additional authenticated data.
     pub structure: &'a [u8],
-    /// The unprotected header of the recipient, or `None` if the layer's form has no recipients. The
-    /// recipient is `direct`: its key is that of the layer (RFC 9052, section 8.5.1).
+    /// The unprotected header of the recipient, or `None` if the layer's form has no recipients.
+    /// The recipient is `direct`: its key is that of the layer (RFC 9052, section 8.5.1).
     pub recipient: Option<&'a Header>,
 }
 
@@ -106,7 +106,8 @@ impl<'a> Sealed<'a> {
     }
 
     /// Returns the key identifier of the recipient. For a layer without recipients, it is that of
-    /// the protected header, or if it has none, that of the unprotected one (RFC 8152, section 3.1).
+    /// the protected header, or if it has none, that of the unprotected one (RFC 8152, section
+    /// 3.1).
     ///
     /// The result is empty if there is no identifier. It helps to find a key, but it doesn't prove
     /// who sent the token.

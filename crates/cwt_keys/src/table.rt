@@ -20,7 +20,7 @@ pub enum KeyKind {
     EdwardsCurve,
     /// OKP keys on this curve.
     Okp(EllipticCurve),
-    /// RSA keys of at least 2048 bits (RFC 8812, section 2).
+    /// RSA keys of at least 2048 bits (RFC 8230, section 6.1; RFC 8812, section 2).
     Rsa,
     /// HSS/LMS keys (RFC 8778).
     HssLms,
@@ -37,7 +37,8 @@ pub enum KeyKind {
 /// What the table has for an algorithm.
 #[derive(Clone, Copy, Debug, PartialEq, Eq)]
 pub struct Row {
-    /// The form of the layers that the algorithm is for.
+    /// The form of the layers that the algorithm is for, without a list. It is also for the form
+    /// with a list ([`is_for`](crate::is_for)).
     pub form: Form,
     /// The keys that it takes.
     pub keys: KeyKind,

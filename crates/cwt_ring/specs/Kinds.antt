@@ -86,7 +86,7 @@ is_okp c k = option_map_or (λ n. has_type kty.OKP k && has_curve c k && has_len
 
 -- ---- the other types
 
--- The modulus, without leading zeros, has at least 2048 bits (RFC 8230, section 4; RFC 8812, section 2).
+-- The modulus, without leading zeros (RFC 8230, section 4), has at least 2048 bits (RFC 8230, section 6.1; RFC 8812, section 2).
 abbrev pub is_modulus : List ℕ → Bool
 is_modulus [] = false
 is_modulus (b ∷ bs) = nat_lt 0 b && (nat_lt 256 (length (b ∷ bs)) || (length (b ∷ bs) == 256 && nat_le 128 b))

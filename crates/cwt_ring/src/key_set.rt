@@ -10,7 +10,7 @@ use coset::{CoseKeySet, Result};
 use std::alloc::Global;
 
 /// Decodes an array of keys in order, and skips those that can't be read, such as those of an
-/// unknown type (RFC 9052, section 7).
+/// unknown type (RFC 9052, section 7). The set is empty if no key can be read.
 ///
 /// # Errors
 /// - A fault in bytes that aren't an array.

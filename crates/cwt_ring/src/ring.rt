@@ -42,8 +42,8 @@ pub trait Ciphers {
             (view self.now).not_verified (key_view key.now) (algorithms.number algorithm)
             input.now proof.now e) };
 
-    /// Returns the plaintext of `ciphertext`, which ends with its tag. The algorithm is that of the
-    /// key, and `aad` is the additional authenticated data.
+    /// Verifies the tag at the end of `ciphertext`, and returns the plaintext. A wrong tag must be
+    /// an error. The algorithm is that of the key, and `aad` is the additional authenticated data.
     ///
     /// # Errors
     /// Any error that these ciphers may return for these arguments (`not_decrypted` of `view`).
@@ -68,6 +68,8 @@ pub trait Ciphers {
 ///
 /// For each layer, the ring tries every key that [`fits`](crate::fits), in the order of the issuers
 /// and of their keys. It returns the name of the issuer of the first key that the ciphers accept.
+/// So no two issuers may share a key. If a layer names no key, each key for its algorithm is tried:
+/// the sender chooses this cost.
 #[derive(Drop)]
 pub struct KeyRing<'a, C> {
     /// The issuers.

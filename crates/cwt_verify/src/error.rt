@@ -78,16 +78,17 @@ pub enum TokenError<E> {
     Type,
     /// The content of the innermost layer isn't a claims set, or an allocation failed.
     Claims(CoseError),
-    /// A header has claims that aren't in the payload (RFC 9597).
+    /// A header of a layer, or of its accepted part, has a claim that isn't in the payload with the
+    /// same value, or its claims aren't a map (RFC 9597).
     HeaderClaims,
-    /// The claims name another issuer than the one whose key authenticated the token (RFC 8725,
-    /// section 3.8).
+    /// The claims name another issuer than the one whose key authenticated the token, or that
+    /// issuer has no name (RFC 8725, section 3.8).
     Issuer,
     /// The policy requires an expiration time, and the token has none (RFC 8392, section 3.1.4).
     NoExpiration,
-    /// The token has expired (RFC 8392, section 3.1.4).
+    /// The token has expired: `now` isn't before `exp` plus the leeway (RFC 8392, section 3.1.4).
     Expired,
-    /// The token isn't valid yet (RFC 8392, section 3.1.5).
+    /// The token isn't valid yet: `now` plus the leeway is before `nbf` (RFC 8392, section 3.1.5).
     NotYetValid,
     /// The token was issued later than now, which the policy refuses (RFC 8392, section 3.1.6).
     IssuedInFuture,

@@ -281,8 +281,8 @@ impl Layer {
     /// # Errors
     /// - `Recipients` if the layer has recipients, except for exactly one that is `direct`.
     /// - `NoPayload` if the layer has no payload, or no ciphertext.
-    /// - `NoSignature` if the list of signatures is empty, and `TooManySignatures` if it has more than
-    ///   16.
+    /// - `NoSignature` if the list of signatures is empty, and `TooManySignatures` if it has more
+    ///   than 16.
     /// - `Message` if the structure can't be made, for example because an allocation fails.
     /// - `Headers`, `Algorithm` or `Critical` if the policy doesn't admit the last signature.
     /// - `Keys` if the keys refuse the layer, or the last signature.

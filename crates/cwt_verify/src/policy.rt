@@ -41,21 +41,26 @@ pub enum Audience<'a> {
 #[derive(Clone, Copy, Debug)]
 pub struct Policy<'a> {
     /// The allowed algorithms. The protected header of each layer must name one of them that is for
-    /// the layer's form ([`is_for`]). An algorithm in the unprotected header doesn't count.
+    /// the layer's form ([`is_for`]). Of a `COSE_Sign` it is the header of the accepted signature,
+    /// and an algorithm in the message's own header isn't checked. `direct` of a recipient needs no
+    /// entry. An algorithm in the unprotected header doesn't count.
     pub algorithms: &'a [Algorithm],
     /// The audiences that are accepted.
     pub audience: Audience<'a>,
     /// The types that are accepted, such as `application/cwt`. If there is one, the protected
     /// header of the innermost layer must name one of them (`typ`), as a media type or by its
-    /// number (RFC 9596). Upper and lower case are the same.
+    /// number (RFC 9596). Upper and lower case are the same. If there is none, the type isn't
+    /// checked.
     pub types: &'a [&'a str],
     /// The claims that a token must have.
     pub required: &'a [CwtClaimName],
     /// The labels that the caller understands, out of those that a header may list as critical (RFC
-    /// 9052, section 3.1). The labels 1 to 6, 15 and 16 are always understood.
+    /// 9052, section 3.1). The labels 1 to 6, 15 and 16 are always understood. `verify_token`
+    /// doesn't look at the values of the others, nor at the content type. The caller must do so.
     pub critical: &'a [RegisteredLabelWithPrivate<HeaderParameter>],
     /// The form of an outermost layer without a tag. Sender and verifier must agree on it (RFC
-    /// 8392, section 7.2, step 3).
+    /// 8392, section 7.2, step 3). A form with a list is accepted here, whatever `accept_lists`
+    /// says.
     pub untagged_form: Form,
     /// True if a layer under a tag may also be a `COSE_Sign`, a `COSE_Mac` or a `COSE_Encrypt`. Of
     /// a list of signatures, the keys must accept one, and nothing is known about the others (RFC
@@ -68,8 +73,8 @@ pub struct Policy<'a> {
     pub require_exp: bool,
     /// True if a token is refused when it was issued later than now (`iat`).
     pub refuse_future_iat: bool,
-    /// The age in seconds since the time of issue (`iat`) at which a token is refused. A token
-    /// without a time of issue is then refused too.
+    /// The age in seconds since the time of issue (`iat`) at which a token is refused; `leeway` is
+    /// added to it. A token without a time of issue is then refused too.
     pub max_age: Option<u64>,
     /// The number of seconds by which the clocks of issuer and verifier may differ. A token is
     /// valid that much longer, and that much earlier.
@@ -79,10 +84,11 @@ pub struct Policy<'a> {
 impl<'a> Policy<'a> {
     /// Returns a policy that accepts no token, because it allows no algorithm.
     ///
-    /// Tokens with an audience are refused. There are no types, no required claims and no critical
-    /// labels. A layer without a tag has one signature, lists of signatures and of recipients are
-    /// refused, and a signature or a MAC authenticates. A token must have an expiration time, and
-    /// must not be issued later than now. The clocks don't differ, and there is no greatest age.
+    /// Tokens with an audience are refused. The type isn't checked, no claim but `exp` is required,
+    /// and the caller understands no critical labels. A layer without a tag has one signature.
+    /// Lists of signatures and of recipients are refused. A signature or a MAC authenticates. A
+    /// token must not be issued later than now. The clocks don't differ, and there is no greatest
+    /// age.
     pub fn strict() -> Policy<'a>
         ensures { policy_view result ≡ strict }
     {

@@ -21,7 +21,7 @@ use std::alloc::Global;
 /// A token that was accepted, and who vouches for it.
 #[derive(Debug, Drop)]
 pub struct VerifiedToken<'k> {
-    /// The claims. If `aud` is an array, `audience` has its texts instead.
+    /// The claims. If `aud` is an array, `claims.audience` is `None`: use `audience` instead.
     pub claims: ClaimsSet,
     /// The names in `aud`, which is a text or an array of texts. Empty if there is no `aud`.
     pub audience: Vec<String>,
@@ -29,7 +29,8 @@ pub struct VerifiedToken<'k> {
     /// labels. A verifier ignores those that it doesn't understand (RFC 8392, section 3).
     pub others: Vec<(Label, Value)>,
     /// The name of the issuer whose key accepted the innermost layer that authenticates. `None` if
-    /// that issuer has no name; the claims then name no issuer either.
+    /// that issuer has no name; the claims then name no issuer either. Use this name, and not that
+    /// of the claims: a token without `iss` is accepted too, unless `Policy::required` has `Iss`.
     pub issuer: Option<&'k str>,
     /// The layers, from the outermost in.
     pub layers: Vec<VerifiedLayer<'k>>,
@@ -56,7 +57,8 @@ fn is_typed(types: &[&str], layers: &[VerifiedLayer<'_>]) -> bool
 /// (`COSE_Sign1`), with a MAC (`COSE_Mac0`), or encrypted (`COSE_Encrypt0`). If the policy accepts
 /// lists, it may also be a message with a list of signatures (`COSE_Sign`), or with a list of
 /// recipients (`COSE_Mac`, `COSE_Encrypt`). It is under its tag. The outermost layer may also be
-/// plain, or under the tag of web tokens on top of its own (RFC 8392, section 6).
+/// plain, of the form that the policy names, or under the tag of web tokens on top of its own (RFC
+/// 8392, section 6).
 ///
 /// The signatures of a `COSE_Sign` are tried in order, until the policy admits one and the keys
 /// accept it. A list of recipients must have exactly one, which is `direct` and names its key (RFC
