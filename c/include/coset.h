@@ -1,9 +1,9 @@
 /* coset for C.
  *
  * Each call is a function of its arguments. Nothing is kept between calls, nothing has to be freed, and calls in
- * several threads don't affect each other. Except for versions and the texts of statuses, the results are proved: the
- * contracts are at the functions of the same names in crates/ffi_c/src, and docs/C.md states them in words.
- * coset_verify.h verifies and decrypts in one call.
+ * several threads don't affect each other. The results are proved, except for versions, the texts of statuses, and the
+ * refusal of lengths above PTRDIFF_MAX, which is tested. The contracts are at the functions of the same names in
+ * crates/ffi_c/src, and docs/C.md states them in words. coset_verify.h verifies and decrypts in one call.
  *
  * in, in_len     The bytes of an item of the kind. A pointer to bytes may be NULL if its length is 0.
  * out, cap, len  The memory for the result, its size, and the result's length. COSET_SHORT: the result is longer than
@@ -60,7 +60,7 @@ enum {
   COSET_MEMORY = 2,        /* an allocation failed */
   COSET_ENDS = 3,          /* the bytes end before the item does */
   COSET_MALFORMED = 4,     /* they aren't well-formed, a text string isn't UTF-8, or a simple value isn't supported */
-  COSET_DEEP = 5,          /* arrays, maps and tags nest more than 256 levels deep */
+  COSET_DEEP = 5,          /* arrays, maps and tags nest more than 256 levels deep, or more than 16 protected headers */
   COSET_EXTRANEOUS = 6,    /* bytes follow the item */
   COSET_UNEXPECTED = 7,    /* an item isn't what its place requires */
   COSET_DUPLICATE = 8,     /* two keys of a map are the same label */
@@ -196,7 +196,9 @@ coset_status coset_member_span(uint32_t kind, const uint8_t *in, size_t in_len, 
  * content of a byte string or a text string. coset_label_int sets *value to an integer. Also:
  * - COSET_ABSENT if there is no such label.
  * - COSET_SHORT from the first two.
- * - COSET_TYPE from the last two, if the value isn't a string, or isn't an integer in the range of int64_t. */
+ * - COSET_TYPE from the last two, if the value isn't a string, or isn't an integer in the range of int64_t.
+ * A map of a COSET_ITEM may repeat a label. The value is then the first one, also of coset_label_span and
+ * coset_text_label. */
 COSET_CALL(8)
 coset_status coset_label(uint32_t kind, const uint8_t *in, size_t in_len, uint32_t map, int64_t label, uint8_t *out,
                          size_t cap, size_t *len);
@@ -235,7 +237,8 @@ coset_status coset_pair_spans(uint32_t kind, const uint8_t *in, size_t in_len, s
 
 /* Sets *span to the place of the item that begins at the offset `at` of `in`, as received. The next element of an
  * array, or the next label or value of a map, begins where the item ends. So a caller that has the first one finds all
- * others in one walk. Unless the status is COSET_OK, *span is zeros. Also: COSET_ABSENT if at is above in_len. */
+ * others in one walk. The call doesn't see where the array or map ends, so count its elements (coset_count). Unless the
+ * status is COSET_OK, *span is zeros. Also: COSET_ABSENT if at is above in_len. */
 COSET_CALL(4)
 coset_status coset_item_span(const uint8_t *in, size_t in_len, size_t at, coset_span *span);
 
@@ -325,11 +328,11 @@ typedef struct coset_message_view {
   uint32_t algorithm_form;
   uint32_t key_id_map;
   uint32_t critical;       /* COSET_NONE, COSET_UNDERSTOOD or COSET_NOT_UNDERSTOOD; for a COSET_SIGN the headers of
-                              message and signer count */
+                              message and signer count. Those of recipients and countersignatures don't */
   uint32_t is_tagged;      /* 1 if the message is under its tag, else 0 */
   size_t structure_len;    /* the lengths of the four texts */
   size_t proof_len;        /* 0 for an encrypted message */
-  size_t content_len;      /* 0 if the content is detached */
+  size_t content_len;      /* 0 if the content is detached, absent or empty */
   size_t key_id_len;       /* 0 if there is no kid */
 } coset_message_view;
 
@@ -339,8 +342,8 @@ typedef struct coset_message_view {
  * - the payload or ciphertext that the message carries,
  * - the key identifier.
  *
- * known are the critical labels that you understand. Also: COSET_SHORT; COSET_ABSENT if there is no payload, or no
- * signer at index. */
+ * known are the critical labels that you understand. Also: COSET_SHORT; COSET_ABSENT if there is no payload, no signer
+ * at index, or no structure for the kind. */
 COSET_CALL(14, 15)
 coset_status coset_message(uint32_t kind, const uint8_t *in, size_t in_len, size_t index, const uint8_t *external_aad,
                            size_t external_aad_len, uint32_t has_detached, const uint8_t *detached, size_t detached_len,
@@ -362,15 +365,15 @@ typedef struct coset_message_spans_view {
   size_t proof_at;
   size_t proof_len;        /* 0 for an encrypted message */
   size_t content_at;
-  size_t content_len;      /* 0 if the content is detached */
+  size_t content_len;      /* 0 if the content is detached, absent or empty */
   size_t key_id_at;
   size_t key_id_len;       /* 0 if there is no kid */
 } coset_message_spans_view;
 
 /* Does the same as coset_message, without a copy of the message's own texts. out begins with the structure alone, and
- * the view has the places of the other three texts. They are in `in` if the message has no list of signatures and no
- * critical labels, and its strings have definite lengths. Else they follow the structure in `out`. *len is the number
- * of bytes written to out. Also: COSET_SHORT; COSET_ABSENT if there is no payload, or no signer at index. */
+ * the view has the places of the other three texts. Each is in `in`, or follows the structure in `out`: the fields
+ * is_.._in_input say which. They are in `in` if the message has no list of signatures and no critical labels, and its
+ * strings have definite lengths. *len is the number of bytes written to out. Also: the same as for coset_message. */
 COSET_CALL(14, 15)
 coset_status coset_message_spans(uint32_t kind, const uint8_t *in, size_t in_len, size_t index, const uint8_t *external_aad,
                                  size_t external_aad_len, uint32_t has_detached, const uint8_t *detached, size_t detached_len,
@@ -396,8 +399,8 @@ typedef struct coset_text {
  * - There is no leeway, and no greatest age. */
 typedef struct coset_rules {
   size_t size;                  /* sizeof(coset_rules) */
-  uint64_t leeway;              /* the number of seconds by which the clocks of issuer and verifier may differ */
-  uint64_t max_age;             /* the age in seconds since iat at which a token is refused, or 0 for none */
+  uint64_t leeway;              /* the seconds by which the clocks of issuer and verifier may differ, at most INT64_MAX */
+  uint64_t max_age;             /* the age in seconds since iat at which a token is refused, at most INT64_MAX; 0: none */
   uint32_t untagged_form;       /* the form of an outermost layer without a tag: 0 or COSET_SIGN1, COSET_MAC0,
                                    COSET_ENCRYPT0 */
   uint32_t authenticated_by;    /* 0 for a signature or a MAC, or COSET_BY_SIGNATURE, COSET_BY_ANY */
@@ -550,8 +553,9 @@ coset_status coset_put_all(uint32_t kind, const uint8_t *in, size_t in_len, cons
                            const uint8_t *bytes, size_t bytes_len, uint8_t *out, size_t cap, size_t *len);
 
 /* Does the same as coset_structure for a message that isn't made yet. prot is the content of its protected header, a
- * map or nothing. signer is the same for the signer, for a COSET_SIGN alone. content is the payload, carried or
- * detached. Enc_structure has none. */
+ * map or nothing. Give nothing for an empty header: an empty map, a0, stays as it is, and the RFC has no bytes there.
+ * signer is the same for the signer, for a COSET_SIGN alone. content is the payload, carried or detached. Enc_structure
+ * has none. */
 COSET_CALL(12)
 coset_status coset_structure_of(uint32_t kind, const uint8_t *prot, size_t prot_len, const uint8_t *signer, size_t signer_len,
                                 const uint8_t *external_aad, size_t external_aad_len, const uint8_t *content,
@@ -574,7 +578,7 @@ coset_status coset_make(uint32_t kind, const uint8_t *prot, size_t prot_len, con
 
 /* Writes the item with one more signature, recipient, key or element at the end. A COSET_KEY_SET, or a COSET_ITEM that
  * is an array, may begin with no bytes. The rest of the item is unchanged. COSET_ABSENT also if `in` is an item that
- * doesn't have the list. */
+ * doesn't have the list, or is empty for another kind. */
 COSET_CALL(8)
 coset_status coset_add(uint32_t kind, const uint8_t *in, size_t in_len, const uint8_t *member, size_t member_len, uint8_t *out,
                        size_t cap, size_t *len);
@@ -584,8 +588,8 @@ coset_status coset_add(uint32_t kind, const uint8_t *in, size_t in_len, const ui
 COSET_CALL(6)
 coset_status coset_write(uint32_t kind, const uint8_t *in, size_t in_len, uint8_t *out, size_t cap, size_t *len);
 
-/* Writes the COSET_KEY in its shortest encoding, with its labels in this order. Keys that differ only in the order of
- * their pairs give the same bytes. Never COSET_ABSENT. */
+/* Writes the COSET_KEY in its shortest encoding, with its labels in this order. But label 0, which is reserved, follows
+ * the labels 1 to 5. Keys that differ only in the order of their pairs give the same bytes. Never COSET_ABSENT. */
 COSET_CALL(6)
 coset_status coset_canonical_key(uint32_t order, const uint8_t *in, size_t in_len, uint8_t *out, size_t cap, size_t *len);
 

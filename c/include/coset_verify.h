@@ -21,7 +21,8 @@ enum {
 typedef struct coset_policy {
   const int64_t *algorithms; /* the algorithms that are allowed */
   size_t algorithms_len;
-  const int64_t *critical; /* the critical labels that the caller understands, and acts on */
+  const int64_t *critical; /* the critical labels that the caller understands, and acts on. It isn't checked that the
+                              protected header has each label that crit names (docs/C.md, 'A verifier') */
   size_t critical_len;
   const uint8_t *external_aad;
   size_t external_aad_len;
@@ -555,10 +556,6 @@ static inline coset_status coset_token_verify(const uint8_t *in, size_t in_len, 
   room.at = work, room.cap = cap, room.used = 0, room.count = 0;
   coset_token_none(token, &nowhere, 0);
   if (cap > COSET_CAST(size_t, PTRDIFF_MAX)) return COSET_MISUSE;
-  if (policy->rules.leeway > INT64_MAX || policy->rules.max_age > INT64_MAX) {
-    coset_cleared(work, cap);
-    return COSET_MISUSE;
-  }
   for (;;) {
     status = coset_work_next(&room, in, in_len, now, policy, &len, &layer);
     if (status == COSET_SHORT) needed = room.used + len;

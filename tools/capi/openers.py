@@ -47,6 +47,11 @@ def rules():
             words = RULES.split(",")
             words[place] = str(number)
             yield f"{SIZE},{','.join(words)}", LISTS
+    for place in (0, 1):
+        for number in (1 << 63, FULL - 1):
+            words = RULES.split(",")
+            words[place] = str(number)
+            yield f"{SIZE},{','.join(words)}", LISTS
     for place, wrong in ((0, ("-70000", "9999", "8", "-7,8", "-65536")), (2, ("-1", "9999", "-70000", "4,-70000"))):
         for numbers in wrong:
             yield f"{SIZE},{RULES}", [*LISTS[:place], numbers, *LISTS[place + 1:]]

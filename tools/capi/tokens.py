@@ -55,7 +55,7 @@ def policy_of(word):
     """Returns the rules, the three lists of numbers and the two lists of texts of a policy, as words of `token`.
 
     Returns None if C can't express it: a form with a list, a critical label that is a text, a list of audiences without one, a
-    greatest age of 0, or seconds above INT64_MAX, which coset_token_verify refuses."""
+    greatest age of 0, or seconds above INT64_MAX."""
     rules, lists = [0] * 7, {name: "-" for name in ("algs", "crit", "need", "aud", "types")}
     for name, _, value in (part.partition("=") for part in word.split(",")):
         if (name, value) == ("age", "0") or name == "lists" or (name == "plain" and value not in FORMS):

@@ -1,5 +1,5 @@
 -- A verifier's rules, and the results for a token and for a key, in numbers.
-use Rattle.std.specs.Prelude.{◌≡◌, ◌==◌, not, ℕ, ℤ, pos, List, Option, Some, None, Result, Ok, Err, if◌then◌else◌}
+use Rattle.std.specs.Prelude.{◌≡◌, ◌==◌, ◌&&◌, not, nat_lt, ℕ, ℤ, pos, Bool, List, Option, Some, None, Result, Ok, Err, if◌then◌else◌}
 use Rattle.coset_iana.specs.CwtClaimName as claim_names
 use Rattle.cwt_keys.specs.declared.form.Form.{Form}
 use Rattle.cwt_keys.specs.declared.form.Form.TheVariants.{Sign1, Mac0, Encrypt0}
@@ -65,10 +65,14 @@ rules_with (Some form) (Some authenticated) r algorithms critical required audie
 })
 rules_with f a r algorithms critical required audiences types = None
 
+-- A number of seconds in the range of int64_t.
+abbrev pub are_seconds : ℕ → Bool
+are_seconds n = nat_lt n 0x8000000000000000
+
 -- The same, if the struct has the right size and its numbers have a meaning.
 abbrev pub rules_in : Rules → List ℤ → List ℤ → List ℤ → List (List ℕ) → List (List ℕ) → Option RulesView
 rules_in r algorithms critical required audiences types =
-    if r.size == RULES_SIZE
+    if r.size == RULES_SIZE && (are_seconds r.leeway && are_seconds r.max_age)
     then rules_with (untagged_of r.untagged_form) (authentication_of r.authenticated_by) r algorithms critical required audiences types
     else None
 

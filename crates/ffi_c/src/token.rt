@@ -9,7 +9,7 @@ ghost use Rattle.ffi_token.specs.Rules.{policy_in, rules_view};
 ghost use Rattle.ffi_token.specs.Texts.{texts_view};
 ghost use Rattle.ffi_token.specs.Tokens.{ReturnsToken};
 ghost use Rattle.ffi_c.specs.Replies.{IsMisuse};
-ghost use Rattle.ffi_c.specs.Tokens.{RepliesFit, RepliesToken, age_of, authentication_of, claims_number, error_number, fit_length, fit_status, form_of, layer_at, layer_number, layer_of, no_layer, number_or_0, parts_of, rules_in, token_length, token_number, token_status, untagged_of};
+ghost use Rattle.ffi_c.specs.Tokens.{RepliesFit, RepliesToken, age_of, are_seconds, authentication_of, claims_number, error_number, fit_length, fit_status, form_of, layer_at, layer_number, layer_of, no_layer, number_or_0, parts_of, rules_in, token_length, token_number, token_status, untagged_of};
 
 use crate::lengths::{within, within_layers, within_numbers, within_texts};
 use crate::numbers::{COSET_ENCRYPT0, COSET_MAC0, COSET_SIGN1};
@@ -78,9 +78,11 @@ const COSET_UNFIT: i32 = 34;
 pub struct Rules {
     /// The size of this struct. A caller that was compiled for another size is refused.
     pub size: usize,
-    /// The number of seconds by which the clocks of issuer and verifier may differ.
+    /// The number of seconds by which the clocks of issuer and verifier may differ, at most
+    /// `INT64_MAX`.
     pub leeway: u64,
-    /// The age in seconds since the time of issue at which a token is refused, or 0 for none.
+    /// The age in seconds since the time of issue at which a token is refused, at most `INT64_MAX`,
+    /// or 0 for none.
     pub max_age: u64,
     /// The form of an outermost layer without a tag: 0 or `COSET_SIGN1`, `COSET_MAC0` or
     /// `COSET_ENCRYPT0`.
@@ -167,6 +169,14 @@ fn age_of(seconds: u64) -> Option<u64>
     if seconds == 0 { None } else { Some(seconds) }
 }
 
+/// Returns true if the number of seconds is in the range of an `int64_t`. A negative number that
+/// was converted isn't.
+fn are_seconds(number: u64) -> bool
+    ensures { result ≡ are_seconds number }
+{
+    number < 0x8000_0000_0000_0000
+}
+
 /// Returns the rules, if the struct has the right size and its numbers have a meaning.
 fn rules_of<'a>(
     rules: &Rules,
@@ -180,6 +190,12 @@ fn rules_of<'a>(
         required.now (texts_view audiences.now) (texts_view types.now) }
 {
     if rules.size != RULES_SIZE {
+        return None;
+    }
+    if !are_seconds(rules.leeway) {
+        return None;
+    }
+    if !are_seconds(rules.max_age) {
         return None;
     }
     let numbers = within_numbers(
