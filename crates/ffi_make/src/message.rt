@@ -173,7 +173,7 @@ fn message(
 ///   nothing for an empty header.
 /// - `unprotected` is a map too, or nothing.
 /// - `content` is the payload or the ciphertext, or `None` if that is detached.
-/// - `proof` is the signature or the tag.
+/// - `proof` is the signature or the tag. It isn't checked, and may be empty.
 ///
 /// A message with a list of signatures or recipients is made with an empty list.
 /// [`add`](crate::add) puts them in.

@@ -130,7 +130,7 @@ fn find_structure(
 /// 6.3).
 ///
 /// - `protected` is the content of the message's protected header: a map, or nothing for an empty
-///   header.
+///   header. An empty map stays as it is, where the RFC has no bytes (RFC 8152, section 4.4).
 /// - `signer` is the same for the signer's header. Only a [`Kind::Sign`] has one.
 /// - `content` is the payload, carried or detached. An `Enc_structure` has none.
 ///

@@ -24,8 +24,9 @@ use std::alloc::{AllocError, Global};
 pub struct Rules<'a> {
     /// The allowed algorithms.
     pub algorithms: &'a [i64],
-    /// The labels that the caller understands, out of those that a header may list as critical. A
-    /// number that IANA hasn't assigned counts as a private-use number.
+    /// The labels that the caller understands, out of those that a header may list as critical. The
+    /// labels 1 to 6, 15 and 16 are always understood. A number that IANA hasn't assigned counts as
+    /// a private-use number.
     pub critical: &'a [i64],
     /// The claims that a token must have.
     pub required: &'a [i64],
@@ -35,8 +36,8 @@ pub struct Rules<'a> {
     pub types: &'a [Text<'a>],
     /// True if the audience isn't checked. There are then no `audiences`.
     pub any_audience: bool,
-    /// The form of an outermost layer without a tag. Layers under a tag have no list of signatures
-    /// or recipients.
+    /// The form of an outermost layer without a tag, which may be one with a list. Layers under a
+    /// tag have no list of signatures or recipients.
     pub untagged_form: Form,
     /// The layers that authenticate the sender. A token must have at least one of them.
     pub authenticated_by: Authentication,
