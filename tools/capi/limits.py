@@ -126,8 +126,10 @@ def refusals(program, token, check):
     ample = told(program, SIGN1 + EITHER, token)
     is_used = any(it[3] for it in ample)
     check(is_used and all(it[0] in (OK, ABSENT, MISUSE) for it in ample), f"over a heap of the program's own: {ample}")
-    # The token's headers are plain, so checking it allocates nothing.
-    check(CALLS[SIGN1].startswith("check ") and ample[0][3] == 0, f"coset_check allocates for plain headers: {ample[0]}")
+    # The token's headers are plain. Only `message` allocates, the structure alone.
+    requests = dict(zip(CALLS[SIGN1].split(), (it[3] for it in ample)))
+    for call, allowed in {"check": 0, "spans": 0, "message": 1}.items():
+        check(requests[call] == allowed, f"requests for memory of {call} with plain headers: {requests[call]}, not {allowed}")
     for number in range(1, max(it[3] for it in ample) + 1):
         for now, then in zip(told(program, SIGN1 + EITHER, token, env={**os.environ, "REFUSE": str(number)}), ample):
             is_right = now[0] == then[0] or now[0] == MEMORY and then[3] >= number

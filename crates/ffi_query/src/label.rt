@@ -6,7 +6,8 @@ ghost use Rattle.coset.specs.Elements.{pairs_left};
 ghost use Rattle.coset.specs.Pulls.{pull_item};
 ghost use Rattle.coset.specs.View.{value_item};
 ghost use Rattle.ffi_query.specs.Results.{Answers, ReturnsNumber, ReturnsOr, Finds, WritesString};
-ghost use Rattle.ffi_query.specs.Labels.{HasNoNumber, HasNoString, IsNumber, IsNumberOf, IsProtected, IsStringOf, IsUnder, IsUnderIn, IsValueOf, first_value, is_label, label_view, unprotected_value, value_under};
+ghost use Rattle.coset_seen.specs.Named.{first_value};
+ghost use Rattle.ffi_query.specs.Labels.{HasNoNumber, HasNoString, IsNumber, IsNumberOf, IsProtected, IsStringOf, IsUnder, IsUnderIn, IsValueOf, is_label, label_view, unprotected_value, value_under};
 ghost use Rattle.ffi_query.specs.Places.{bytes_in, string_in};
 
 use crate::item::{bytes_in, element, encoding, item_of};
