@@ -47,7 +47,7 @@ content_part b (Some t) None f h = absurd f
 -- The key identifier that the content of a protected header names is in it.
 first_in : (b : List ℕ) (n : Named) → IsContent b n → IfSome n.key_id (IsAhead b)
 first_in b n (inl e) = subst (λ o. IfSome o (IsAhead b)) (sym e.1.1) tt
-first_in b n (inr h) = h.placed
+first_in b n (inr h) = h.1.placed
 
 pub seen_is :
     (k : kinds.Kind) (b : List ℕ) (e : Elements) (s : Seen) → IsMessage k b s.is_tagged e → s.kind ≡ k → s.algorithm ≡ e.first.algorithm
@@ -82,22 +82,22 @@ seen_is k b e s m kind algorithm protected key_id content proof =
 -- The pairs of the protected header.
 abbrev first_pairs : (b : List ℕ) (n : Named) → IsContent b n → Pairs
 first_pairs b n (inl e) = no_pairs
-first_pairs b n (inr h) = h.pairs
+first_pairs b n (inr h) = h.1.pairs
 
 first_is : (b : List ℕ) (n : Named) (h : IsContent b n) → IsMapOf b (first_pairs b n h)
 first_is b n (inl e) = inl (e.0, refl)
-first_is b n (inr h) = inr h.is_item
+first_is b n (inr h) = inr h.1.is_item
 
 first_plain : (b : List ℕ) (n : Named) (h : IsContent b n) → ArePlain (negsuc 0) (first_pairs b n h)
 first_plain b n (inl e) = tt
-first_plain b n (inr h) = h.are_plain
+first_plain b n (inr h) = h.1.are_plain
 
 first_named : (b : List ℕ) (n : Named) (h : IsContent b n) → AreNamed (first_pairs b n h) n
 first_named b n (inl e) = record {
   algorithm = ap (option_map integer) (sym e.1.0);
   key_id = ap (option_map (λ t. bytes t.bytes.now)) (sym e.1.1);
 }
-first_named b n (inr h) = h.named
+first_named b n (inr h) = h.1.named
 
 under_kid :
     (b : List ℕ) (p : Part) (ps us : Pairs) (o q : Option Ahead) (i : Option KeyId) → FindsKeyId b p o q i
@@ -118,7 +118,8 @@ lies_in k b e s m algorithm protected key_id content proof =
     let a = m.are_elements in
     let ps = first_pairs e.protected.bytes.now e.first a.first in
     let named = first_named e.protected.bytes.now e.first a.first in
-    let Is : List ℕ → Option (List ℕ) → List ℕ → Type 0 = λ p c t. IsItem b (perhaps_tag s.is_tagged (tag_of k) (array (message_items k p m.pairs c t))) in record {
+    let Is : List ℕ → Option (List ℕ) → List ℕ → Type 0 =
+    λ p c t. IsItem b (perhaps_tag s.is_tagged (tag_of k) (array (message_items k p m.pairs c t))) in record {
       first = ps;
       second = m.pairs;
       is_item = subst (λ p. Is p (bytes_of s.content) s.proof.bytes.now) (sym protected)

@@ -10,7 +10,8 @@ use Rattle.coset_seen.specs.declared.header.Named.{Named}
 use Rattle.coset_seen.specs.declared.kind.Kind as kinds
 use Rattle.coset_seen.specs.declared.kind.Kind.TheVariants.{Sign1, Mac0, Encrypt0}
 use Rattle.coset_seen.specs.Begins.{Begins, IsAhead}
-use Rattle.coset_seen.specs.Elements.{AreElements, BeginsContent, BeginsElements, BeginsMessage, BeginsProof, IsContent, IsHeader, IsMessage, IsUntagged, items_of}
+use Rattle.coset_seen.specs.Elements.{AreElements, BeginsContent, BeginsElements, BeginsMessage, BeginsProof, IsContent, IsHeader}
+use Rattle.coset_seen.specs.Elements.{IsMessage, IsUntagged, items_of}
 use Rattle.coset_seen.specs.Kinds.{elements_of, tag_of}
 use Rattle.coset_seen.specs.Named.{BeginsHeader}
 use Rattle.coset_seen.proofs.Fronts.{ahead_in}
@@ -24,9 +25,8 @@ OneItem = (v w : Item) (b c x y : List ℕ) → IsEncoding v b → IsEncoding w 
 pub whole_is : OneItem → (b : List ℕ) (v w : Item) (s : List ℕ) → IsItem b v → Begins w s b → v ≡ w
 whole_is one b v w s is begins = (one v w b begins.0 [] s is.0 begins.1 (append-nil b ∙ begins.2)).0
 
-pub header_is : OneItem → (b : List ℕ) (v : Item) (n : Named) (s : List ℕ) → b ≢ [] → IsItem b v → BeginsHeader b n s → IsHeader b n
-header_is one b v n s filled is h = record {
-  filled = filled;
+pub header_is : OneItem → (b : List ℕ) (v : Item) (n : Named) (s : List ℕ) → IsItem b v → BeginsHeader b n s → IsHeader b n
+header_is one b v n s is h = record {
   pairs = h.pairs;
   is_item = subst (IsItem b) (whole_is one b v (dict h.pairs) s is h.begins) is;
   are_plain = h.are_plain;
@@ -133,6 +133,7 @@ message_is one k b v true r e is h it =
     }
 message_is one k b v false r e is h it = record {
   pairs = it.pairs;
-  is_item = subst (IsItem b) (whole_is one b v (array (items_of k e it.pairs)) it.behind is (subst (Begins (array (items_of k e it.pairs)) it.behind) h it.begins)) is;
+  is_item = subst (IsItem b) (whole_is one b v (array (items_of k e it.pairs)) it.behind is
+      (subst (Begins (array (items_of k e it.pairs)) it.behind) h it.begins)) is;
   are_elements = elements_in k b [] r it.pairs e (sym h) it.are_elements;
 }

@@ -1,5 +1,5 @@
 -- Messages, as their types see them.
-use Rattle.std.proofs.Common.{◌≡◌, ◌≢◌, ℕ, ℤ, negsuc, List, [], ◌∷◌, Option, Some, None, Bor, Bool, true, false, true≢false, refl, sym, ap, subst, inl, inr}
+use Rattle.std.proofs.Common.{◌≡◌, ◌≢◌, ℕ, ℤ, negsuc, List, [], ◌∷◌, Option, Some, None, Bool, true, false, true≢false, refl, sym, ap, subst, inl, inr}
 use Rattle.std.specs.Prelude.{IfSome, is_some, option_map}
 use Rattle.coset.specs.Item.{Item, Items, Pairs, tag, array, item, no_items, bytes, dict, integer}
 use Rattle.coset.specs.Grammar.{IsItem}
@@ -22,15 +22,16 @@ use Rattle.coset_seen.specs.declared.kind.Kind as kinds
 use Rattle.coset_seen.specs.declared.kind.Kind.TheVariants.{Sign1, Mac0, Encrypt0}
 use Rattle.coset_seen.specs.Elements.{IsContent, IsProof, content_item, content_of, items_of, perhaps_tag}
 use Rattle.coset_seen.specs.Kinds.{tag_of}
-use Rattle.coset_seen.specs.Named.{AreNamed, BeginsHeader}
+use Rattle.coset_seen.specs.Named.{AreNamed, IsHeader}
 use Rattle.coset_seen.specs.Seen.{DescribesMessage, in_form}
 use Rattle.coset_seen.specs.Plain.{ArePlain}
-use Rattle.coset_seen.proofs.Messages.{OneItem, whole_is}
 use Rattle.coset_seen.proofs.Ascending.{plain_view}
 
 -- ---- what a header names
 
-algorithm_is : (o : Option ℤ) (a : Option RegisteredLabelView) → (optional algorithm).describes (option_map integer o) a → option_map as_label a ≡ option_map number o
+algorithm_is :
+    (o : Option ℤ) (a : Option RegisteredLabelView) → (optional algorithm).describes (option_map integer o) a
+    → option_map as_label a ≡ option_map number o
 unfolding algorithm
 algorithm_is None a d = ap (option_map as_label) d
 algorithm_is (Some m) None d = absurd d
@@ -52,13 +53,16 @@ pub record IsView (n : Named) (x : HeaderView) : Type 0 where
   pub algorithm : option_map as_label (fields_in x).alg ≡ option_map number n.algorithm
   pub key_id : KeyIs (fields_in x).key_id n.key_id
 
-pub view_of : (k : ℕ) (ps : Pairs) (n : Named) → ArePlain (negsuc 0) ps → AreNamed ps n → (x : HeaderView) × (layered_header k).describes (dict ps) x × IsView n x
+pub view_of :
+    (k : ℕ) (ps : Pairs) (n : Named) → ArePlain (negsuc 0) ps → AreNamed ps n
+    → (x : HeaderView) × (layered_header k).describes (dict ps) x × IsView n x
 view_of k ps n plain named =
     let x = plain_view k (dict ps) ps (negsuc 0) refl plain in (
       x.0,
       x.1.describes,
       record {
-        algorithm = algorithm_is n.algorithm (fields_in x.0).alg (subst (λ o. (optional algorithm).describes o (fields_in x.0).alg) named.algorithm x.1.algorithm);
+        algorithm = algorithm_is n.algorithm (fields_in x.0).alg
+            (subst (λ o. (optional algorithm).describes o (fields_in x.0).alg) named.algorithm x.1.algorithm);
         key_id = key_id_is n.key_id (fields_in x.0).key_id
             (subst (λ o. (unless_empty nonempty_bstr).describes o (fields_in x.0).key_id) named.key_id x.1.key_id);
       },
@@ -74,12 +78,14 @@ content_view b n (inl e) = (
     key_id = subst (KeyIs []) (sym e.1.1) refl;
   },
 )
-content_view [] n (inr h) = absurd (h.filled refl)
+content_view [] n (inr h) = absurd (h.0 refl)
 content_view (c ∷ b) n (inr h) =
-    let x = view_of 15 h.pairs n h.are_plain h.named in
-    (x.0, (dict h.pairs, h.is_item, x.1), x.2)
+    let x = view_of 15 h.1.pairs n h.1.are_plain h.1.named in
+    (x.0, (dict h.1.pairs, h.1.is_item, x.1), x.2)
 
-pub protected_view : (b : List ℕ) (x : HeaderView) → ContentDescribes empty_header (layered_header 15) b x → protected.describes (bytes b) (record { original = Some b; header = x })
+pub protected_view :
+    (b : List ℕ) (x : HeaderView) → ContentDescribes empty_header (layered_header 15) b x
+    → protected.describes (bytes b) (record { original = Some b; header = x })
 unfolding layered_protected
 protected_view b x d = (b, refl, refl, d)
 
@@ -120,10 +126,13 @@ message_described Encrypt0 t b e us x u is_proof is d f =
 
 -- A plain header that was found.
 pub plain_header_found :
-    OneItem → (b : List ℕ) (o : Option (Named × Bor (List ℕ))) → IfSome o (λ x. BeginsHeader b x.0 x.1.now) → is_some o ≡ true → (k : ℕ) (v : Item)
-    → IsItem b v
-    → (x : HeaderView) × (layered_header k).describes v x
-plain_header_found one b None h t k v is = absurd (true≢false (sym t))
-plain_header_found one b (Some n) h t k v is =
-    let x = view_of k h.pairs n.0 h.are_plain h.named in
-    (x.0, subst (λ w. (layered_header k).describes w x.0) (sym (whole_is one b v (dict h.pairs) n.1.now is h.begins)) x.1)
+    (b : List ℕ) (o : Option Named) → IfSome o (IsHeader b) → is_some o ≡ true → (k : ℕ) → (x : HeaderView) × Describes (layered_header k) b x
+plain_header_found b None h t k = absurd (true≢false (sym t))
+plain_header_found b (Some n) h t k =
+    let x = view_of k h.pairs n h.are_plain h.named in
+    (x.0, (dict h.pairs, h.is_item, x.1))
+
+-- The content of a byte string that isn't empty, and is a plain header.
+pub content_of_header : (b : List ℕ) (o : Option Named) → b ≢ [] → IfSome o (IsHeader b) → IfSome o (IsContent b)
+content_of_header b None filled h = h
+content_of_header b (Some n) filled h = inr (filled, h)

@@ -8,7 +8,7 @@ use Rattle.coset_seen.specs.declared.forward.Ahead.{Ahead}
 abbrev pub Begins : Item → List ℕ → List ℕ → Type 0
 Begins v s b = (c : List ℕ) × IsEncoding v c × (b ≡ c ++ s)
 
--- The bytes of t are in b, and all that follows them there is behind them.
+-- The bytes b end with those of t, and then with what is behind t.
 pub record IsAhead (b : List ℕ) (t : Ahead) : Type 0 where
   pub before : List ℕ
   pub parts : b ≡ before ++ (t.bytes.now ++ t.behind.now)

@@ -9,25 +9,16 @@ use Rattle.coset_seen.specs.declared.kind.Kind as kinds
 use Rattle.coset_seen.specs.declared.kind.Kind.TheVariants.{Sign1, Mac0, Encrypt0}
 use Rattle.coset_seen.specs.Begins.{Begins, IsAhead}
 use Rattle.coset_seen.specs.Kinds.{tag_of}
-use Rattle.coset_seen.specs.Named.{AreNamed}
+use Rattle.coset_seen.specs.Named.{AreNamed, IsHeader}
 use Rattle.coset_seen.specs.Plain.{ArePlain}
 
 -- Nothing is named.
 abbrev pub NamesNothing : Named → Type 0
 NamesNothing n = (n.algorithm ≡ None) × (n.key_id ≡ None)
 
--- The bytes b are one plain header, which names n.
-pub record IsHeader (b : List ℕ) (n : Named) : Type 0 where
-  pub filled : b ≢ []
-  pub pairs : Pairs
-  pub is_item : IsItem b (dict pairs)
-  pub are_plain : ArePlain (negsuc 0) pairs
-  pub named : AreNamed pairs n
-  pub placed : IfSome n.key_id (IsAhead b)
-
 -- The content of a protected header's byte string names n: it is empty, or encodes a plain header.
 abbrev pub IsContent : List ℕ → Named → Type 0
-IsContent b n = ((b ≡ []) × NamesNothing n) ⊎ IsHeader b n
+IsContent b n = ((b ≡ []) × NamesNothing n) ⊎ ((b ≢ []) × IsHeader b n)
 
 -- The item in the content's place.
 abbrev pub content_item : Option (List ℕ) → Item

@@ -3,7 +3,7 @@ use Rattle.std.specs.Prelude.{◌≡◌, ◌≢◌, ◌++◌, ℕ, ℤ, pos, neg
 use Rattle.std.specs.Ordering.{int_eq}
 use Rattle.coset.specs.Item.{Item, Pairs, no_pairs, pair, bytes, integer, dict, pairs_count}
 use Rattle.coset.specs.Parts.{as_integer}
-use Rattle.coset.specs.Grammar.{ArePairEncodings}
+use Rattle.coset.specs.Grammar.{ArePairEncodings, IsItem}
 use Rattle.coset_seen.specs.declared.header.Named.{Named}
 use Rattle.coset_seen.specs.declared.header.Parameter as parameters
 use Rattle.coset_seen.specs.declared.header.Parameter.TheVariants.{Algorithm, KeyId, Other}
@@ -15,10 +15,14 @@ abbrev pub is_same : {A : Type 0} → (A → A → Bool) → Option A → A → 
 is_same eq None x = false
 is_same eq (Some y) x = eq y x
 
+-- The value of the first pair whose key passes the test.
+abbrev pub first_value : (Item → Bool) → Pairs → Option Item
+first_value test no_pairs = None
+first_value test (pair k v ps) = if test k then Some v else first_value test ps
+
 -- The value of the first pair whose key is the integer n.
 abbrev pub value_of : ℤ → Pairs → Option Item
-value_of n no_pairs = None
-value_of n (pair k v ps) = if is_same int_eq (as_integer k) n then Some v else value_of n ps
+value_of n = first_value (λ k. is_same int_eq (as_integer k) n)
 
 -- The parameter is that of this label and value.
 abbrev pub Says : ℤ → Item → parameters.Parameter → Type 0
@@ -45,7 +49,7 @@ with_parameter n (Algorithm m) = record n { algorithm = Some m }
 with_parameter n (KeyId t) = record n { key_id = Some t }
 with_parameter n Other = n
 
--- What the pairs name under the labels alg and kid.
+-- n has the values of the pairs under the labels 1 (alg) and 4 (kid).
 pub record AreNamed (ps : Pairs) (n : Named) : Type 0 where
   pub algorithm : value_of (pos 1) ps ≡ option_map integer n.algorithm
   pub key_id : value_of (pos 4) ps ≡ option_map (λ t. bytes t.bytes.now) n.key_id
@@ -65,6 +69,14 @@ pub record BeginsPlain (count : ℕ) (b : List ℕ) (n : Named) (s : List ℕ) :
 pub record BeginsHeader (b : List ℕ) (n : Named) (s : List ℕ) : Type 0 where
   pub pairs : Pairs
   pub begins : Begins (dict pairs) s b
+  pub are_plain : ArePlain (negsuc 0) pairs
+  pub named : AreNamed pairs n
+  pub placed : IfSome n.key_id (IsAhead b)
+
+-- The bytes b are one plain header, which names n.
+pub record IsHeader (b : List ℕ) (n : Named) : Type 0 where
+  pub pairs : Pairs
+  pub is_item : IsItem b (dict pairs)
   pub are_plain : ArePlain (negsuc 0) pairs
   pub named : AreNamed pairs n
   pub placed : IfSome n.key_id (IsAhead b)

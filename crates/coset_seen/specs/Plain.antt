@@ -1,4 +1,4 @@
--- Headers that are checked without memory: their labels are integers in ascending order.
+-- Plain headers: their labels are integers in ascending order. A text as `alg` or content type is allowed here.
 use Rattle.std.specs.Prelude.{◌≡◌, ◌≢◌, ◌<ℤ◌, ℕ, ℤ, pos, List, ⊤}
 use Rattle.coset.specs.Fields.{content_type}
 use Rattle.coset.specs.Item.{Item, Pairs, no_pairs, pair}
@@ -6,8 +6,8 @@ use Rattle.coset.specs.LabelData.{LabelView, RegisteredLabelView}
 use Rattle.coset.specs.Labels.{algorithm}
 use Rattle.coset.specs.Shape.{int64, nonempty_bstr}
 
--- The value v under the label l describes a header parameter. The label isn't `crit`, Partial IV, or the label of
--- countersignatures (RFC 8152, section 3.1; RFC 9338, section 2).
+-- A plain header may have the value v under the label l. Values under alg, content type, kid and IV have their shapes; others are
+-- free. The label isn't `crit`, Partial IV, or one of countersignatures (RFC 8152, section 3.1; RFC 9338, section 2).
 pub record IsPlainValue (l : ℤ) (v : Item) : Type 0 where
   pub alg : l ≡ pos 1 → (x : RegisteredLabelView) × algorithm.describes v x
   pub content_type : l ≡ pos 3 → (x : LabelView) × content_type.describes v x
@@ -19,7 +19,7 @@ pub record IsPlainValue (l : ℤ) (v : Item) : Type 0 where
   pub no_countersignature_v2 : l ≢ pos 11
   pub no_countersignature0_v2 : l ≢ pos 12
 
--- The labels of the pairs are ascending integers above `last`, and each value describes a header parameter.
+-- The labels of the pairs are ascending integers above `last`, and a plain header may have each value under its label.
 abbrev pub ArePlain : ℤ → Pairs → Type 0
 ArePlain last no_pairs = ⊤
 ArePlain last (pair k v ps) = (l : ℤ) × int64.describes k l × (last <ℤ l) × IsPlainValue l v × ArePlain l ps

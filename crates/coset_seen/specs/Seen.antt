@@ -1,5 +1,6 @@
 -- Messages, seen in the bytes that encode them.
-use Rattle.std.specs.Prelude.{◌≡◌, ◌≢◌, ◌++◌, ◌⊎◌, ℕ, pos, negsuc, List, [], Option, Some, None, Bool, true, false, Result, Ok, Err, IfSome, length, option_map, ⊤}
+use Rattle.std.specs.Prelude.{◌≡◌, ◌≢◌, ◌++◌, ◌⊎◌, ℕ, pos, negsuc, List, [], Option, Some, None, Bool, true, false, Result, Ok, Err, IfSome}
+use Rattle.std.specs.Prelude.{length, option_map, ⊤}
 use Rattle.std.specs.Borrow.{Bor}
 use Rattle.coset.specs.Item.{Pairs, no_pairs, array, bytes, dict, integer}
 use Rattle.coset.specs.Grammar.{IsItem}
@@ -44,7 +45,7 @@ IsContentOf b None None = ⊤
 IsContentOf b (Some t) (Some p) = IsPartOf b t p
 IsContentOf b o q = ⊥
 
--- The key identifier of the elements e in b, whose protected bytes are the part p. The protected header's comes first.
+-- The key identifier of a message in b. That of the protected header comes first; it is in the protected bytes, the part p.
 abbrev pub FindsKeyId : List ℕ → Part → Option Ahead → Option Ahead → Option KeyId → Type 0
 FindsKeyId b p (Some t) o (Some i) =
     (i.is_protected ≡ true) × (i.part.bytes.now ≡ t.bytes.now) × (IsPart b p → IsAhead p.bytes.now t → IsPart b i.part)
@@ -66,18 +67,18 @@ DescribesMessage Sign1 t b p u c s = Describes (in_form t 18 sign1) b (record { 
 DescribesMessage Mac0 t b p u c s = Describes (in_form t 17 mac0) b (record { protected = p; unprotected = u; payload = c; tag = s })
 DescribesMessage Encrypt0 t b p u c s = Describes (in_form t 16 encrypt0) b (record { protected = p; unprotected = u; ciphertext = c }) × (s ≡ [])
 
--- i is the key identifier that is found in headers with these identifiers. A header without one has an empty one.
+-- The last argument is the first key identifier that isn't empty: p of the protected header, or u of the unprotected one.
 abbrev pub IsKeyId : List ℕ → List ℕ → Option KeyId → Type 0
 IsKeyId p u None = (p ≡ []) × (u ≡ [])
 IsKeyId p u (Some i) =
     (i.part.bytes.now ≢ [])
     × (((i.is_protected ≡ true) × (p ≡ i.part.bytes.now)) ⊎ ((i.is_protected ≡ false) × (p ≡ []) × (u ≡ i.part.bytes.now)))
 
--- The bytes of the parts that are present.
+-- The bytes of the part, if there is one.
 abbrev pub bytes_of : Option Part → Option (List ℕ)
 bytes_of = option_map (λ p. p.bytes.now)
 
--- The bytes b describe a message of kind k, and s is what is seen of it. Each part is in b.
+-- The bytes b describe a message of kind k, and s has its fields. Each part is in b.
 pub record IsSeen (k : kinds.Kind) (b : List ℕ) (s : Seen) : Type 0 where
   pub protected : ProtectedView
   pub unprotected : HeaderView

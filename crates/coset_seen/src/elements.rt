@@ -7,7 +7,7 @@ ghost use Rattle.coset_seen.specs.Elements.{BeginsContent, BeginsElements, Begin
 ghost use Rattle.coset_seen.specs.Kinds.{elements_of};
 
 use crate::forward::{Ahead, bytes_at, headed, null_at};
-use crate::header::{Named, header_at};
+use crate::header::{Named, header_at, whole_header};
 use crate::kind::Kind;
 use coset::cbor::head::MajorType;
 use coset::laws::one_item;
@@ -32,12 +32,7 @@ fn named_in(content: &[u8]) -> Option<Named<'_>>
     if content.is_empty() {
         return Some(Named::nothing());
     }
-    let Ok(_) = whole_item(content) else {
-        return None;
-    };
-    one_item();
-    let (named, _) = header_at(content)?;
-    Some(named)
+    whole_header(content)
 }
 
 /// Returns the content at the front, and the bytes after it. The content is `None` if `null` is
@@ -111,11 +106,11 @@ fn untagged(number: u64, input: &[u8]) -> (bool, &[u8])
 pub(crate) fn elements_of(kind: Kind, input: &[u8]) -> Option<(bool, Elements<'_>)>
     ensures { IfSome result (λ x. IsMessage kind input.now x.0 x.1) }
 {
+    let (is_tagged, rest) = untagged(kind.tag(), input);
+    let elements = message_at(kind, rest)?;
     let Ok(_) = whole_item(input) else {
         return None;
     };
     one_item();
-    let (is_tagged, rest) = untagged(kind.tag(), input);
-    let elements = message_at(kind, rest)?;
     Some((is_tagged, elements))
 }

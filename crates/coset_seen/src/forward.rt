@@ -21,7 +21,7 @@ pub(crate) struct Ahead<'a> {
 const NULL: u8 = 0xf6;
 
 /// Returns the argument of the head at the front, and the bytes after the head. Returns `None` if
-/// the head has another major type or no argument (RFC 8949, section 3).
+/// no head of this major type is there, or if it has no argument (RFC 8949, section 3).
 #[inline(always)]
 pub(crate) fn headed(input: &[u8], major_type: MajorType) -> Option<(u64, &[u8])>
     ensures { IfSome result (λ x.

@@ -1,17 +1,18 @@
-//! Headers that are checked without allocating (`see` says which), and what they name.
+//! Plain headers (`see` says what they are), with their algorithm and key identifier.
 
 ghost use Rattle.std.specs.Prelude.{◌≡◌, ◌≢◌, ◌<ℤ◌, [], ℕ, IfSome, None, IsTrue, pos, negsuc};
 ghost use Rattle.coset.specs.Item.{Item, bytes, integer};
-ghost use Rattle.coset.specs.Grammar.{IsItem};
 ghost use Rattle.coset.specs.Headers.{HeaderView, layered_header};
+ghost use Rattle.coset.specs.Results.{Describes};
 ghost use Rattle.coset_seen.specs.Begins.{Begins, IsAhead};
-ghost use Rattle.coset_seen.specs.Named.{BeginsHeader, BeginsPlain, IsParameter, with_parameter};
+ghost use Rattle.coset_seen.specs.Named.{BeginsHeader, BeginsPlain, IsHeader, IsParameter, with_parameter};
 ghost use Rattle.coset_seen.specs.Plain.{IsPlainValue};
 
 use crate::forward::{Ahead, bytes_at, headed, integer_at, item_at};
 use coset::cbor::head::MajorType;
 use coset::iana::{Algorithm, CoapContentFormat, EnumI64, WithPrivateRange};
 use coset::laws::one_item;
+use coset_codec::traits::whole_item;
 
 /// The algorithm and the key identifier that a header names.
 #[derive(Clone, Copy)]
@@ -173,12 +174,24 @@ pub(crate) fn header_at(input: &[u8]) -> Option<(Named<'_>, &[u8])>
     named_at(rest, count)
 }
 
-/// Returns true if the bytes of an item encode a plain header (`see` says what that is). False says
-/// nothing. Allocates nothing.
-pub fn is_plain_header(input: &[u8]) -> bool
-    ensures { IsTrue result → (k : ℕ) (v : Item) → IsItem input.now v
-        → (x : HeaderView) × (layered_header k).describes v x }
+/// Returns the algorithm and the key identifier that the input names, if it is one plain header.
+pub(crate) fn whole_header(input: &[u8]) -> Option<Named<'_>>
+    ensures { IfSome result (IsHeader input.now) }
 {
+    let (named, _) = header_at(input)?;
+    let Ok(_) = whole_item(input) else {
+        return None;
+    };
     one_item();
-    header_at(input).is_some()
+    Some(named)
+}
+
+/// Returns true if the input is one plain header ([`see`](crate::see) says what that is). Allocates
+/// nothing.
+///
+/// False doesn't mean that the header is invalid: the facade may decode it all the same.
+pub fn is_plain_header(input: &[u8]) -> bool
+    ensures { IsTrue result → (k : ℕ) → (x : HeaderView) × Describes (layered_header k) input.now x }
+{
+    whole_header(input).is_some()
 }

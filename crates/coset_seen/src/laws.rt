@@ -6,8 +6,8 @@ ghost use Rattle.coset.specs.Headers.{ProtectedView};
 ghost use Rattle.coset_seen.specs.declared.kind.Kind.{Kind};
 ghost use Rattle.coset_seen.specs.Structures.{IsStructureOf, structure_of};
 
-/// The structure over the bytes of a protected header as received is the structure that the facade
-/// makes of the decoded message.
+/// If a decoded protected header keeps these bytes as received, both structures are the same: the
+/// facade's, and the one over the bytes. They are over the same external data and content.
 pub fn structure_of_a_seen_message()
     ensures { (k : Kind) (p : ProtectedView) (b aad content : List ℕ) → p.original ≡ Some b
         → IsStructureOf k p aad content (structure_of k b aad content) }

@@ -2,12 +2,11 @@
 //!
 //! [`see`] finds a `COSE_Sign1`, `COSE_Mac0` or `COSE_Encrypt0` (RFC 8152, sections 4.2, 5.2 and
 //! 6.2) in its bytes. It returns the algorithm, the key identifier, the content, and the signature
-//! or the tag. Each part is borrowed and comes with its offset. [`Seen::put_structure`] then writes
-//! the structure that is signed, authenticated, or goes with the ciphertext.
+//! or the MAC's tag. Each part is borrowed and comes with its offset. [`Seen::put_structure`] then
+//! writes the `Sig_structure`, `MAC_structure` or `Enc_structure`. Nothing is verified.
 //!
-//! `None` says nothing. The bytes may be such a message all the same, so the caller decodes them
-//! with the facade `coset`. A message is seen only if both its headers are plain and its strings
-//! have definite lengths. [`see`] says which headers are plain.
+//! `None` doesn't mean that the bytes are no such message. The caller then decodes them with the
+//! facade `coset`. [`see`] says which messages it finds, and which headers are plain.
 #![tactic(auto)]
 
 mod elements;

@@ -11,12 +11,13 @@ use crate::kind::Kind;
 use crate::structure::{StructureError, put_structure, structure_of};
 use std::alloc::Global;
 
-/// A part of the input.
+/// Bytes of a message, and their place in the input of [`see`].
 #[derive(Clone, Copy, Debug)]
 pub struct Part<'a> {
-    /// The bytes of the part.
+    /// The bytes of the part. There may be none.
     pub bytes: &'a [u8],
-    /// The offset of the first byte in the input.
+    /// The offset in bytes from the start of the input, which includes the message's tag. A part of
+    /// the protected header has such an offset too.
     pub at: usize,
 }
 
@@ -29,22 +30,30 @@ pub struct KeyId<'a> {
     pub is_protected: bool,
 }
 
-/// A message, seen in the bytes that encode it. Each of its parts is a part of these bytes.
+/// A message that [`see`] found, borrowed from the bytes that encode it. Nothing in it is verified.
+///
+/// The fields are described as `see` returns them; a caller can also set others. Other header
+/// parameters, such as the IV, aren't included: decode the message for them.
 #[derive(Clone, Copy, Debug)]
 pub struct Seen<'a> {
-    /// The kind of the message.
+    /// The kind that the caller gave to [`see`].
     pub kind: Kind,
-    /// Whether the message is under its tag.
+    /// Whether the message is under its CBOR tag (RFC 8152, section 2).
     pub is_tagged: bool,
-    /// The content of the protected header's byte string, which a signature or a MAC covers.
+    /// The content of the protected header's byte string, as received. It is empty, or encodes a
+    /// map. The message's structure contains it.
     pub protected: Part<'a>,
-    /// The number of the algorithm in the protected header, if there is one.
+    /// The algorithm in the protected header (`alg`, RFC 8152, section 3.1): a registered number,
+    /// or one for private use. `None` if that header has none, even if the unprotected one does.
     pub algorithm: Option<i64>,
-    /// The key identifier, from the protected header if that has one.
+    /// The key identifier of the protected header, or else of the unprotected header. `None` if
+    /// neither has one.
     pub key_id: Option<KeyId<'a>>,
-    /// The payload or the ciphertext. It is `None` if the message has `nil` in its place.
+    /// The payload or the ciphertext, which may be empty. `None` if the message has `nil` in its
+    /// place: the content is then detached or absent.
     pub content: Option<Part<'a>>,
-    /// The signature or the tag. It is empty for an encrypted message.
+    /// The signature or the MAC's tag, which may be empty. An encrypted message has neither, and an
+    /// empty part at the end of the input.
     pub proof: Part<'a>,
 }
 
@@ -60,7 +69,7 @@ fn part_of<'a>(found: Ahead<'a>, input: &[u8]) -> Part<'a>
     }
 }
 
-/// Returns a part of a part of the input as a part of the input.
+/// Returns `inner`, a part of `outer`, with its offset in the whole input.
 fn within<'a>(outer: Part<'_>, inner: Part<'a>) -> Part<'a>
     ensures bytes { result.bytes.now ≡ inner.entry.bytes.now }
     ensures part { (b : List ℕ) → length b < 2 ^ 64 → IsPart b outer.entry
@@ -105,11 +114,20 @@ fn content_of<'a>(elements: Elements<'a>, input: &[u8]) -> Option<Part<'a>>
 /// Finds a message of this kind, with or without its tag, in the bytes that encode it. Allocates
 /// nothing.
 ///
-/// `None` says nothing: the bytes may be such a message all the same. A message is found if both
-/// its headers are plain and its strings have definite lengths (RFC 8949, section 3.2.3).
+/// Verifies and decrypts nothing. Without its tag, a `COSE_Sign1` is also a `COSE_Mac0`, so the
+/// caller must know the kind (RFC 8152, section 2).
 ///
-/// The labels of a plain header are integers from 0 on, in ascending order. It has no `crit`, no
-/// Partial IV and no countersignatures. Its algorithm and its content type are numbers.
+/// `None` doesn't mean that the message is invalid: the facade may decode it all the same. The
+/// message must be the whole input, and both its headers must be plain. Its array, the headers'
+/// maps and its byte strings must have definite lengths (RFC 8949, section 3.2).
+///
+/// The labels of a plain header are integers from 0 to `i64::MAX`, in ascending order. It has no
+/// `crit`, no Partial IV and no countersignatures. Its algorithm is a registered number or one for
+/// private use, and its content type a registered number. Its key identifier and its IV are byte
+/// strings of definite length, and not empty. Other labels may have any value.
+///
+/// A label may be in both headers, as in a decoded message. RFC 8152, section 3, lets applications
+/// check that it isn't.
 pub fn see(kind: Kind, input: &[u8]) -> Option<Seen<'_>>
     // The bytes describe the message.
     ensures describes { IfSome result (IsSeen kind input.now) }
@@ -146,11 +164,15 @@ impl Seen<'_> {
         }
     }
 
-    /// Writes the structure that is signed, authenticated, or goes with the ciphertext to the front
-    /// of `out`. Returns its length (RFC 8152, sections 4.4, 5.3 and 6.3).
+    /// Writes the message's `Sig_structure`, `MAC_structure` or `Enc_structure` to the front of
+    /// `out`, and returns its length (RFC 8152, sections 4.4, 6.3 and 5.3). The rest of `out` is
+    /// unchanged. Allocates nothing.
     ///
-    /// This is the structure that the facade makes of the decoded message (the law
-    /// `laws::structure_of_a_seen_message`). Allocates nothing.
+    /// The content is the one that the message carries, or else `detached`. An `Enc_structure` is
+    /// without the ciphertext, but one of the two must be there all the same.
+    ///
+    /// The protected bytes are those received. If [`see`] returned this message, the facade makes
+    /// the same structure of the decoded one (the law `laws::structure_of_a_seen_message`).
     ///
     /// # Errors
     /// - `TwoContents` if the message carries its content and `detached` is given.
@@ -171,7 +193,8 @@ impl Seen<'_> {
         let content = self.content_or(detached)?;
         put_structure(self.kind, self.protected.bytes, external_aad, content, out)
     }
-    /// Returns the structure that [`put_structure`](Seen::put_structure) writes, as a vector.
+
+    /// Returns the structure that [`put_structure`](Seen::put_structure) writes, in a new vector.
     ///
     /// # Errors
     /// - `TwoContents` if the message carries its content and `detached` is given.

@@ -1,5 +1,5 @@
-//! The structures that are signed, authenticated, or go with a ciphertext, in the caller's memory
-//! (RFC 8152, sections 4.4, 5.3 and 6.3).
+//! Writes the `Sig_structure`, `MAC_structure` and `Enc_structure` into the caller's memory
+//! (RFC 8152, sections 4.4, 6.3 and 5.3).
 
 ghost use Rattle.std.specs.List.{flat_map};
 ghost use Rattle.std.specs.Prelude.{◌≡◌, ◌++◌, ◌≤◌, ◌<◌, ◌^◌, MatchOption, length, take};
@@ -13,16 +13,16 @@ use coset::laws::least_encoding_is_shortest;
 use coset_core::structure::structure_bytes;
 use std::alloc::Global;
 
-/// Why a structure wasn't written.
+/// An error of writing a structure or slices.
 #[derive(Clone, Copy, Debug, PartialEq, Eq)]
 pub enum StructureError {
-    /// The memory is too small. This is the length needed.
+    /// `out` is too small. The number is the length needed, in bytes.
     Short(usize),
     /// An allocation failed, or the length doesn't fit in a `usize`.
     OutOfMemory,
-    /// The message carries no content, and none is given.
+    /// The message carries no content, and `detached` gives none.
     NoContent,
-    /// The message carries a content, and another one is given.
+    /// The message carries its content, and `detached` gives another one.
     TwoContents,
 }
 
@@ -82,7 +82,8 @@ fn total_len(texts: &[&[u8]]) -> Option<usize>
     Some(total)
 }
 
-/// Writes the texts to the front of `out`, one after another, and returns their total length.
+/// Writes the slices to the front of `out`, one after another, and returns their total length. The
+/// rest of `out` is unchanged.
 ///
 /// # Errors
 /// - `Short` with the length needed, if `out` is too small.

@@ -10,10 +10,10 @@ use coset::iana::{Algorithm, EnumI64};
 use coset_seen::{Kind, see};
 
 /// Writes the bytes that the message's signature covers to `memory`. Returns their number, and the
-/// signature.
+/// signature, which isn't verified. The external data is empty.
 ///
-/// Returns `None` if `see` does, if the message has another algorithm or no payload, or if `memory`
-/// is too small.
+/// Returns `None` if `see` does, or if `memory` is too small. Also returns `None` if the protected
+/// header doesn't name this algorithm, or if the message carries no payload.
 pub fn covered<'a>(
     message: &'a [u8],
     algorithm: Algorithm,

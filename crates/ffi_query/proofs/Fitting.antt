@@ -23,6 +23,7 @@ use Rattle.ffi_query.specs.Fits.{Fits, FitsElements, FitsForm, FitsKind, FitsThr
 use Rattle.ffi_query.specs.Kinds.{HoldsOf, IsOf, in_form, is_under}
 use Rattle.ffi_query.specs.Located.{elements_left}
 use Rattle.ffi_query.specs.Three.{IsThree}
+use Rattle.ffi_query.proofs.Valued.{OneItem, same_item}
 use Rattle.ffi_query.proofs.Viewed.{same_number, under_some}
 
 none_is : {A : Type 0} {x : A} → None ≡ Some x → ⊥
@@ -145,9 +146,15 @@ of_kind k b w is =
 pub no_content : (b : List ℕ) → b ≡ [] → IsHeaderContent b
 no_content b e = subst IsHeaderContent (sym e) (empty_header, refl)
 
-pub header_content : (b : List ℕ) (v : Item) → IsItem b v → (h : HeaderView) × (layered_header 15).describes v h → IsHeaderContent b
-header_content [] v is d = (empty_header, refl)
-header_content (c ∷ b) v is d = (d.0, (v, is, d.1))
+pub header_content : (b : List ℕ) → (h : HeaderView) × Describes (layered_header 15) b h → IsHeaderContent b
+header_content [] d = (empty_header, refl)
+header_content (c ∷ b) d = d
+
+-- The item that bytes are, if they describe a header.
+pub header_in :
+    OneItem → (k : ℕ) (v : Item) (b : List ℕ) → IsItem b v → (h : HeaderView) × Describes (layered_header k) b h
+    → (h : HeaderView) × (layered_header k).describes v h
+header_in one k v b is d = (d.0, subst (λ w. (layered_header k).describes w d.0) (same_item one b d.1.0 v d.1.1 is) d.1.2)
 
 pub protected_header : (v : Item) (b : List ℕ) → as_bytes v ≡ Some b → IsHeaderContent b → (x : ProtectedView) × protected.describes v x
 unfolding layered_protected

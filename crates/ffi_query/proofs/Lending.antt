@@ -26,11 +26,13 @@ use Rattle.ffi_query.specs.Results.{Finds, IsEncodingOf}
 use Rattle.ffi_query.specs.Critical.{IsCriticalIn, IsCriticalOf}
 use Rattle.ffi_query.specs.Kinds.{IsItemOf, TellsTagOf, tag_of}
 use Rattle.ffi_query.specs.Labels.{IsProtected, IsUnderIn, unprotected_value, value_under}
-use Rattle.ffi_query.specs.Borrowed.{AreTexts, HasNoCritical, IsAttached, IsBorrowed, IsBorrowedOf, IsEmptyIn, IsSigned, KnowsAlgorithm, KnowsKeyId, Says, structure_by}
+use Rattle.ffi_query.specs.Borrowed.{AreTexts, HasNoCritical, IsAttached, IsBorrowed, IsBorrowedOf, IsEmptyIn, IsSigned, KnowsAlgorithm}
+use Rattle.ffi_query.specs.Borrowed.{KnowsKeyId, Says, structure_by}
 use Rattle.ffi_query.specs.Located.{AreLocated, located_item}
 use Rattle.ffi_query.specs.Parts.{content_part, has_headers, place_of}
 use Rattle.ffi_query.specs.Places.{bytes_in, element, string_in}
-use Rattle.ffi_query.specs.Structures.{IsStructure, is_given_twice, content_at, content_in, content_structure, encryption_structure, structure_of_one, structure_of_two}
+use Rattle.ffi_query.specs.Structures.{IsStructure, is_given_twice, content_at, content_in, content_structure, encryption_structure}
+use Rattle.ffi_query.specs.Structures.{structure_of_one, structure_of_two}
 use Rattle.ffi_query.specs.View.{HasAlgorithm, IsAlgorithm, IsContent, IsKeyId, alg_label, bearer, kind_of_bearer, proof_at, proof_in}
 
 none_is : {A : Type 0} {x : A} → None ≡ Some x → ⊥

@@ -3,7 +3,7 @@ use Rattle.std.proofs.Common.{◌≡◌, ◌∙◌, Bool, true, false, Option, S
 use Rattle.std.specs.Option.{option_or}
 use Rattle.std.specs.Prelude.{if◌then◌else◌}
 use Rattle.coset.specs.Item.{Item, Pairs, pair}
-use Rattle.ffi_query.specs.Labels.{first_value}
+use Rattle.coset_seen.specs.Named.{first_value}
 use Rattle.ffi_query.specs.Borrowed.{value_if}
 
 if_or : (b : Bool) (v : Item) (o : Option Item) → (if b then Some v else o) ≡ option_or (value_if b v) o

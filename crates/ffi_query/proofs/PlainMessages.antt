@@ -1,11 +1,12 @@
 -- Messages with plain headers.
 use mir.Syntax.{w64}
-use Rattle.std.proofs.Common.{◌≡◌, ◌∙◌, ◌++◌, ℕ, ℤ, pos, negsuc, List, [], ◌∷◌, Option, Some, None, Result, Err, Bool, true, false, true≢false, cond, refl, sym, ap, subst, inl, inr, FitsSigned}
+use Rattle.std.proofs.Common.{◌≡◌, ◌∙◌, ℕ, ℤ, pos, negsuc, List, [], ◌∷◌, Option, Some, None, Result, Err, Bool, true, false}
+use Rattle.std.proofs.Common.{true≢false, cond, refl, sym, ap, subst, inl, inr, FitsSigned}
 use Rattle.std.proofs.lemmas.Bool.Decides.{Decides-int_eq}
 use Rattle.std.specs.Option.{option_copied}
 use Rattle.std.specs.Ordering.{int_eq}
 use Rattle.std.specs.Prelude.{IfSome, is_some, option_map}
-use Rattle.coset.specs.Grammar.{IsEncoding, IsItem}
+use Rattle.coset.specs.Grammar.{IsItem}
 use Rattle.coset.specs.Item.{Item, Items, Pairs, no_pairs, pair, array, bytes, dict, integer, null, tag}
 use Rattle.coset.specs.LabelData.{RegisteredLabelView, assigned, number, private_use, text_name}
 use Rattle.coset.specs.Labels.{algorithm}
@@ -25,7 +26,7 @@ use Rattle.coset_seen.specs.declared.message.Part.{Part}
 use Rattle.coset_seen.specs.declared.message.Seen.{Seen}
 use Rattle.coset_seen.specs.Elements.{content_item, message_items, perhaps_tag}
 use Rattle.coset_seen.specs.Kinds.{tag_of as seen_tag}
-use Rattle.coset_seen.specs.Named.{is_same as is_same_seen, value_of}
+use Rattle.coset_seen.specs.Named.{is_same, value_of}
 use Rattle.coset_seen.specs.Plain.{ArePlain, IsPlainValue}
 use Rattle.coset_seen.specs.declared.structure.StructureError.{StructureError}
 use Rattle.coset_seen.specs.declared.structure.StructureError.TheVariants.{NoContent, TwoContents}
@@ -40,26 +41,20 @@ use Rattle.ffi_query.specs.declared.kind.Kind.TheVariants.{Header, Key, KeySet, 
 use Rattle.ffi_query.specs.declared.borrowed.Texts.{Texts}
 use Rattle.ffi_query.specs.Borrowed.{AreTexts, HasNoCritical, IsAttached, IsSigned, KnowsAlgorithm, KnowsKeyId, structure_by}
 use Rattle.ffi_query.specs.Kinds.{IsItemOf, IsOf, TellsTag, TellsTagOf, in_form, tag_of, without_tag}
-use Rattle.ffi_query.specs.Labels.{IsUnderIn, first_value, is_label, is_same, value_under}
+use Rattle.ffi_query.specs.Labels.{IsUnderIn, value_under}
 use Rattle.ffi_query.specs.Located.{IsTextIn}
 use Rattle.ffi_query.specs.Results.{IsEncodingOf}
 use Rattle.ffi_query.specs.Seen.{IsAllowed, IsSeenOf, algorithm_of, key_id_bytes, both_given, key_id_place, kind_in, or_nothing, place_by, seen_item, signed_of}
 use Rattle.ffi_query.specs.Structures.{is_given_twice}
 use Rattle.ffi_query.specs.View.{proof_in}
+use Rattle.ffi_query.proofs.Valued.{OneItem, same_item}
 use Rattle.ffi_query.proofs.Viewed.{same_number}
-
--- Bytes encode at most one item, and no encoding is a proper prefix of another.
-abbrev pub OneItem : Type 0
-OneItem = (v w : Item) (b c x y : List ℕ) → IsEncoding v b → IsEncoding w c → b ++ x ≡ c ++ y → (v ≡ w) × (b ≡ c)
 
 none_is : {A : Type 0} {x : A} → None ≡ Some x → ⊥
 none_is p = some-none refl (sym p)
 
 some_is : {A : Type 0} {x y : A} → Some x ≡ Some y → x ≡ y
 some_is p = some-one refl p
-
-same_item : OneItem → (b : List ℕ) (v w : Item) → IsItem b v → IsItem b w → v ≡ w
-same_item one b v w x y = (one v w b b [] [] x.0 y.0 refl).0
 
 no_empty : OneItem → (v : Item) → IsItem [] v → ⊥
 no_empty one v x =
@@ -71,22 +66,13 @@ no_empty one v x =
 
 -- ---- the values under labels
 
-same_test : (o : Option ℤ) (n : ℤ) → is_same_seen int_eq o n ≡ is_same int_eq o n
-same_test None n = refl
-same_test (Some m) n = refl
-
-same_value : (n : ℤ) (ps : Pairs) → value_of n ps ≡ first_value (is_label (number n)) ps
-same_value n no_pairs = refl
-same_value n (pair k v ps) =
-    ap (λ t. cond t (Some v) (value_of n ps)) (same_test (as_integer k) n) ∙ ap (cond (is_label (number n) k) (Some v)) (same_value n ps)
-
 -- The value under a label describes a header parameter.
 plain_value : (n last : ℤ) (ps : Pairs) (w : Item) → ArePlain last ps → value_of n ps ≡ Some w → IsPlainValue n w
 plain_value n last no_pairs w h e = absurd (none_is e)
 plain_value n last (pair k v ps) w h e = go (int_eq h.0 n) refl (plain_value n h.0 ps w h.4)
   where
-    key : is_same_seen int_eq (as_integer k) n ≡ int_eq h.0 n
-    key = ap (λ o. is_same_seen int_eq o n) h.1.0
+    key : is_same int_eq (as_integer k) n ≡ int_eq h.0 n
+    key = ap (λ o. is_same int_eq o n) h.1.0
 
     go : (b : Bool) → int_eq h.0 n ≡ b → (value_of n ps ≡ Some w → IsPlainValue n w) → IsPlainValue n w
     go true f later =
@@ -105,12 +91,12 @@ no_critical last ps h = go (value_of (pos 2) ps) refl
 
 there_under : (n : ℤ) (p : List ℕ) (ps : Pairs) (w : Item) → IsMapOf p ps → value_of n ps ≡ Some w → IsUnderIn (number n) p w
 there_under n p ps w (inl e) h = absurd (none_is (sym (ap (value_of n) e.1) ∙ h))
-there_under n p ps w (inr is) h = (dict ps, is, sym (same_value n ps) ∙ h)
+there_under n p ps w (inr is) h = (dict ps, is, h)
 
 absent_under : OneItem → (n : ℤ) (p : List ℕ) (ps : Pairs) → IsMapOf p ps → value_of n ps ≡ None → (w : Item) → IsUnderIn (number n) p w → ⊥
 absent_under one n p ps (inl e) h w u = no_empty one u.0 (subst (λ b. IsItem b u.0) e.0 u.1)
 absent_under one n p ps (inr is) h w u =
-    none_is (sym (sym (same_value n ps) ∙ h) ∙ (ap (value_under (number n)) (same_item one p (dict ps) u.0 is u.1) ∙ u.2))
+    none_is (sym h ∙ (ap (value_under (number n)) (same_item one p (dict ps) u.0 is u.1) ∙ u.2))
 
 -- ---- the algorithm, crit and the key identifier
 
@@ -136,16 +122,16 @@ module _
         (integer n, there_under (pos 1) p ps (integer n) is e, (refl, integer_fits n (plain_value (pos 1) (negsuc 0) ps (integer n) f e)))
 
     pub uncritical : HasNoCritical message
-    uncritical = (absent_under one (pos 2) p ps is (no_critical (negsuc 0) ps f), sym (same_value (pos 2) us) ∙ no_critical (negsuc 0) us g)
+    uncritical = (absent_under one (pos 2) p ps is (no_critical (negsuc 0) ps f), no_critical (negsuc 0) us g)
 
     pub key_id_known : (o : Option KeyId) → IsUnderKid ps us o → KnowsKeyId message (key_id_place o) (key_id_bytes o)
-    key_id_known None h = (absent_under one (pos 4) p ps is h.0, sym (same_value (pos 4) us) ∙ h.1, refl)
+    key_id_known None h = (absent_under one (pos 4) p ps is h.0, h.1, refl)
     key_id_known (Some i) (inl h) =
         subst (λ x. KnowsKeyId message x i.part.bytes.now) (sym (ap place_by h.0))
         (bytes i.part.bytes.now, there_under (pos 4) p ps (bytes i.part.bytes.now) is h.1, refl)
     key_id_known (Some i) (inr h) =
         subst (λ x. KnowsKeyId message x i.part.bytes.now) (sym (ap place_by h.0))
-        (absent_under one (pos 4) p ps is h.1, (bytes i.part.bytes.now, sym (same_value (pos 4) us) ∙ h.2, refl))
+        (absent_under one (pos 4) p ps is h.1, (bytes i.part.bytes.now, h.2, refl))
 
 attached : (o : Option (List ℕ)) → IsAttached (content_item o) (or_nothing o)
 attached None = inr (refl, refl)
@@ -247,7 +233,8 @@ pub once_of :
     (k : kinds.Kind) (b : List ℕ) (s : Seen) (h : IsSeenOf k b s) (d : Option (List ℕ)) → both_given (bytes_of s.content) d ≡ false
     → is_given_twice k d (seen_item h) ≡ false
 once_of k b s h d e =
-    by_kind k h.kind h.form (λ j z. is_given_twice j d (array (message_items z s.protected.bytes.now h.lies.second (bytes_of s.content) s.proof.bytes.now)) ≡ false)
+    by_kind k h.kind h.form
+    (λ j z. is_given_twice j d (array (message_items z s.protected.bytes.now h.lies.second (bytes_of s.content) s.proof.bytes.now)) ≡ false)
     h.is_kind (λ f. one f s.protected.bytes.now s.proof.bytes.now h.lies.second (bytes_of s.content) d e)
     (λ f. two f s.protected.bytes.now s.proof.bytes.now h.lies.second (bytes_of s.content) d e)
     (λ f. three f s.protected.bytes.now s.proof.bytes.now h.lies.second (bytes_of s.content) d e)
@@ -276,7 +263,8 @@ proof_of :
     (k : kinds.Kind) (b : List ℕ) (s : Seen) (h : IsSeenOf k b s) → proof_in k (seen_item h) ≡ Some s.proof.bytes.now
 proof_of k b s h =
     by_kind k h.kind h.form
-    (λ j z. IsSeen z b s → proof_in j (array (message_items z s.protected.bytes.now h.lies.second (bytes_of s.content) s.proof.bytes.now)) ≡ Some s.proof.bytes.now)
+    (λ j z. IsSeen z b s
+    → proof_in j (array (message_items z s.protected.bytes.now h.lies.second (bytes_of s.content) s.proof.bytes.now)) ≡ Some s.proof.bytes.now)
     h.is_kind (λ f x. refl) (λ f x. refl) (λ f x. ap Some (sym x.describes.1)) h.is_seen
 
 signed_is : (c d : Option (List ℕ)) → IsSigned (content_item c) d (signed_of c d)
@@ -298,7 +286,8 @@ texts_are one k b s h d x protected algorithm proof proof_in content content_in 
       place = content_item c;
       is_protected = ap (λ p. Some p.now) (sym protected);
       is_algorithm = subst (KnowsAlgorithm v) (sym algorithm)
-          (algorithm_known one h.kind s.protected.bytes.now l.first l.second c s.proof.bytes.now l.is_first l.first_plain l.second_plain s.algorithm l.algorithm);
+          (algorithm_known one h.kind s.protected.bytes.now l.first l.second c s.proof.bytes.now l.is_first l.first_plain l.second_plain
+          s.algorithm l.algorithm);
       is_place = refl;
       is_uncritical = uncritical one h.kind s.protected.bytes.now l.first l.second c s.proof.bytes.now l.is_first l.first_plain l.second_plain;
       is_proof = proof_of k b s h ∙ ap Some (sym proof);

@@ -2,7 +2,7 @@
 use Rattle.std.proofs.Common.{◌≡◌, ◌∙◌, ◌++◌, ℕ, List, [], Option, Some, None, Result, ap, sym, subst, refl, option_map}
 use Rattle.std.specs.Prelude.{IfOk}
 use Rattle.coset.specs.Item.{Item}
-use Rattle.coset.specs.Grammar.{IsEncoding}
+use Rattle.coset.specs.Grammar.{IsEncoding, IsItem}
 use Rattle.coset.specs.LabelData.{LabelView}
 use Rattle.coset.specs.ShapeLaws.{some-none, some-one}
 use Rattle.coset.specs.CoseError.{CoseError}
@@ -17,12 +17,13 @@ use Rattle.ffi_query.specs.Places.{bytes_in, string_in}
 abbrev pub OneItem : Type 0
 OneItem = (v w : Item) (b c x y : List ℕ) → IsEncoding v b → IsEncoding w c → b ++ x ≡ c ++ y → (v ≡ w) × (b ≡ c)
 
+pub same_item : OneItem → (b : List ℕ) (v w : Item) → IsItem b v → IsItem b w → v ≡ w
+same_item law b v w x y = (law v w b b [] [] x.0 y.0 refl).0
+
 -- ---- a label has one value
 
 same_within : OneItem → (l : LabelView) (b : List ℕ) (w x : Item) → IsUnderIn l b w → IsUnderIn l b x → w ≡ x
-same_within law l b w x p q =
-    let same : p.0 ≡ q.0 = (law p.0 q.0 b b [] [] p.1.0 q.1.0 refl).0 in
-    some-one p.2 (ap (value_under l) same ∙ q.2)
+same_within law l b w x p q = some-one p.2 (ap (value_under l) (same_item law b p.0 q.0 p.1 q.1) ∙ q.2)
 
 same_protected : OneItem → (l : LabelView) (o : Option (List ℕ)) (w x : Item) → IsProtected l o w → IsProtected l o x → w ≡ x
 same_protected law l None w x p q = absurd p

@@ -1,13 +1,14 @@
 -- The values of labels (RFC 8152, sections 1.4, 3 and 7; RFC 8392, section 3).
-use Rattle.std.specs.Prelude.{◌≡◌, ◌==◌, ℕ, ℤ, List, Option, Some, None, Bool, true, false, option_and_then, if◌then◌else◌, FitsSigned}
+use Rattle.std.specs.Prelude.{◌≡◌, ◌==◌, ℕ, ℤ, List, Option, Some, None, Bool, true, option_and_then, FitsSigned}
 use Rattle.std.specs.Int.{w64}
 use Rattle.std.specs.Ordering.{int_eq}
 use Rattle.std.specs.Cmp.Lexicographic.{pointwise}
-use Rattle.coset.specs.Item.{Item, Pairs, no_pairs, pair}
+use Rattle.coset.specs.Item.{Item}
 use Rattle.coset.specs.Parts.{as_integer, as_map, as_text}
 use Rattle.coset.specs.Grammar.{IsItem}
 use Rattle.coset.specs.Shortest.{IsShortest}
 use Rattle.coset.specs.LabelData.{LabelView, number, text_label}
+use Rattle.coset_seen.specs.Named.{first_value, is_same}
 use Rattle.ffi_query.specs.declared.kind.Kind as kinds
 use Rattle.ffi_query.specs.declared.label.Label as labels
 use Rattle.ffi_query.specs.declared.label.Label.TheVariants.{Number, Text}
@@ -18,11 +19,6 @@ use Rattle.ffi_query.specs.declared.refusal.Refusal.TheVariants.{Absent, WrongTy
 use Rattle.ffi_query.specs.Parts.{has_headers}
 use Rattle.ffi_query.specs.Places.{bytes_in, element, string_in}
 
--- There is a value, and it equals x.
-abbrev pub is_same : {A : Type 0} → (A → A → Bool) → Option A → A → Bool
-is_same eq None x = false
-is_same eq (Some y) x = eq y x
-
 -- The view of a label.
 abbrev pub label_view : labels.Label → LabelView
 label_view (Number n) = number n
@@ -32,11 +28,6 @@ label_view (Text t) = text_label t.now
 abbrev pub is_label : LabelView → Item → Bool
 is_label (number n) k = is_same int_eq (as_integer k) n
 is_label (text_label t) k = is_same (pointwise ◌==◌) (as_text k) t
-
--- The value of the first pair whose key passes the test.
-abbrev pub first_value : (Item → Bool) → Pairs → Option Item
-first_value test no_pairs = None
-first_value test (pair k v ps) = if test k then Some v else first_value test ps
 
 -- The value under the label in a map.
 abbrev pub value_under : LabelView → Item → Option Item

@@ -1,19 +1,16 @@
 -- The results of calls that write into the caller's memory. P and Q are properties that a call names: P of its result,
 -- Q of the reason for having none.
-use Rattle.std.specs.Prelude.{◌≡◌, ◌<◌, ◌≤◌, ℕ, List, ◌++◌, length, drop, Option, Some, None, Result, Ok, Err}
+use Rattle.std.specs.Prelude.{◌≡◌, ◌<◌, ℕ, List, length, Option, Some, None, Result, Ok, Err}
 use Rattle.coset.specs.Item.{Item}
 use Rattle.coset.specs.CoseError.{CoseError}
 use Rattle.coset.specs.CoseError.TheVariants.{OutOfMemory}
 use Rattle.coset.specs.Shortest.{IsShortest}
+use Rattle.coset_seen.specs.Puts.{BeginsWith}
 use Rattle.ffi_query.specs.declared.kind.Kind as kinds
 use Rattle.ffi_query.specs.declared.refusal.Refusal as refusals
 use Rattle.ffi_query.specs.declared.refusal.Refusal.TheVariants.{Short, Absent, WrongType, Cose}
 use Rattle.ffi_query.specs.Kinds.{IsItemOf, IsRefused}
 use Rattle.ffi_query.specs.Places.{string_in}
-
--- The memory begins with the text t. The rest is unchanged.
-abbrev pub BeginsWith : List ℕ → List ℕ → List ℕ → Type 0
-BeginsWith t old new = (length t ≤ length old) × (new ≡ t ++ drop (length t) old)
 
 -- Writing the text t into the memory. If t fits, its length is returned. If not, the memory is unchanged, and `Short`
 -- has the length that is needed.

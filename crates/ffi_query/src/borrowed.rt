@@ -485,8 +485,8 @@ fn borrowed_by<'a>(
 }
 
 /// Returns everything that verifying or decrypting a message with plain headers takes. Returns
-/// `None` if the bytes aren't such a message of this kind. It is also `None` if there is no content,
-/// or if the content is given twice. The message is found without allocating.
+/// `None` if the bytes aren't such a message of this kind. It is also `None` if there is no
+/// content, or if the content is given twice. The message is found without allocating.
 ///
 /// # Errors
 /// `OutOfMemory` if an allocation fails.

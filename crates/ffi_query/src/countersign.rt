@@ -329,7 +329,8 @@ fn find_countersigned(
 /// protected header as they were received.
 ///
 /// `signer` is the content of the byte string that holds the countersignature's own protected
-/// header. It is empty for an abbreviated countersignature, which has no such header.
+/// header. It isn't checked that it is one. It is empty for an abbreviated countersignature, which
+/// has no such header.
 ///
 /// The structure's payload is the item's payload or ciphertext, or the signature of a
 /// [`Kind::Signature`]. If that field is `nil`, `detached` is the payload; else `detached` must be

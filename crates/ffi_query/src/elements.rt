@@ -232,7 +232,8 @@ pub(crate) fn text_span(text: Text<'_>, input: &[u8]) -> Span
 /// Returns the place of the item that begins at the offset `at`, as received.
 ///
 /// The next element of an array, or the next key or value of a map, begins where the item ends. So
-/// a caller finds all of them in one walk.
+/// a caller finds all of them in one walk. This function doesn't see where the array or map ends,
+/// so the caller counts.
 ///
 /// # Errors
 /// - `Absent` if there are fewer than `at` bytes.

@@ -16,8 +16,8 @@ use crate::kind::{Form, Kind};
 use crate::located::{Elements, Located, next_located, only_bytes};
 use crate::three::{Three, three_of};
 use coset::cbor::de::Pull;
+use coset::laws::one_item;
 use coset::{FromPull, Header, ProtectedHeader};
-use coset_codec::traits::whole_item;
 use coset_seen::is_plain_header;
 use std::alloc::Global;
 
@@ -41,10 +41,7 @@ fn is_plain_content(content: &[u8]) -> bool
     if content.is_empty() {
         return true;
     }
-    match whole_item(content) {
-        Ok(_) => is_plain_header(content),
-        Err(_) => false,
-    }
+    is_plain_header(content)
 }
 
 /// Returns true if the item is a valid protected header. False may also mean that an allocation
@@ -65,6 +62,7 @@ fn is_protected(alloc: Global, place: Pull<'_>) -> bool
 fn is_unprotected(alloc: Global, place: Pull<'_>) -> bool
     ensures { Fits header (pull_item place.entry) result }
 {
+    one_item();
     if is_plain_header(place.slice()) {
         return true;
     }
@@ -183,8 +181,8 @@ fn without_proof<'a>(
 ///
 /// The messages found here are `COSE_Sign1`, `COSE_Mac0` and `COSE_Encrypt0`. `item` is without the
 /// message's tag, and `is_tagged` says whether the message had it. Headers that aren't plain are
-/// decoded, and the content isn't copied. If the result is `None`, the item may be a message all the
-/// same.
+/// decoded, and the content isn't copied. If the result is `None`, the item may be a message all
+/// the same.
 pub(crate) fn fits<'a>(
     alloc: Global,
     kind: Kind,

@@ -6,7 +6,8 @@ ghost use Rattle.coset.specs.Elements.{pairs_left};
 ghost use Rattle.coset.specs.Pulls.{pull_item};
 ghost use Rattle.coset.specs.View.{value_item};
 ghost use Rattle.ffi_query.specs.Results.{Answers, ReturnsNumber, ReturnsOr, Finds, WritesString};
-ghost use Rattle.ffi_query.specs.Labels.{HasNoNumber, HasNoString, IsNumber, IsNumberOf, IsProtected, IsStringOf, IsUnder, IsUnderIn, IsValueOf, first_value, is_label, label_view, unprotected_value, value_under};
+ghost use Rattle.coset_seen.specs.Named.{first_value};
+ghost use Rattle.ffi_query.specs.Labels.{HasNoNumber, HasNoString, IsNumber, IsNumberOf, IsProtected, IsStringOf, IsUnder, IsUnderIn, IsValueOf, is_label, label_view, unprotected_value, value_under};
 ghost use Rattle.ffi_query.specs.Places.{bytes_in, string_in};
 
 use crate::item::{bytes_in, element, encoding, item_of};
@@ -36,7 +37,7 @@ pub enum Map {
 pub enum Label<'a> {
     /// An integer.
     Number(i64),
-    /// A text string, as its UTF-8 bytes.
+    /// A text string, as its UTF-8 bytes. No map has a label of other bytes.
     Text(&'a [u8]),
 }
 
@@ -196,7 +197,8 @@ fn find_encoding(
 /// Writes the value under a label to the front of `out`, and returns its length.
 ///
 /// `bytes` are an item of the kind, and `map` says which of its maps is searched. The value is
-/// written in its shortest encoding (RFC 8949, section 4.2.1).
+/// written in its shortest encoding (RFC 8949, section 4.2.1). A map of a [`Kind::Any`] may repeat
+/// the label; the value is then the first one, also in the other calls.
 ///
 /// # Errors
 /// - `Short` with the length needed, if `out` is too small.

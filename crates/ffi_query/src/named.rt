@@ -4,7 +4,8 @@
 ghost use Rattle.std.specs.Option.{option_or};
 ghost use Rattle.std.specs.Prelude.{◌≡◌, List, ℕ, IfSome, None, option_map};
 ghost use Rattle.ffi_query.specs.Critical.{crit_label};
-ghost use Rattle.ffi_query.specs.Labels.{first_value, is_label, value_under};
+ghost use Rattle.coset_seen.specs.Named.{first_value};
+ghost use Rattle.ffi_query.specs.Labels.{is_label, value_under};
 ghost use Rattle.ffi_query.specs.Borrowed.{value_if};
 ghost use Rattle.ffi_query.specs.Located.{AreEntriesIn, IsLocated, entries_left, located_item};
 ghost use Rattle.ffi_query.specs.View.{alg_label, kid_label};

@@ -11,7 +11,7 @@ use coset::{CoseError, EndOfFile};
 pub enum Refusal {
     /// The result is longer than the memory for it. This is the result's length.
     Short(usize),
-    /// The bytes are of the kind, and don't have the requested part.
+    /// The bytes don't have the requested part, or the kind has no place for an argument.
     Absent,
     /// The requested value isn't a string, or isn't an integer in the range of `i64`. Or a string
     /// that must have definite length is in chunks.
@@ -35,7 +35,7 @@ pub enum Status {
     Ends,
     /// The bytes aren't well-formed, a text string isn't UTF-8, or a simple value isn't supported.
     Malformed,
-    /// Arrays, maps and tags nest more than 256 levels deep.
+    /// Arrays, maps and tags nest more than 256 levels deep, or more than 16 protected headers.
     Deep,
     /// Bytes follow the item.
     Extraneous,

@@ -270,8 +270,9 @@ fn any_spans(
 /// authenticated, or goes with the ciphertext. The signature or tag, the content and the key
 /// identifier are given by their places. They are in `bytes`, or after the structure in `out`.
 ///
-/// They are in `bytes` if the message has no list of signatures and no critical labels, and its
-/// strings have definite lengths (RFC 8949, section 3.2.3).
+/// `is_input` of each place says where it is. They are in `bytes` if the message has no list of
+/// signatures and no critical labels, and its strings have definite lengths (RFC 8949, section
+/// 3.2.3).
 ///
 /// # Errors
 /// The errors of [`message_view`](crate::message_view).

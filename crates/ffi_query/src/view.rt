@@ -55,7 +55,8 @@ pub struct MessageView {
     /// signer.
     pub key_id_place: KeyIdPlace,
     /// Whether a header has `crit`, label 2: labels that must be understood (RFC 8152, section
-    /// 3.1). In a message with signers, the headers of the message and of the signer count.
+    /// 3.1). In a message with signers, the headers of the message and of the signer count. Those
+    /// of recipients and countersignatures don't.
     pub has_critical: bool,
     /// Whether the caller understands all critical labels, and only protected headers name them.
     /// True if there are none. Whether the headers have these labels isn't checked.
@@ -68,7 +69,7 @@ pub struct MessageView {
     /// message.
     pub proof_len: usize,
     /// The length of the carried payload or ciphertext, which is the third text. It is 0 if that is
-    /// detached.
+    /// detached, absent or empty.
     pub content_len: usize,
     /// The length of the key identifier, which is the fourth text. It is 0 if there is none.
     pub key_id_len: usize,

@@ -10,7 +10,8 @@ use Rattle.cwt_verify.specs.declared.error.LayerError.TheVariants as at
 use Rattle.cwt_verify.specs.declared.error.TokenError.{TokenError}
 use Rattle.cwt_verify.specs.declared.error.TokenError.TheVariants as token
 use Rattle.cwt_verify.specs.declared.token.VerifiedToken.{VerifiedToken}
-use Rattle.ffi_query.specs.Results.{BeginsWith, IsEncodingOf, Puts}
+use Rattle.coset_seen.specs.Puts.{BeginsWith}
+use Rattle.ffi_query.specs.Results.{IsEncodingOf, Puts}
 use Rattle.ffi_query.specs.declared.refusal.Refusal.TheVariants as answers
 use Rattle.ffi_token.specs.Opened.{has_text, opened_view}
 use Rattle.ffi_token.specs.Written.{token_image}

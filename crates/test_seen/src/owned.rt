@@ -1,4 +1,4 @@
-//! The same of messages that are decoded.
+//! Decoded messages, beside those that are seen, and their structures.
 
 use crate::seen::kind;
 use coset::iana::EnumI64;

@@ -14,7 +14,8 @@ loop-preserved c =
     let n : Named = record { algorithm = c.loop.named.0; key_id = c.loop.named.1.0 } in
     let w : Walked c.args.count (c.args.count - (c.loop.counter + 1)) c.args.bytes.now parameter.behind.now label.label (with_parameter n parameter.parameter) =
     goes_on c.args.count (c.args.count - c.loop.counter) (c.args.count - (c.loop.counter + 1)) c.args.bytes.now c.loop.rest.now label.value.now
-    parameter.behind.now (to_z w64 c.loop.last-bits) label.label n parameter.parameter c.loop.invariant (omega (arith, c.loop-test.true)) label.ensures.begins label.ensures.fits
+    parameter.behind.now (to_z w64 c.loop.last-bits) label.label n parameter.parameter c.loop.invariant (omega (arith, c.loop-test.true))
+    label.ensures.begins label.ensures.fits
     (subst (λ z. to_z w64 c.loop.last-bits <ℤ z) same (grind (arith, c.if-label-last.false)))
     (subst (λ z. IsParameter z label.value.now parameter.parameter parameter.behind.now) same parameter.ensures) in
     subst (λ z. Walked c.args.count (c.args.count - (c.loop.counter + 1)) c.args.bytes.now parameter.behind.now z c.with-named.result) (sym same)

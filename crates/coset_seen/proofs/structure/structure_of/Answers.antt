@@ -15,13 +15,15 @@ returns-in-Sign1 c =
 pub returns-in-Mac0 : goal.returns-in-Mac0
 returns-in-Mac0 c =
     makes (λ v. v.items) _ c.structure_bytes-in-Mac0.result c.or_out_of_memory-in-Mac0.result
-    (subst (λ k. IfOk c.structure_bytes-in-Mac0.result (λ b. IsShortest b.items (structure_of k c.args.protected.now c.args.external_aad.now c.args.content.now)))
+    (subst (λ k. IfOk c.structure_bytes-in-Mac0.result (λ b. IsShortest b.items
+    (structure_of k c.args.protected.now c.args.external_aad.now c.args.content.now)))
     (sym c.in-Mac0.is) c.structure_bytes-in-Mac0.ensures.encoding)
     c.or_out_of_memory-in-Mac0.ensures
 
 pub returns-in-Encrypt0 : goal.returns-in-Encrypt0
 returns-in-Encrypt0 c =
     makes (λ v. v.items) _ c.structure_bytes-in-Encrypt0.result c.or_out_of_memory-in-Encrypt0.result
-    (subst (λ k. IfOk c.structure_bytes-in-Encrypt0.result (λ b. IsShortest b.items (structure_of k c.args.protected.now c.args.external_aad.now c.args.content.now)))
+    (subst (λ k. IfOk c.structure_bytes-in-Encrypt0.result (λ b. IsShortest b.items
+    (structure_of k c.args.protected.now c.args.external_aad.now c.args.content.now)))
     (sym c.in-Encrypt0.is) c.structure_bytes-in-Encrypt0.ensures.encoding)
     c.or_out_of_memory-in-Encrypt0.ensures

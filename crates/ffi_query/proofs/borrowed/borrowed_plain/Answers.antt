@@ -14,5 +14,6 @@ returns-clause-lent c =
     let s = c.in-Some.seen in
     let h = c.in-Some.ensures in
     borrowed_of k i c.args.external_aad.now d ns b (seen_item h) s.is_tagged c.borrowed_by.result (item_of k b s h) (tells_of c.one_item.ensures k b s h)
-    (once_of k b s h d (sym c.has_both.ensures ∙ c.if-has_both.false)) (c.borrowed_by.ensures.lent b d i ns (seen_item h) (c.texts_of_seen-texts.ensures.texts k h))
+    (once_of k b s h d (sym c.has_both.ensures ∙ c.if-has_both.false))
+    (c.borrowed_by.ensures.lent b d i ns (seen_item h) (c.texts_of_seen-texts.ensures.texts k h))
     c.borrowed_by.ensures.tagged

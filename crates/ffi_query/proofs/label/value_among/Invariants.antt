@@ -1,6 +1,7 @@
 use Rattle.std.proofs.Common.{◌≡◌}
 use Rattle.coset.specs.Elements.{pairs_left}
-use Rattle.ffi_query.specs.Labels.{first_value, is_label, label_view}
+use Rattle.coset_seen.specs.Named.{first_value}
+use Rattle.ffi_query.specs.Labels.{is_label, label_view}
 use Rattle.ffi_query.proofs.label.value_among.Given as goal
 
 abbrev pub invariant-loop-key : goal.invariant-loop-key

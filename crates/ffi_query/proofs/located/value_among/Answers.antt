@@ -3,7 +3,8 @@ use mir.Val.{of_z, to_z}
 use Rattle.std.proofs.Common.{◌≡◌, ◌∙◌, ap, drop, length, refl, rules, subst, sym}
 use Rattle.coset.specs.Elements.{pairs_bytes, pairs_left}
 use Rattle.coset.specs.LabelData.{number}
-use Rattle.ffi_query.specs.Labels.{first_value, is_label}
+use Rattle.coset_seen.specs.Named.{first_value}
+use Rattle.ffi_query.specs.Labels.{is_label}
 use Rattle.ffi_query.specs.Located.{AreLocated}
 use Rattle.ffi_query.proofs.Locating.{located_pair}
 use Rattle.ffi_query.proofs.located.value_among.Goals as goal

@@ -24,7 +24,8 @@ returns-in-Ok-Some-find_borrowed c =
     let d = option_copied c.args.detached in
     let ns = c.args.known.now in
     let lent = rw c.in-Ok-Some-find_borrowed.field-0-is at (c.in-Ok-Some-find_borrowed.ensures.lent c.args.bytes.now i ns c.in-Ok.ensures) in
-    lent_viewed k i aad d ns c.args.bytes.now c.args.out.now c.put_view-in-Ok-Some-find_borrowed.new.out (HasNoView k i aad d ns) c.in-Ok-Some-find_borrowed.lent c.put_view-in-Ok-Some-find_borrowed.result lent
+    lent_viewed k i aad d ns c.args.bytes.now c.args.out.now c.put_view-in-Ok-Some-find_borrowed.new.out (HasNoView k i aad d ns)
+    c.in-Ok-Some-find_borrowed.lent c.put_view-in-Ok-Some-find_borrowed.result lent
     c.put_view-in-Ok-Some-find_borrowed.ensures
 
 pub returns-in-Ok-None-find_borrowed : goal.returns-in-Ok-None-find_borrowed

@@ -1,6 +1,6 @@
 use Rattle.std.proofs.Common.{◌∙◌, ap, drop, length, pos}
 use Rattle.std.specs.Ordering.{int_eq}
-use Rattle.ffi_query.specs.Labels.{is_same}
+use Rattle.coset_seen.specs.Named.{is_same}
 use Rattle.ffi_query.proofs.Locating.{located_pair}
 use Rattle.ffi_query.proofs.Naming.{named_step}
 use Rattle.ffi_query.proofs.named.named_among.Goals as goal

@@ -5,7 +5,8 @@ use Rattle.coset.specs.Elements.{pairs_bytes, pairs_left}
 use Rattle.coset.specs.LabelData.{LabelView}
 use Rattle.ffi_query.specs.declared.located.Located.{Located}
 use Rattle.ffi_query.specs.Critical.{crit_label}
-use Rattle.ffi_query.specs.Labels.{first_value, is_label}
+use Rattle.coset_seen.specs.Named.{first_value}
+use Rattle.ffi_query.specs.Labels.{is_label}
 use Rattle.ffi_query.specs.Located.{AreLocated, IsLocated, located_item}
 use Rattle.ffi_query.specs.View.{alg_label, kid_label}
 use Rattle.ffi_query.proofs.named.named_among.Given as goal

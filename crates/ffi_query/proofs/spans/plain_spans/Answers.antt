@@ -27,7 +27,8 @@ returns-in-Ok c =
     let encoded = subst (λ o. IsEncodingOf (structure_by k aad x.protected.now o) t) (sym texts.signed)
     (subst (λ p. IsEncodingOf (structure_by k aad p (signed_of (bytes_of s.content) d)) t) (sym texts.protected) found.1) in
     let are = plain_spans_are k i aad d ns b t (seen_item h) x s.is_tagged c.in_ok-len.len c.unsized_spans-spans.result (texts.texts k h)
-    c.unsized_spans-spans.ensures c.in_ok-len.ensures encoded (tells_of c.one_item.ensures k b s h) (once_of k b s h d (sym c.has_both.ensures ∙ c.if-has_both.false)) in (
+    c.unsized_spans-spans.ensures c.in_ok-len.ensures encoded (tells_of c.one_item.ensures k b s h)
+    (once_of k b s h d (sym c.has_both.ensures ∙ c.if-has_both.false)) in (
       seen_item h,
       item_of k b s h,
       (
