@@ -192,10 +192,7 @@ fn rules_of<'a>(
     if rules.size != RULES_SIZE {
         return None;
     }
-    if !are_seconds(rules.leeway) {
-        return None;
-    }
-    if !are_seconds(rules.max_age) {
+    if !are_seconds(rules.leeway) || !are_seconds(rules.max_age) {
         return None;
     }
     let numbers = within_numbers(
