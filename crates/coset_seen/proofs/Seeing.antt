@@ -1,5 +1,6 @@
 -- Messages, as their types see them.
-use Rattle.std.proofs.Common.{◌≡◌, ◌≢◌, ℕ, ℤ, negsuc, List, [], ◌∷◌, Option, Some, None, Bool, true, false, true≢false, refl, sym, ap, subst, inl, inr}
+use Rattle.std.proofs.Common.{◌≡◌, ◌≢◌, ℕ, ℤ, negsuc, List, [], ◌∷◌, Option, Some, None, Bool, true, false, true≢false, refl}
+use Rattle.std.proofs.Common.{sym, ap, subst, inl, inr}
 use Rattle.std.specs.Prelude.{IfSome, is_some, option_map}
 use Rattle.coset.specs.Item.{Item, Items, Pairs, tag, array, item, no_items, bytes, dict, integer}
 use Rattle.coset.specs.Grammar.{IsItem}
@@ -22,7 +23,7 @@ use Rattle.coset_seen.specs.declared.kind.Kind as kinds
 use Rattle.coset_seen.specs.declared.kind.Kind.TheVariants.{Sign1, Mac0, Encrypt0}
 use Rattle.coset_seen.specs.Elements.{IsContent, IsProof, content_item, content_of, items_of, perhaps_tag}
 use Rattle.coset_seen.specs.Kinds.{tag_of}
-use Rattle.coset_seen.specs.Named.{AreNamed, IsHeader}
+use Rattle.coset_seen.specs.Named.{AreNamed, DescribesHeader, IsHeader}
 use Rattle.coset_seen.specs.Seen.{DescribesMessage, in_form}
 use Rattle.coset_seen.specs.Plain.{ArePlain}
 use Rattle.coset_seen.proofs.Ascending.{plain_view}
@@ -126,7 +127,7 @@ message_described Encrypt0 t b e us x u is_proof is d f =
 
 -- A plain header that was found.
 pub plain_header_found :
-    (b : List ℕ) (o : Option Named) → IfSome o (IsHeader b) → is_some o ≡ true → (k : ℕ) → (x : HeaderView) × Describes (layered_header k) b x
+    (b : List ℕ) (o : Option Named) → IfSome o (IsHeader b) → is_some o ≡ true → DescribesHeader b
 plain_header_found b None h t k = absurd (true≢false (sym t))
 plain_header_found b (Some n) h t k =
     let x = view_of k h.pairs n h.are_plain h.named in

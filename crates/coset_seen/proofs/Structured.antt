@@ -1,6 +1,6 @@
 -- The shortest encodings of structures.
-use Rattle.std.proofs.Common.{◌≡◌, ◌∙◌, ◌++◌, ◌∷◌, ◌<◌, ◌^◌, ◌⊎◌, ℕ, List, [], Option, Some, None, Result, Ok, Err, Bor, length, refl, sym}
-use Rattle.std.proofs.Common.{ap, subst, inl, inr, lit<}
+use Rattle.std.proofs.Common.{◌≡◌, ◌∙◌, ◌++◌, ◌∷◌, ◌<◌, ◌^◌, ◌⊎◌, ℕ, List, [], Option, Some, None, Result, Ok}
+use Rattle.std.proofs.Common.{Err, Bor, length, refl, sym, ap, subst, inl, inr, lit<}
 use Rattle.std.proofs.lemmas.List.{append_assoc, append-nil}
 use Rattle.std.specs.Str.{IsUtf8}
 use Rattle.coset.specs.Item.{Items, text}

@@ -1,6 +1,6 @@
 -- Reading plain pairs one after another.
-use Rattle.std.proofs.Common.{◌≡◌, ◌≢◌, ◌<ℤ◌, ◌++◌, ◌∙◌, ℕ, suc, ℤ, pos, negsuc, List, [], Option, Some, None, Bool, true, false, Bor, cond}
-use Rattle.std.proofs.Common.{inl, refl, sym, ap, subst, arith, FitsSigned}
+use Rattle.std.proofs.Common.{◌≡◌, ◌≢◌, ◌<ℤ◌, ◌++◌, ◌∙◌, ℕ, suc, ℤ, pos, negsuc, List, [], Option, Some, None, Bool}
+use Rattle.std.proofs.Common.{true, false, Bor, cond, inl, refl, sym, ap, subst, arith, FitsSigned}
 use Rattle.std.specs.Int.{w64}
 use Rattle.std.specs.Ordering.{int_eq}
 use Rattle.std.specs.Option.{option_or}

@@ -4,6 +4,8 @@ use Rattle.std.specs.Ordering.{int_eq}
 use Rattle.coset.specs.Item.{Item, Pairs, no_pairs, pair, bytes, integer, dict, pairs_count}
 use Rattle.coset.specs.Parts.{as_integer}
 use Rattle.coset.specs.Grammar.{ArePairEncodings, IsItem}
+use Rattle.coset.specs.Headers.{HeaderView, layered_header}
+use Rattle.coset.specs.Results.{Describes}
 use Rattle.coset_seen.specs.declared.header.Named.{Named}
 use Rattle.coset_seen.specs.declared.header.Parameter as parameters
 use Rattle.coset_seen.specs.declared.header.Parameter.TheVariants.{Algorithm, KeyId, Other}
@@ -80,3 +82,7 @@ pub record IsHeader (b : List ℕ) (n : Named) : Type 0 where
   pub are_plain : ArePlain (negsuc 0) pairs
   pub named : AreNamed pairs n
   pub placed : IfSome n.key_id (IsAhead b)
+
+-- The bytes describe a header, within any number of layers.
+abbrev pub DescribesHeader : List ℕ → Type 0
+DescribesHeader b = (k : ℕ) → (x : HeaderView) × Describes (layered_header k) b x

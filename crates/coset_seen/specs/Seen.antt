@@ -1,6 +1,6 @@
 -- Messages, seen in the bytes that encode them.
-use Rattle.std.specs.Prelude.{◌≡◌, ◌≢◌, ◌++◌, ◌⊎◌, ℕ, pos, negsuc, List, [], Option, Some, None, Bool, true, false, Result, Ok, Err, IfSome}
-use Rattle.std.specs.Prelude.{length, option_map, ⊤}
+use Rattle.std.specs.Prelude.{◌≡◌, ◌≢◌, ◌++◌, ◌⊎◌, ℕ, pos, negsuc, List, [], Option, Some, None, Bool, true, false, Result}
+use Rattle.std.specs.Prelude.{Ok, Err, IfSome, length, option_map, ⊤}
 use Rattle.std.specs.Borrow.{Bor}
 use Rattle.coset.specs.Item.{Pairs, no_pairs, array, bytes, dict, integer}
 use Rattle.coset.specs.Grammar.{IsItem}

@@ -2,10 +2,8 @@
 
 ghost use Rattle.std.specs.Prelude.{◌≡◌, ◌≢◌, ◌<ℤ◌, [], ℕ, IfSome, None, IsTrue, pos, negsuc};
 ghost use Rattle.coset.specs.Item.{Item, bytes, integer};
-ghost use Rattle.coset.specs.Headers.{HeaderView, layered_header};
-ghost use Rattle.coset.specs.Results.{Describes};
 ghost use Rattle.coset_seen.specs.Begins.{Begins, IsAhead};
-ghost use Rattle.coset_seen.specs.Named.{BeginsHeader, BeginsPlain, IsHeader, IsParameter, with_parameter};
+ghost use Rattle.coset_seen.specs.Named.{BeginsHeader, BeginsPlain, DescribesHeader, IsHeader, IsParameter, with_parameter};
 ghost use Rattle.coset_seen.specs.Plain.{IsPlainValue};
 
 use crate::forward::{Ahead, bytes_at, headed, integer_at, item_at};
@@ -191,7 +189,7 @@ pub(crate) fn whole_header(input: &[u8]) -> Option<Named<'_>>
 ///
 /// False doesn't mean that the header is invalid: the facade may decode it all the same.
 pub fn is_plain_header(input: &[u8]) -> bool
-    ensures { IsTrue result → (k : ℕ) → (x : HeaderView) × Describes (layered_header k) input.now x }
+    ensures { IsTrue result → DescribesHeader input.now }
 {
     whole_header(input).is_some()
 }

@@ -4,14 +4,14 @@
 //! are the calls:
 //!
 //! - `see KIND BYTES`: the fields of the message, or `none`. A part is `OFFSET:BYTES`.
-//! - `agree KIND BYTES`: `agrees` if the decoded message has the same fields. Otherwise `differs` and
-//!   the field, or `none` if the message isn't seen.
+//! - `agree KIND BYTES`: `agrees` if the decoded message has the same fields. Otherwise `differs`
+//!   and the field, or `none` if the message isn't seen.
 //! - `put KIND BYTES AAD DETACHED SIZE`: the structure, in memory of that many bytes `ee`.
 //! - `make KIND BYTES AAD DETACHED`: the structure as a vector.
 //! - `facade KIND BYTES AAD`: the structure that the decoded message makes.
 //! - `header BYTES`: `plain` if the bytes are a plain header, or `none`.
-//! - `covered BYTES ALG SIZE`: the result of the example `covered` for the algorithm of that number,
-//!   and the memory.
+//! - `covered BYTES ALG SIZE`: the result of the example `covered` for the algorithm of that
+//!   number, and the memory.
 //! - `texts SIZE BYTES BYTES BYTES`: the three byte strings, in memory of that many bytes `ee`.
 //!
 //! DETACHED is `none`, or the content that the message doesn't carry.
