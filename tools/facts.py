@@ -99,10 +99,11 @@ def texts_at(cell):
 
 def misplaced():
     """Yields the promises of PROVED whose contract isn't where the row says."""
-    for row in re.findall(r"^\| (.*) \|$", read("docs", "PROVED.md"), re.M):
-        cells = row.split(" | ")
-        if len(cells) != 3 or cells[2] == "Where":
-            continue
+    rows = [row.split(" | ") for row in re.findall(r"^\| (.*) \|$", read("docs", "PROVED.md"), re.M)]
+    promises = [cells for cells in rows if len(cells) == 3 and cells[2] != "Where"]
+    if not promises:
+        yield "PROVED has no promises"
+    for cells in promises:
         texts = dict(texts_at(cells[2]))
         if not texts:
             yield f"PROVED: {cells[2]} is no place"
@@ -144,6 +145,8 @@ def text_of(path):
 def wrong():
     """Yields what is wrong by these checks."""
     for page in pages():
+        if not read(page).strip():
+            yield f"{page} is empty"
         yield from astray(page)
     yield from unlike()
     yield from misplaced()
