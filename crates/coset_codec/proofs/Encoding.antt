@@ -19,6 +19,9 @@ use Rattle.coset_codec.specs.declared.error.CoseError.TheVariants.{DuplicateMapK
 pub extends-on : (a b c : List ℕ) → Extends a b → Extends b c → Extends a c
 extends-on a b c h k = (h.0 ++ k.0, k.1 ∙ (ap (λ x. x ++ k.0) h.1 ∙ append_assoc a h.0 k.0))
 
+pub extends-same : (a b : List ℕ) → b ≡ a → Extends a b
+extends-same a b e = ([], e ∙ sym (append-nil a))
+
 -- ---- arrays of elements
 
 pub nothing-put : (s : List ℕ) → AppendsElements (Some no_items) 0 s s

@@ -1,12 +1,12 @@
 -- Maps that are written pair by pair.
-use Rattle.std.proofs.Common.{◌≡◌, ℕ, suc, ℤ, ◌+◌, ◌<◌, ◌^◌, List, [], ◌∷◌, ◌++◌, map, take, drop, get_or, length, Bool, true, false, Option, Some, None}
+use Rattle.std.proofs.Common.{◌≡◌, ℕ, suc, ℤ, ◌+◌, ◌<◌, ◌≤◌, ◌^◌, List, [], ◌∷◌, ◌++◌, map, take, drop, get_or, length, Bool, true, false, Option, Some, None}
 use Rattle.std.proofs.Common.{option_map, refl, sym, ◌∙◌, ap, subst, append-nil, append_assoc, arith}
 use Rattle.std.specs.Prelude.{◌==◌, is_some, filter, not, Result, Ok, Err, OnOk, IfErr}
 use Rattle.std.proofs.lemmas.Grind.{common_steps}
-use Rattle.std.proofs.lemmas.List.{take_more, map_push, map-append, take-append-drop, length-append, length-map}
+use Rattle.std.proofs.lemmas.List.{take_all, take_more, map_push, map-append, take-append-drop, length-append, length-map}
 use Rattle.coset_value.specs.Item.{Item, integer, dict, Pairs, no_pairs, pair, pairs_count}
 use Rattle.coset_value.specs.Range.{ArePairsInRange}
-use Rattle.coset_cbor.specs.Least.{least_head, least_encoding, least_pair_encodings}
+use Rattle.coset_cbor.specs.Least.{Extends, least_head, least_encoding, least_pair_encodings}
 use Rattle.coset_codec.specs.declared.error.CoseError.{CoseError}
 use Rattle.coset_codec.specs.Encoding.{AppendsItem, AppendsImage, Encodes, HasNoImage, AppendsPairs, AppendsAll, AppendsField}
 use Rattle.coset_codec.specs.Maps.{MapLabels, field_shape_image, labelled_image, and_pairs, put_field, entries_image, is_nonempty}
@@ -239,6 +239,16 @@ pub row-none :
 row-none f value_item xs i x lt is e =
     ap (labelled_image f) (around (λ e. (e.0, value_item e.1)) xs i x lt is)
     ∙ labelled_image-none f (map (λ e. (e.0, value_item e.1)) (take i xs)) (map (λ e. (e.0, value_item e.1)) (drop (i + 1) xs)) x.0 (value_item x.1) e
+
+-- No pair is left.
+pub rows-done :
+    {L V : Type 0} (f : L → Option Item) (see : L × V → L × Item) (xs : List (L × V)) (i : ℕ) {old new : List ℕ} → length xs ≤ i
+    → AppendsAll (labelled_image f (map see (take i xs))) old new → AppendsAll (labelled_image f (map see xs)) old new
+rows-done f see xs i {old} {new} le p = subst (λ ys. AppendsAll (labelled_image f (map see ys)) old new) (take_all i xs le) p
+
+-- The pairs so far follow the old bytes.
+pub rows-kept : {o : Option Pairs} (old new : List ℕ) → AppendsAll o old new → Extends old new
+rows-kept old new p = (least_pair_encodings p.0, p.2.parts)
 
 pub label-added : {o : Option Item} {v : Item} {old mid new : List ℕ} → AppendsImage o old mid → AppendsItem mid new v
     → AppendsAll (both (λ k ps. pair k v ps) o (Some no_pairs)) old new

@@ -10,6 +10,7 @@ pub mod Distinct
 pub mod Encoding
 pub mod EncodingMaps
 pub mod Inputs
+pub mod Entered
 pub mod InPlace
 pub mod Apart
 pub mod AsWritten
