@@ -27,17 +27,14 @@ refused (Err f) e h = ap Err (sym h)
 pub failed : (k : KeyView) (l n : ℤ) (t : DataType) (e : ThumbprintError) → l ≡ n → IsResult member_view (member k (l, t)) (Err e) → member k (n, t) ≡ Err e
 failed k l n t e same h = subst (λ j. member k (j, t) ≡ Err e) same (refused (member k (l, t)) e h)
 
--- Two members that were found, and the third one.
-pub three : (k : KeyView) (a b d : Required) (x y : ℤ × Item) (r : Result (ℤ × Item) ThumbprintError) → member k a ≡ Ok x → member k b ≡ Ok y → member k d ≡ r
-    → members k (a ∷ b ∷ d ∷ []) ≡ then_on r (λ z. Ok (x ∷ y ∷ z ∷ []))
-three k a b d x y r first second third =
-    let last : members k (d ∷ []) ≡ then_on r (λ z. Ok (z ∷ [])) = λ i. then_on (third i) (λ z. Ok (z ∷ [])) in
-    (λ i. then_on (first i) (λ e. then_on (then_on (second i) (λ f. then_on (last i) (λ es. Ok (f ∷ es)))) (λ es. Ok (e ∷ es)))) ∙ third_of x y r
-  where
-    third_of : (x y : ℤ × Item) (r : Result (ℤ × Item) ThumbprintError)
-        → then_on (then_on (then_on r (λ z. Ok (z ∷ []))) (λ es. Ok (y ∷ es))) (λ es. Ok (x ∷ es)) ≡ then_on r (λ z. Ok (x ∷ y ∷ z ∷ []))
-    third_of x y (Ok z) = refl
-    third_of x y (Err e) = refl
+-- The last member, whether or not it was found.
+pub last : (k : KeyView) (m : Required) (r : Result (ℤ × Item) ThumbprintError) → member k m ≡ r → members k (m ∷ []) ≡ then_on r (λ x. Ok (x ∷ []))
+last k m r is = λ i. then_on (is i) (λ x. Ok (x ∷ []))
+
+-- A member that was found, before these.
+pub more : (k : KeyView) (m : Required) (ms : List Required) (x : ℤ × Item) (r : Result (List (ℤ × Item)) ThumbprintError) → member k m ≡ Ok x
+    → members k ms ≡ r → members k (m ∷ ms) ≡ then_on r (λ es. Ok (x ∷ es))
+more k m ms x r first others = λ i. then_on (first i) (λ y. then_on (others i) (λ es. Ok (y ∷ es)))
 
 -- ---- the result
 

@@ -21,8 +21,7 @@ ghost use Rattle.coset_claims.specs.SuppPub.{supp_pub_view};
 use crate::party::PartyInfo;
 use crate::supp_pub::SuppPubInfo;
 use coset_cbor::ser::{write_array_head, write_bytes};
-use coset_codec::read::{ArrayElements, Decoder};
-use coset_codec::traits::FromPull;
+use coset_codec::read::{ArrayElements, DecodeElements, Decoder, decode_array};
 use coset_codec::write::{Array, Encode};
 use coset_codec::{Codec, CoseError, ItemSource, Result};
 use coset_core::{Algorithm, RegisteredLabelWithPrivate, iana};
@@ -141,18 +140,37 @@ fn read_byte_strings(
     }
 }
 
-/// Reads an algorithm.
-#[tactic(auto, unfolding(coset_label::specs::Labels::algorithm))]
-fn read_algorithm(alloc: Global, input: &mut Decoder<'_>) -> Result<Algorithm>
-    ensures shrinks { length_left (state input.new) ≤ length_left (state input.old) }
-    ensures reads { ReadsAt (state input.old) (state input.new)
-        (λ v. Reads algorithm algorithm_view v result) }
-{
-    Algorithm::from_input(alloc, input)
+/// The byte strings of private information, up to the end of the array.
+#[derive(Drop)]
+struct SuppPrivInfo(Vec<Vec<u8>>);
+
+impl DecodeElements for SuppPrivInfo {
+    ghost use Rattle.std.specs.Prelude.{List, ℕ};
+    ghost use Rattle.coset_codec.specs.Shape.{any_number};
+    ghost use Rattle.coset_codec.specs.ShapeLaws.{any_number_laws, bstr_laws};
+
+    ghost View = { List (List ℕ) };
+
+    ghost view = { λ s. map (λ b. b.items) s.0.items };
+
+    ghost elements = { any_number bstr };
+
+    ghost fits = { (any_number_laws bstr bstr_laws).fits };
+
+    fn decode_elements(
+        alloc: Global,
+        array: &mut ArrayElements,
+        input: &mut Decoder<'_>,
+        _want: &'static str,
+    ) -> Result<SuppPrivInfo> {
+        let all = read_byte_strings(alloc, array, input);
+        array.finish(input);
+        Ok(SuppPrivInfo(all?))
+    }
 }
 
-/// The expected item, for the error of too few elements.
-const EXPECTED_ARRAY: &str = "array with at least 4 items";
+/// The elements of a context's array.
+type ContextElements = (Algorithm, (PartyInfo, (PartyInfo, (SuppPubInfo, SuppPrivInfo))));
 
 impl Codec for CoseKdfContext {
     ghost use Rattle.coset_codec.specs.EqDecides.{vec_decides, lists_decides};
@@ -177,27 +195,14 @@ impl Codec for CoseKdfContext {
     /// Reads the elements of a context in order. If there are too few elements, the error says so.
     /// Otherwise the error is the fault of the last element that has one.
     fn read(alloc: Global, input: &mut Decoder<'_>) -> Result<CoseKdfContext> {
-        let mut elements = input.enter_array("array")?;
-        elements.next_required(input, EXPECTED_ARRAY)?;
-        let algorithm_id = read_algorithm(alloc, input);
-        elements.next_required(input, EXPECTED_ARRAY)?;
-        let party_u_info = PartyInfo::read(alloc, input);
-        elements.next_required(input, EXPECTED_ARRAY)?;
-        let party_v_info = PartyInfo::read(alloc, input);
-        elements.next_required(input, EXPECTED_ARRAY)?;
-        let supp_pub_info = SuppPubInfo::read(alloc, input);
-        let supp_priv_info = read_byte_strings(alloc, &mut elements, input);
-        elements.finish(input);
-        let supp_priv_info = supp_priv_info?;
-        let supp_pub_info = supp_pub_info?;
-        let party_v_info = party_v_info?;
-        let party_u_info = party_u_info?;
+        let elements: ContextElements = decode_array(alloc, input, "array with at least 4 items")?;
+        let (algorithm_id, (party_u_info, (party_v_info, (supp_pub_info, private)))) = elements;
         Ok(CoseKdfContext {
-            algorithm_id: algorithm_id?,
+            algorithm_id,
             party_u_info,
             party_v_info,
             supp_pub_info,
-            supp_priv_info,
+            supp_priv_info: private.0,
         })
     }
 

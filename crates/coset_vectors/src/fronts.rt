@@ -26,21 +26,29 @@ fn is_end<T: Drop>(answer: Result<T>) -> bool {
     matches!(&answer, Err(CoseError::DecodeFailed(Error::Io(_))))
 }
 
+/// Returns true if the error is that other bytes follow the item.
+fn is_extraneous<T: Drop>(answer: Result<T>) -> bool {
+    matches!(&answer, Err(CoseError::ExtraneousData))
+}
+
+/// Returns true if the same item is at the front of both, or none.
+fn begin_alike(alloc: Global, bytes: &[u8], longer: &[u8]) -> Result<bool, AllocError> {
+    let (value, length) = first_item(alloc, bytes)?;
+    let (other, same) = first_item(alloc, longer)?;
+    Ok(value == other && length == same)
+}
+
 /// Returns what is wrong with these bytes followed by one more, or an empty text.
 fn followed<F: Form<T>, T: Drop>(alloc: Global, bytes: &[u8]) -> Result<String, AllocError> {
     let mut longer = Vec::from_slice(alloc, bytes)?;
     longer.push(0)?;
-    let straight: Result<T> = F::read(alloc, &longer);
-    if !matches!(&straight, Err(CoseError::ExtraneousData)) {
+    if !is_extraneous(F::read(alloc, &longer)) {
         return String::from_str(alloc, "a byte behind isn't extraneous");
     }
-    let (value, length) = first_item(alloc, bytes)?;
-    let (other, same) = first_item(alloc, &longer)?;
-    if value == other && length == same {
-        Ok(String::new(alloc))
-    } else {
-        String::from_str(alloc, "a byte behind changes the item")
+    if !begin_alike(alloc, bytes, &longer)? {
+        return String::from_str(alloc, "a byte behind changes the item");
     }
+    Ok(String::new(alloc))
 }
 
 /// Returns the item at the front of the bytes and its length, or `None` and 0 if there is none.

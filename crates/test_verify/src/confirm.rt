@@ -72,9 +72,6 @@ pub fn possessed(alloc: Global, words: &Words<'_>) -> Result<String> {
     mark::begin(alloc);
     let answer = check_possession(alloc, &token, &ciphers, &challenge, &proof);
     mark::end(alloc);
-    let text = match answer {
-        Ok(()) => String::from_str(alloc, "ok")?,
-        Err(error) => format!(in alloc; "{error:?}")?,
-    };
+    let text = told::possession(alloc, &answer)?;
     ciphers.behind(alloc, text)
 }

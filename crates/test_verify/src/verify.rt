@@ -54,12 +54,33 @@ use crate::verify::ciphers::Faked;
 use crate::verify::keys::Scripted;
 use crate::verify::told::told;
 use coset::{CborSerializable, CoseError, CoseKey, CoseKeySet, Header, ProtectedHeader, Result};
-use cwt_keys::Sealed;
+use cwt_keys::{Keys, Sealed};
 use cwt_ring::{Issuer, KeyRing, fits, keys_from_slice};
 use cwt_verify::verify_token;
 use std::alloc::Global;
+use std::fmt::{Debug, Display};
 use test_lines::words::{Words, bytes, index};
 use test_lines::{mark, tell};
+
+/// Returns what [`told`] says of a token that these keys verify. `policy` is a word.
+///
+/// # Errors
+/// - A fault in the word.
+/// - `OutOfMemory` if an allocation fails.
+fn verified<E: Debug + Display + Drop, K: Keys<Error = E>>(
+    alloc: Global,
+    policy: &str,
+    keys: &K,
+    token: &[u8],
+    now: i64,
+) -> Result<String> {
+    let changes = Changes::of(alloc, policy)?;
+    let policy = changes.policy();
+    mark::begin(alloc);
+    let answer = verify_token(alloc, &policy, keys, token, now);
+    mark::end(alloc);
+    told(alloc, answer)
+}
 
 /// Verifies a token with keys whose answers the line gives.
 ///
@@ -67,15 +88,10 @@ use test_lines::{mark, tell};
 /// - A fault in the arguments.
 /// - `OutOfMemory` if an allocation fails.
 pub fn by_scripted_keys(alloc: Global, words: &Words<'_>) -> Result<String> {
-    let keys = Scripted::new(alloc, words.word(1))?;
     let now = words.number(2)?;
-    let changes = Changes::of(alloc, words.word(3))?;
     let token = words.bytes(alloc, 4)?;
-    let policy = changes.policy();
-    mark::begin(alloc);
-    let answer = verify_token(alloc, &policy, &keys, &token, now);
-    mark::end(alloc);
-    let text = told(alloc, answer)?;
+    let keys = Scripted::new(alloc, words.word(1))?;
+    let text = verified(alloc, words.word(3), &keys, &token, now)?;
     keys.behind(alloc, text)
 }
 
@@ -124,20 +140,15 @@ impl<'a> Sets<'a> {
 /// - A fault in the arguments.
 /// - `OutOfMemory` if an allocation fails.
 pub fn by_a_ring(alloc: Global, words: &Words<'_>) -> Result<String> {
+    let now = words.number(3)?;
+    let token = words.bytes(alloc, 5)?;
     let sets = Sets::of(alloc, words.word(1))?;
     let issuers = sets.issuers(alloc)?;
     let ring = KeyRing {
         issuers: &issuers,
         ciphers: Faked::new(alloc, words.word(2))?,
     };
-    let now = words.number(3)?;
-    let changes = Changes::of(alloc, words.word(4))?;
-    let token = words.bytes(alloc, 5)?;
-    let policy = changes.policy();
-    mark::begin(alloc);
-    let answer = verify_token(alloc, &policy, &ring, &token, now);
-    mark::end(alloc);
-    let text = told(alloc, answer)?;
+    let text = verified(alloc, words.word(4), &ring, &token, now)?;
     ring.ciphers.behind(alloc, text)
 }
 
@@ -153,38 +164,55 @@ fn zeros(alloc: Global, len: usize) -> Result<Vec<u8>> {
     Ok(zeros)
 }
 
+/// Returns the nonce by which a key fits a layer, or `no`.
+///
+/// # Errors
+/// `OutOfMemory` if an allocation fails.
+fn fitting(alloc: Global, key: &CoseKey, sealed: &Sealed<'_>) -> Result<String> {
+    mark::begin(alloc);
+    let answer = fits(key, sealed);
+    mark::end(alloc);
+    match answer {
+        Some(nonce) => tell::hexadecimal(alloc, nonce.as_slice()),
+        None => Ok(String::from_str(alloc, "no")?),
+    }
+}
+
+/// Returns the recipient's header that the last word gives, if it gives one.
+///
+/// # Errors
+/// - A fault in the word.
+/// - `OutOfMemory` if an allocation fails.
+fn recipient(alloc: Global, words: &Words<'_>) -> Result<Option<Header>> {
+    if words.word(6).is_empty() {
+        return Ok(None);
+    }
+    Ok(Some(words.value(alloc, 6)?))
+}
+
 /// Says by which nonce a key fits a layer.
 ///
 /// # Errors
 /// - A fault in the arguments.
 /// - `OutOfMemory` if an allocation fails.
 pub fn fit(alloc: Global, words: &Words<'_>) -> Result<String> {
+    let form = forms::read(words.word(2))?;
+    let proof = zeros(alloc, index(words.word(5))?)?;
     let key: CoseKey = words.value(alloc, 1)?;
+    let header: Header = words.value(alloc, 3)?;
+    let unprotected: Header = words.value(alloc, 4)?;
+    let recipient = recipient(alloc, words)?;
     let protected = ProtectedHeader {
         original_data: None,
-        header: words.value(alloc, 3)?,
+        header,
     };
-    let unprotected: Header = words.value(alloc, 4)?;
-    let proof = zeros(alloc, index(words.word(5))?)?;
-    let recipient: Option<Header> = if words.word(6).is_empty() {
-        None
-    } else {
-        Some(words.value(alloc, 6)?)
-    };
-    let form = forms::read(words.word(2))?;
     let sealed = match &recipient {
         Some(recipient) => {
             Sealed::for_recipient(form, &protected, &unprotected, &proof, &[], recipient)
         }
         None => Sealed::new(form, &protected, &unprotected, &proof, &[]),
     };
-    mark::begin(alloc);
-    let answer = fits(&key, &sealed);
-    mark::end(alloc);
-    match answer {
-        Some(nonce) => tell::hexadecimal(alloc, nonce.as_slice()),
-        None => Ok(String::from_str(alloc, "no")?),
-    }
+    fitting(alloc, &key, &sealed)
 }
 
 /// Reads the keys of a set that can be read.

@@ -2,9 +2,10 @@ use Rattle.std.proofs.Common.{◌≡◌, option_map, map, take, drop, ◌+◌, �
 use Rattle.std.proofs.lemmas.List.{length-map}
 use Rattle.coset_value.specs.Item.{bytes}
 use Rattle.coset_iana.specs.declared.headers.HeaderParameter.TheVariants.{CounterSignature, CounterSignatureV2}
-use Rattle.coset_cbor.specs.Least.{least_head}
+use Rattle.coset_cbor.specs.Least.{least_head, least_encoding}
 use Rattle.coset_codec.specs.Encoding.{AppendsItem, AppendsImage, Encodes}
 use Rattle.coset_codec.specs.Shape.{bstr}
+use Rattle.coset_codec.proofs.Encoding.{extends-on, extends-same}
 use Rattle.coset_codec.proofs.EncodingMaps.{optional-view}
 use Rattle.coset_core.specs.Headers.{header_image, signatures_image, signatures_of, fields_in, counter_signatures_in, countersignatures_in}
 use Rattle.coset_core.specs.ViewLaws.{countersignature_level, countersignature-opened, header_level, header-opened, signature_level, signature-opened}
@@ -158,3 +159,105 @@ countersignature::write_each_countersignature-loop-signature-preserved t c =
     (sym (taken countersignature_view ss i s (omega arith) c.signature-item.is))
     (signatures-push (map countersignature_view (take i ss)) (countersignature_view s) _ _ _ c.loop-signature.invariant
     c.in_ok-write_countersignature.ensures.written)
+
+-- ---- the old bytes are kept
+
+pub header::writing::write_header-returns-in_err-write_fields-clause-kept : goal.header::writing::write_header-returns-in_err-write_fields-clause-kept
+header::writing::write_header-returns-in_err-write_fields-clause-kept t c =
+    extends-on c.args.out.now.items c.write_head.new.out.items _ c.in_ok-write_head.ensures.kept c.in_err-write_fields.ensures.kept
+
+pub header::writing::write_header-returns-in_err-write_counter_signatures-clause-kept : goal.header::writing::write_header-returns-in_err-write_counter_signatures-clause-kept
+header::writing::write_header-returns-in_err-write_counter_signatures-clause-kept t c =
+    extends-on c.args.out.now.items c.write_head.new.out.items _ c.in_ok-write_head.ensures.kept
+    (extends-on _ c.write_fields.new.out.items _ c.in_ok-write_fields.ensures.kept c.in_err-write_counter_signatures.ensures.kept)
+
+pub header::writing::write_header-returns-in_err-write_countersignatures-clause-kept : goal.header::writing::write_header-returns-in_err-write_countersignatures-clause-kept
+header::writing::write_header-returns-in_err-write_countersignatures-clause-kept t c =
+    extends-on c.args.out.now.items c.write_head.new.out.items _ c.in_ok-write_head.ensures.kept
+    (extends-on _ c.write_fields.new.out.items _ c.in_ok-write_fields.ensures.kept
+    (extends-on _ c.write_counter_signatures.new.out.items _ c.in_ok-write_counter_signatures.ensures.kept c.in_err-write_countersignatures.ensures.kept))
+
+pub header::writing::write_header-returns-in_err-write_optional-clause-kept : goal.header::writing::write_header-returns-in_err-write_optional-clause-kept
+header::writing::write_header-returns-in_err-write_optional-clause-kept t c =
+    extends-on c.args.out.now.items c.write_head.new.out.items _ c.in_ok-write_head.ensures.kept
+    (extends-on _ c.write_fields.new.out.items _ c.in_ok-write_fields.ensures.kept
+    (extends-on _ c.write_counter_signatures.new.out.items _ c.in_ok-write_counter_signatures.ensures.kept
+    (extends-on _ c.write_countersignatures.new.out.items _ c.in_ok-write_countersignatures.ensures.kept c.in_err-write_optional.ensures.kept)))
+
+pub header::writing::write_header-returns-clause-kept : goal.header::writing::write_header-returns-clause-kept
+header::writing::write_header-returns-clause-kept t c =
+    extends-on c.args.out.now.items c.write_head.new.out.items _ c.in_ok-write_head.ensures.kept
+    (extends-on _ c.write_fields.new.out.items _ c.in_ok-write_fields.ensures.kept
+    (extends-on _ c.write_counter_signatures.new.out.items _ c.in_ok-write_counter_signatures.ensures.kept
+    (extends-on _ c.write_countersignatures.new.out.items _ c.in_ok-write_countersignatures.ensures.kept
+    (extends-on _ c.write_optional.new.out.items _ c.in_ok-write_optional.ensures.kept c.write_rest.ensures.kept))))
+
+pub header::writing::write_counter_signatures-returns-in_err-write_counter_signatures_head-clause-kept : goal.header::writing::write_counter_signatures-returns-in_err-write_counter_signatures_head-clause-kept
+header::writing::write_counter_signatures-returns-in_err-write_counter_signatures_head-clause-kept t c =
+    extends-on c.args.out.now.items c.write_parameter.new.out.items _ c.in_ok-write_parameter.ensures.kept c.in_err-write_counter_signatures_head.ensures.kept
+
+pub header::writing::write_counter_signatures-returns-in_err-write_signatures-clause-kept : goal.header::writing::write_counter_signatures-returns-in_err-write_signatures-clause-kept
+header::writing::write_counter_signatures-returns-in_err-write_signatures-clause-kept t c =
+    extends-on c.args.out.now.items c.write_parameter.new.out.items _ c.in_ok-write_parameter.ensures.kept
+    (extends-on _ c.write_counter_signatures_head.new.out.items _ c.in_ok-write_counter_signatures_head.ensures.kept c.in_err-write_signatures.ensures.kept)
+
+pub header::writing::write_counter_signatures-returns-clause-kept : goal.header::writing::write_counter_signatures-returns-clause-kept
+header::writing::write_counter_signatures-returns-clause-kept t c =
+    extends-on c.args.out.now.items c.write_parameter.new.out.items _ c.in_ok-write_parameter.ensures.kept
+    (extends-on _ c.write_counter_signatures_head.new.out.items _ c.in_ok-write_counter_signatures_head.ensures.kept c.in_ok-write_signatures.ensures.kept)
+
+pub header::writing::write_countersignatures-returns-in_err-write_counter_signatures_head-clause-kept : goal.header::writing::write_countersignatures-returns-in_err-write_counter_signatures_head-clause-kept
+header::writing::write_countersignatures-returns-in_err-write_counter_signatures_head-clause-kept t c =
+    extends-on c.args.out.now.items c.write_parameter.new.out.items _ c.in_ok-write_parameter.ensures.kept c.in_err-write_counter_signatures_head.ensures.kept
+
+pub header::writing::write_countersignatures-returns-in_err-write_each_countersignature-clause-kept : goal.header::writing::write_countersignatures-returns-in_err-write_each_countersignature-clause-kept
+header::writing::write_countersignatures-returns-in_err-write_each_countersignature-clause-kept t c =
+    extends-on c.args.out.now.items c.write_parameter.new.out.items _ c.in_ok-write_parameter.ensures.kept
+    (extends-on _ c.write_counter_signatures_head.new.out.items _ c.in_ok-write_counter_signatures_head.ensures.kept c.in_err-write_each_countersignature.ensures.kept)
+
+pub header::writing::write_countersignatures-returns-clause-kept : goal.header::writing::write_countersignatures-returns-clause-kept
+header::writing::write_countersignatures-returns-clause-kept t c =
+    extends-on c.args.out.now.items c.write_parameter.new.out.items _ c.in_ok-write_parameter.ensures.kept
+    (extends-on _ c.write_counter_signatures_head.new.out.items _ c.in_ok-write_counter_signatures_head.ensures.kept c.in_ok-write_each_countersignature.ensures.kept)
+
+pub signature::write_signature-returns-in_err-write_protected-clause-kept : goal.signature::write_signature-returns-in_err-write_protected-clause-kept
+signature::write_signature-returns-in_err-write_protected-clause-kept t c =
+    extends-on c.args.out.now.items c.write_array_head.new.out.items _ (least_head 4 3, c.in_ok-write_array_head.ensures.ok) c.in_err-write_protected.ensures.kept
+
+pub signature::write_signature-returns-in_err-write_header-clause-kept : goal.signature::write_signature-returns-in_err-write_header-clause-kept
+signature::write_signature-returns-in_err-write_header-clause-kept t c =
+    extends-on c.args.out.now.items c.write_array_head.new.out.items _ (least_head 4 3, c.in_ok-write_array_head.ensures.ok)
+    (extends-on _ c.write_protected.new.out.items _ c.in_ok-write_protected.ensures.kept c.in_err-write_header.ensures.kept)
+
+pub signature::write_signature-returns-in_err-write_bytes-clause-kept : goal.signature::write_signature-returns-in_err-write_bytes-clause-kept
+signature::write_signature-returns-in_err-write_bytes-clause-kept t c =
+    extends-on c.args.out.now.items c.write_array_head.new.out.items _ (least_head 4 3, c.in_ok-write_array_head.ensures.ok)
+    (extends-on _ c.write_protected.new.out.items _ c.in_ok-write_protected.ensures.kept
+    (extends-on _ c.write_header.new.out.items _ c.in_ok-write_header.ensures.kept (extends-same _ _ c.in_err-write_bytes.ensures.refused)))
+
+pub signature::write_signature-returns-clause-kept : goal.signature::write_signature-returns-clause-kept
+signature::write_signature-returns-clause-kept t c =
+    extends-on c.args.out.now.items c.write_array_head.new.out.items _ (least_head 4 3, c.in_ok-write_array_head.ensures.ok)
+    (extends-on _ c.write_protected.new.out.items _ c.in_ok-write_protected.ensures.kept
+    (extends-on _ c.write_header.new.out.items _ c.in_ok-write_header.ensures.kept (least_encoding (bytes c.deref.result.now), c.in_ok-write_bytes.ensures.ok)))
+
+pub countersignature::write_countersignature-returns-in_err-write_protected-clause-kept : goal.countersignature::write_countersignature-returns-in_err-write_protected-clause-kept
+countersignature::write_countersignature-returns-in_err-write_protected-clause-kept t c =
+    extends-on c.args.out.now.items c.write_array_head.new.out.items _ (least_head 4 3, c.in_ok-write_array_head.ensures.ok) c.in_err-write_protected.ensures.kept
+
+pub countersignature::write_countersignature-returns-in_err-write_header-clause-kept : goal.countersignature::write_countersignature-returns-in_err-write_header-clause-kept
+countersignature::write_countersignature-returns-in_err-write_header-clause-kept t c =
+    extends-on c.args.out.now.items c.write_array_head.new.out.items _ (least_head 4 3, c.in_ok-write_array_head.ensures.ok)
+    (extends-on _ c.write_protected.new.out.items _ c.in_ok-write_protected.ensures.kept c.in_err-write_header.ensures.kept)
+
+pub countersignature::write_countersignature-returns-in_err-write_bytes-clause-kept : goal.countersignature::write_countersignature-returns-in_err-write_bytes-clause-kept
+countersignature::write_countersignature-returns-in_err-write_bytes-clause-kept t c =
+    extends-on c.args.out.now.items c.write_array_head.new.out.items _ (least_head 4 3, c.in_ok-write_array_head.ensures.ok)
+    (extends-on _ c.write_protected.new.out.items _ c.in_ok-write_protected.ensures.kept
+    (extends-on _ c.write_header.new.out.items _ c.in_ok-write_header.ensures.kept (extends-same _ _ c.in_err-write_bytes.ensures.refused)))
+
+pub countersignature::write_countersignature-returns-clause-kept : goal.countersignature::write_countersignature-returns-clause-kept
+countersignature::write_countersignature-returns-clause-kept t c =
+    extends-on c.args.out.now.items c.write_array_head.new.out.items _ (least_head 4 3, c.in_ok-write_array_head.ensures.ok)
+    (extends-on _ c.write_protected.new.out.items _ c.in_ok-write_protected.ensures.kept
+    (extends-on _ c.write_header.new.out.items _ c.in_ok-write_header.ensures.kept (least_encoding (bytes c.deref.result.now), c.in_ok-write_bytes.ensures.ok)))

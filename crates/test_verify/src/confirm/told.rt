@@ -3,7 +3,25 @@
 use coset::{CborSerializable, Result};
 use cwt_confirm::{Confirmation, ConfirmationError, EncryptedKey, NonceError};
 use std::alloc::Global;
+use std::fmt::Debug;
 use test_lines::tell::hexadecimal;
+
+/// Returns the kind of the confirmation and its bytes.
+///
+/// # Errors
+/// `OutOfMemory` if an allocation fails.
+fn kind_and_bytes(alloc: Global, confirmation: Confirmation) -> Result<(&'static str, Vec<u8>)> {
+    match confirmation {
+        Confirmation::Key(key) => Ok(("key", key.to_vec(alloc)?)),
+        Confirmation::EncryptedKey(EncryptedKey::Encrypt(message)) => {
+            Ok(("encrypt", message.to_vec(alloc)?))
+        }
+        Confirmation::EncryptedKey(EncryptedKey::Encrypt0(message)) => {
+            Ok(("encrypt0", message.to_vec(alloc)?))
+        }
+        Confirmation::KeyId(key_id) => Ok(("kid", key_id)),
+    }
+}
 
 /// Returns the kind of the confirmation and its bytes, or both texts of the reason against it.
 ///
@@ -13,20 +31,26 @@ pub fn confirmation(
     alloc: Global,
     answer: std::result::Result<Option<Confirmation>, ConfirmationError>,
 ) -> Result<String> {
-    let (kind, bytes) = match answer {
-        Ok(None) => return Ok(String::from_str(alloc, "none")?),
-        Ok(Some(Confirmation::Key(key))) => ("key", key.to_vec(alloc)?),
-        Ok(Some(Confirmation::EncryptedKey(EncryptedKey::Encrypt(message)))) => {
-            ("encrypt", message.to_vec(alloc)?)
+    match answer {
+        Ok(None) => Ok(String::from_str(alloc, "none")?),
+        Ok(Some(confirmation)) => {
+            let (kind, bytes) = kind_and_bytes(alloc, confirmation)?;
+            let bytes = hexadecimal(alloc, &bytes)?;
+            Ok(format!(in alloc; "{kind} {bytes}")?)
         }
-        Ok(Some(Confirmation::EncryptedKey(EncryptedKey::Encrypt0(message)))) => {
-            ("encrypt0", message.to_vec(alloc)?)
-        }
-        Ok(Some(Confirmation::KeyId(key_id))) => ("kid", key_id),
-        Err(error) => return Ok(format!(in alloc; "{error:?}; {error}")?),
-    };
-    let bytes = hexadecimal(alloc, &bytes)?;
-    Ok(format!(in alloc; "{kind} {bytes}")?)
+        Err(error) => Ok(format!(in alloc; "{error:?}; {error}")?),
+    }
+}
+
+/// Returns `ok`, or the reason against a proof of possession.
+///
+/// # Errors
+/// `OutOfMemory` if an allocation fails.
+pub fn possession<E: Debug>(alloc: Global, answer: &std::result::Result<(), E>) -> Result<String> {
+    match answer {
+        Ok(()) => Ok(String::from_str(alloc, "ok")?),
+        Err(error) => Ok(format!(in alloc; "{error:?}")?),
+    }
 }
 
 /// Returns each nonce, or both texts of the reason against them.
