@@ -4,6 +4,7 @@ pub use Rattle.coset_value.specs.View
 pub use Rattle.coset_value.specs.Parts
 pub use Rattle.coset_value.specs.Range
 pub use Rattle.coset_cbor.specs.Grammar
+pub use Rattle.coset_cbor.specs.Least
 pub use Rattle.coset_cbor.specs.Shortest
 pub use Rattle.coset_cbor.specs.Prefixes
 pub use Rattle.coset_cbor.specs.ReadErrors
@@ -11,6 +12,8 @@ pub use Rattle.coset_cbor.specs.Heads
 pub use Rattle.coset_cbor.specs.ReadHeads
 pub use Rattle.coset_cbor.specs.Pulls
 pub use Rattle.coset_codec.specs.Errors
+pub use Rattle.coset_codec.specs.EqDecides
+pub use Rattle.coset_codec.specs.Inputs
 pub use Rattle.coset_codec.specs.Shape
 pub use Rattle.coset_codec.specs.ShapeLaws
 pub use Rattle.coset_codec.specs.PerhapsTagged
@@ -65,6 +68,7 @@ pub use Rattle.coset_cbor.specs.Cursors
 pub use Rattle.coset_iana.specs.EnumI64
 pub use Rattle.coset_iana.specs.WithPrivateRange
 pub use Rattle.coset_iana.specs.Registry
+pub use Rattle.coset_label.specs.Sorted
 pub use Rattle.coset_label.specs.Orderings
 pub use Rattle.coset_codec.specs.Serialized
 pub use Rattle.coset_cbor.specs.declared.de.Error
@@ -74,11 +78,13 @@ pub use Rattle.coset_cbor.specs.declared.head.MajorType
 pub use Rattle.coset_codec.specs.declared.error.CoseError
 pub use Rattle.coset_codec.specs.declared.error.CallError
 pub use Rattle.coset_label.specs.declared.label.Label
+pub use Rattle.coset_label.specs.declared.ordering.CborOrdering
 pub use Rattle.coset_label.specs.declared.registered.RegisteredLabel
 pub use Rattle.coset_label.specs.declared.registered.RegisteredLabelWithPrivate
 pub use Rattle.coset_core.specs.declared.countersignature.CoseCountersignature
 pub use Rattle.coset_core.specs.declared.header.Header
 pub use Rattle.coset_core.specs.declared.protected.ProtectedHeader
+pub use Rattle.coset_core.specs.declared.protected_bstr.ProtectedBstr
 pub use Rattle.coset_core.specs.declared.signature.CoseSignature
 pub use Rattle.coset_sign.specs.declared.signature.SignatureContext
 pub use Rattle.coset_sign.specs.declared.sign1.CoseSign1

@@ -1,4 +1,6 @@
-//! IANA's registries for COSE and CBOR web tokens, as enums.
+//! IANA's registries for COSE, CBOR web tokens, CBOR tags and CoAP content formats, as enums.
+//!
+//! Only the numbers of [`KeyOperation`] are from no registry, but from RFC 8152, section 7.1.
 
 pub use coset_iana::{
     ALGORITHM_PRIVATE_USE_MAX, AkpKeyParameter, Algorithm, CWT_CLAIM_PRIVATE_USE_MAX, CborTag,

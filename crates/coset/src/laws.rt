@@ -1,5 +1,5 @@
-//! Laws of the library. Each law is the contract of an empty function. A proof uses a law by
-//! calling its function.
+//! Laws of the library. Each law is the contract of a function without effects. A proof uses a law
+//! by calling its function.
 
 pub use coset_cbor::laws::{
     borrowed_chunks, borrowed_elements, borrowed_item, least_encoding_is_shortest,

@@ -43,6 +43,10 @@ const CLAIM: usize = 8;
 ///     * (int / tstr) => any
 /// }
 /// ```
+///
+/// The number of another claim must be registered or for private use (RFC 8392, section 9.1).
+/// Reading refuses other numbers with `UnregisteredIanaNonPrivateValue`. It refuses an array of
+/// audiences with `UnexpectedItem`. [`ClaimsSet::known_from_slice`] reads both.
 #[derive(Debug, Drop, PartialEq, Eq)]
 pub struct ClaimsSet {
     /// The issuer of the token (claim 1).
@@ -311,8 +315,8 @@ impl ClaimsSet {
     }
 }
 
-/// Builds a [`ClaimsSet`], claim by claim. Contracts see it as the claims set that
-/// [`build`](ClaimsSetBuilder::build) returns.
+/// Builds a [`ClaimsSet`], claim by claim. Contracts see the builder as the claims set
+/// that [`build`](ClaimsSetBuilder::build) returns.
 #[derive(Drop)]
 pub struct ClaimsSetBuilder(ClaimsSet);
 

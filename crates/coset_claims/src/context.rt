@@ -297,8 +297,8 @@ impl CoseKdfContext {
     }
 }
 
-/// Builds a [`CoseKdfContext`], part by part. Contracts see it as the context that
-/// [`build`](CoseKdfContextBuilder::build) returns.
+/// Builds a [`CoseKdfContext`], part by part. Contracts see the builder as the context
+/// that [`build`](CoseKdfContextBuilder::build) returns.
 #[derive(Debug, Drop)]
 pub struct CoseKdfContextBuilder(CoseKdfContext);
 

@@ -20,6 +20,8 @@ use std::marker::Model;
 /// ```cddl
 /// nonce = bstr / int
 /// ```
+///
+/// Reading refuses an integer outside the range of `i64`, with `OutOfRangeIntegerValue`.
 #[derive(Debug, Drop)]
 pub enum Nonce {
     /// A byte string.
@@ -280,8 +282,8 @@ impl PartyInfo {
     }
 }
 
-/// Builds a [`PartyInfo`], field by field. Contracts see it as the party that
-/// [`build`](PartyInfoBuilder::build) returns.
+/// Builds a [`PartyInfo`], field by field. Contracts see the builder as the party
+/// that [`build`](PartyInfoBuilder::build) returns.
 #[derive(Debug, Drop)]
 pub struct PartyInfoBuilder(PartyInfo);
 

@@ -145,8 +145,8 @@ impl SuppPubInfo {
     }
 }
 
-/// Builds a [`SuppPubInfo`], field by field. Contracts see it as the information that
-/// [`build`](SuppPubInfoBuilder::build) returns.
+/// Builds a [`SuppPubInfo`], field by field. Contracts see the builder as the information
+/// that [`build`](SuppPubInfoBuilder::build) returns.
 #[derive(Debug, Drop)]
 pub struct SuppPubInfoBuilder(SuppPubInfo);
 
@@ -189,7 +189,10 @@ impl SuppPubInfoBuilder {
         self
     }
 
-    /// Sets the protected header to `header`. It wasn't read, so it has no kept bytes.
+    /// Sets the protected header to `header`. It counts as not read, so it has no kept bytes.
+    ///
+    /// For a recipient that was read, set the field `protected` of the built information instead.
+    /// It then keeps the received bytes.
     pub fn protected(mut self, header: Header) -> SuppPubInfoBuilder
         ensures { supp_pub_view result ≡ record
             (supp_pub_view self) { protected = unread (header_view header) } }

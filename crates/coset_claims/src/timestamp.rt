@@ -23,6 +23,8 @@ use std::fmt;
 /// ```cddl
 /// timestamp = int / float     ; the seconds of a tag 1, without the tag
 /// ```
+///
+/// Reading refuses an integer outside the range of `i64`, with `OutOfRangeIntegerValue`.
 #[derive(Debug, Drop)]
 pub enum Timestamp {
     /// Whole seconds, which are negative before 1970.
@@ -67,10 +69,11 @@ impl Codec for Timestamp {
     }
 }
 
-/// Writes the moment in UTC in the form of RFC 3339 (section 5.6): `2013-03-21T20:04:00Z`. A float
-/// is written with microseconds: `2015-10-04T07:49:04.500000Z`. A moment outside the years 1 to
-/// 9999 is written as the number of seconds: `-62135596801 seconds since 1970`. So is a float that
-/// is no moment.
+/// Writes the moment in UTC in the form of RFC 3339 (section 5.6): `2013-03-21T20:04:00Z`.
+///
+/// A float is written with microseconds: `2015-10-04T07:49:04.500000Z`. A moment outside the years
+/// 1 to 9999 is written as the number of seconds: `-62135596801 seconds since 1970`. So is a float
+/// that is no moment. The contract specifies only the texts of whole seconds.
 impl fmt::Display for Timestamp {
     ghost use Rattle.coset_claims.specs.Dates.{timestamp_output};
 

@@ -7,11 +7,12 @@ ghost use Rattle.coset_core.specs.Calls.{CallsWith, TriesToCreate};
 
 use coset_codec::{CallError, Result};
 
-/// Calls `f` with `bytes` and a structure, in this order, such as a signature and the bytes that it
-/// is over. Calls `f` once if the structure could be made, and not at all otherwise.
+/// Calls `f` with `bytes` and `structure`, in this order, and returns its result. For example,
+/// `bytes` is a signature, and `structure` is the bytes that it is over. If `structure` is an
+/// error, `f` isn't called.
 ///
 /// # Errors
-/// - The error in `structure`.
+/// - `Coset` with the error in `structure`, if it is one.
 /// - `Caller` with the error that `f` returns.
 pub fn call_with<F, U, E>(bytes: &[u8], structure: Result<Vec<u8>>, f: F) -> Result<U, CallError<E>>
 where
@@ -32,7 +33,7 @@ where
 /// structure could be made, and not at all otherwise.
 ///
 /// # Errors
-/// - The error in `structure`.
+/// - `Coset` with the error in `structure`, if it is one.
 /// - `Caller` with the error that `f` returns.
 pub fn create_with<F, V, E>(structure: Result<Vec<u8>>, f: F) -> Result<V, CallError<E>>
 where

@@ -113,7 +113,7 @@ impl Eq for CoseCountersignature {
     ghost laws = { on_equiv countersignature_view signature_eq_equiv };
 }
 
-/// The same as [`CoseCountersignature::clone`], for generic code.
+/// The same as [`CoseCountersignature::clone`] for generic code, but the error is `AllocError`.
 impl Clone for CoseCountersignature {
     ghost is_clone = { λ signed copy. countersignature_view copy ≡ countersignature_view signed };
 

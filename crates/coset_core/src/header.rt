@@ -51,7 +51,7 @@ const PAIR: usize = 8;
 /// The maximum number of protected headers' byte strings inside one another.
 pub(crate) const LAYERS: usize = 16;
 
-/// A header (RFC 8152, section 3.1).
+/// A header (RFC 8152, sections 3 and 3.1; RFC 9338, section 2).
 ///
 /// ```cddl
 /// header_map = { Generic_Headers, * label => values }
@@ -68,6 +68,15 @@ pub(crate) const LAYERS: usize = 16;
 ///     ? 12 => bstr                                   ; an abbreviated one of version 2
 /// )
 /// ```
+///
+/// Decoding is stricter than this CDDL:
+///
+/// - An integer under labels 1 to 3 must be registered. Under labels 1 and 2 it may be for private
+///   use.
+/// - A content type that is a text must have the form of a media type.
+/// - The byte strings of labels 4 to 6 must not be empty.
+/// - Labels 5 and 6 must not both be there.
+/// - At most 16 protected headers may be inside one another, as those of counter signatures can be.
 #[cycle(header)]
 #[derive(Debug)]
 pub struct Header {
@@ -89,7 +98,8 @@ pub struct Header {
     pub countersignatures_v2: Vec<CoseCountersignature>,
     /// The abbreviated countersignature of version 2 (label 12). It may be empty bytes.
     pub countersignature0_v2: Option<Vec<u8>>,
-    /// The pairs with other labels, in order.
+    /// The pairs with other labels, in order. Encoding refuses a label that occurs twice here.
+    /// It doesn't look for labels of the fields, so a label of a field is then written twice.
     pub rest: Vec<(Label, Value)>,
 }
 
@@ -187,7 +197,7 @@ impl Eq for Header {
     ghost laws = { on_equiv header_view header_eq_equiv };
 }
 
-/// The same as [`Header::clone`], for generic code.
+/// The same as [`Header::clone`] for generic code, but the error is `AllocError`.
 impl Clone for Header {
     ghost is_clone = { λ header copy. header_view copy ≡ header_view header };
 
@@ -272,7 +282,7 @@ fn copy_fields(header: &Header, copy: &mut Header) -> Result<(), AllocError>
 /// Copies `header` into `copy`.
 ///
 /// # Errors
-/// `AllocError` if an allocation fails. `copy` may then have a part of the header.
+/// `AllocError` if an allocation fails. `copy` may then have both old and copied fields.
 #[cycle(copy)]
 pub fn copy_header(header: &Header, copy: &mut Header) -> Result<(), AllocError>
     ensures { OnOk result (header_view copy.new ≡ header_view header.now) }

@@ -24,7 +24,8 @@ use std::alloc::Global;
 /// `protected` must be empty.
 ///
 /// # Errors
-/// The same as [`ProtectedHeader::from_cbor_bstr`].
+/// The same as [`ProtectedHeader::from_cbor_bstr`]. `protected` may then have the kept bytes and a
+/// part of the header.
 pub fn fill_protected_header(
     protected: &mut ProtectedHeader,
     alloc: Global,
@@ -46,7 +47,10 @@ pub fn fill_protected_header(
 ///
 /// # Errors
 /// - `OutOfMemory` if an allocation fails.
-/// - The first fault found, from the first pair on.
+/// - `UnexpectedItem` if the item is not a map.
+/// - Otherwise the first fault found, from the first pair on.
+///
+/// `unprotected` may then have a part of the header.
 pub fn fill_unprotected_header(
     unprotected: &mut Header,
     alloc: Global,
@@ -64,8 +68,8 @@ pub fn fill_unprotected_header(
     }
 }
 
-/// A payload or a ciphertext, or `None` if it is detached: `bstr / nil` (RFC 8152, sections 2 and
-/// 5.1).
+/// A payload or a ciphertext, or `None` if it is detached: `bstr / nil` (RFC 8152, sections 2, 4.1
+/// and 5.1).
 #[derive(Debug, Drop)]
 pub struct BstrOrNil(pub Option<Vec<u8>>);
 
@@ -84,14 +88,16 @@ impl Decode for BstrOrNil {
     }
 }
 
-/// Reads a message: its two headers into `protected` and `unprotected`, which must be empty.
-/// Returns the other elements.
+/// Reads the two headers of a message into `protected` and `unprotected`, and returns the other
+/// elements. `unprotected` and the header of `protected` must be empty.
 ///
 /// # Errors
 /// - `OutOfMemory` if an allocation fails.
 /// - `UnexpectedItem` if the item is not an array.
 /// - `UnexpectedItem` with `want` if the array has a wrong number of elements.
 /// - The fault of the last element that has one.
+///
+/// `protected` and `unprotected` may then have parts of their headers.
 pub fn read_with_headers<P: DecodeElements + Drop>(
     protected: &mut ProtectedHeader,
     unprotected: &mut Header,

@@ -24,8 +24,7 @@ pub fn headers_hold_signatures()
         ↔ (header_map (signatures_within n)).faults v e }
 {}
 
-/// A header has no parameters exactly when it is the empty header. So an empty byte string decodes
-/// to the header that encodes to it.
+/// A header has no parameters exactly when it is the empty header.
 pub fn one_empty_header()
     ensures { (h : HeaderView) → (is_empty_header h ≡ true) ↔ (h ≡ empty_header) }
 {}

@@ -41,11 +41,14 @@ use coset_codec::{Codec, CoseError, ItemSource, Result};
 use std::alloc::{AllocError, Global};
 use std::borrow::CowSlice;
 
-/// A protected header (RFC 8152, section 3).
+/// A protected header (RFC 8152, section 3). In messages it is in a byte string:
 ///
 /// ```cddl
 /// empty_or_serialized_map = bstr .cbor header_map / bstr .size 0
 /// ```
+///
+/// Its [`Codec`] reads and writes the map itself, without kept bytes.
+/// [`ProtectedBstr`](crate::ProtectedBstr) reads and writes the byte string.
 #[cycle(header)]
 #[derive(Debug, Drop)]
 pub struct ProtectedHeader {
@@ -80,6 +83,8 @@ impl ProtectedHeader {
     /// - `OutOfMemory` if an allocation fails.
     /// - `UnexpectedItem` if the value is not a byte string.
     /// - `DecodeFailed` if there are bytes, but no item within 256 levels at their start.
+    /// - `DecodeFailed` if more than 16 protected headers are inside one another, as those of
+    ///   counter signatures can be.
     /// - `ExtraneousData` if bytes follow the item.
     /// - A fault in the header.
     ///
@@ -175,7 +180,7 @@ impl Eq for ProtectedHeader {
     ghost laws = { on_equiv protected_view protected_eq_equiv };
 }
 
-/// The same as [`ProtectedHeader::clone`], for generic code.
+/// The same as [`ProtectedHeader::clone`] for generic code, but the error is `AllocError`.
 impl Clone for ProtectedHeader {
     ghost is_clone = { λ protected copy. protected_view copy ≡ protected_view protected };
 
@@ -416,7 +421,8 @@ fn fresh_bytes(alloc: Global, header: &Header) -> Result<Vec<u8>>
 /// Copies `protected` into `copy`, with its kept bytes.
 ///
 /// # Errors
-/// `AllocError` if an allocation fails. `copy` may then have a part of the header.
+/// `AllocError` if an allocation fails. `copy` may then have the copied bytes, and a header with
+/// both old and copied fields.
 #[cycle(copy)]
 pub fn copy_protected(
     protected: &ProtectedHeader,

@@ -99,7 +99,7 @@ impl Eq for CoseSignature {
     ghost laws = { on_equiv signature_view signature_eq_equiv };
 }
 
-/// The same as [`CoseSignature::clone`], for generic code.
+/// The same as [`CoseSignature::clone`] for generic code, but the error is `AllocError`.
 impl Clone for CoseSignature {
     ghost is_clone = { λ signed copy. signature_view copy ≡ signature_view signed };
 
@@ -300,7 +300,10 @@ pub(crate) fn fill_signature_list(
     Ok(())
 }
 
-/// Reads an array of signatures. Each one is read directly into its place in the list.
+/// Reads an array of signatures. Each signature is read directly into its place in the list.
+///
+/// An empty array gives an empty list. RFC 8152, section 4.1, requires at least one signature, so
+/// the caller must check that.
 ///
 /// # Errors
 /// - `OutOfMemory` if an allocation fails.

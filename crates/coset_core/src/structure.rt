@@ -58,7 +58,8 @@ pub fn begin_structure(
     Ok(out)
 }
 
-/// Returns the maximum encoded size of an array of these byte strings.
+/// Returns an estimate of the encoded size of an array of these byte strings, for reserving room.
+/// Each head counts as 9 bytes. The sum is at most `usize::MAX`.
 pub fn max_byte_strings_size(parts: &[Vec<u8>]) -> usize {
     let mut room = LONGEST_HEAD;
     for part in parts {
@@ -67,7 +68,7 @@ pub fn max_byte_strings_size(parts: &[Vec<u8>]) -> usize {
     room
 }
 
-/// Returns the maximum encoded size of an array of the context and these byte strings.
+/// Returns an estimate of the encoded size of an array of the context and these byte strings.
 fn max_structure_size(context: &str, parts: &[&[u8]]) -> usize {
     let mut room = LONGEST_HEAD
         .saturating_add(LONGEST_HEAD)

@@ -38,8 +38,7 @@ HaveEqualLength (uncompressed x y) = length x ≡ length y
 abbrev pub EncodesPoint : List ℕ → Point → Type 0
 EncodesPoint s p = (octets p ≡ s) × HaveEqualLength p
 
--- The octet string encodes no point. It is empty, begins with an octet other than 02, 03 and 04, or has an odd number
--- of octets after 04.
+-- The octet string is empty, begins with an octet other than 02, 03 and 04, or has an odd number of octets after 04.
 abbrev pub IsMalformed : List ℕ → Type 0
 IsMalformed [] = ⊤
 IsMalformed (b ∷ rest) = ((b ≢ 2) × (b ≢ 3) × (b ≢ 4)) ⊎ ((b ≡ 4) × (length rest % 2 ≡ 1))

@@ -62,13 +62,21 @@ const PARAM: usize = 40;
 ///     * label => values
 /// }
 /// ```
+///
+/// Reading is stricter than this CDDL:
+///
+/// - A key type or an operation that is an unassigned number is refused with
+///   `UnregisteredIanaValue`.
+/// - A missing or reserved key type is refused with `UnexpectedItem`.
+/// - So are an empty byte string under label 2 or 5, an empty array under label 4, and an operation
+///   that is there twice.
 #[derive(Debug, Drop, PartialEq, Eq)]
 pub struct CoseKey {
     /// The key type (label 1), which decides the meaning of `params`.
     pub kty: KeyType,
     /// The key identifier (label 2); empty if there is none.
     pub key_id: Vec<u8>,
-    /// The only algorithm that the key may be used with (label 3).
+    /// The only algorithm that the key may be used with (label 3), or `None` if any is permitted.
     pub alg: Option<Algorithm>,
     /// The permitted uses of the key (label 4), in the order of their encodings. If empty, every
     /// use is permitted.
@@ -97,6 +105,8 @@ impl Clone for CoseKey {
 
 impl CoseKey {
     /// Returns a key of the reserved type without any other field or param. Allocates nothing.
+    ///
+    /// A key of the reserved type can be written, but it can't be read again (`UnexpectedItem`).
     pub fn new(alloc: Global) -> CoseKey
         ensures { key_view result ≡ empty_key }
     {
@@ -454,6 +464,8 @@ impl CoseKeyBuilder {
 
     /// Returns a builder of a public elliptic curve key with the x coordinate and the sign of y
     /// (RFC 8152, section 13.1.1).
+    ///
+    /// `y_sign` is true if the octet string of the point begins with 03 (SEC 1, section 2.3.3).
     ///
     /// # Errors
     /// `OutOfMemory` if an allocation fails.

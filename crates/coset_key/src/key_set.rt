@@ -43,11 +43,11 @@ impl CoseKeySet {
     /// Decodes each key of an encoded set by itself, in order.
     ///
     /// Each element of the result is a key, or the error in reading it. So a key of an unknown type
-    /// doesn't affect the others (RFC 9052, section 7), while `from_slice` refuses the whole set.
+    /// doesn't affect the others (RFC 8152, section 7), while `from_slice` refuses the whole set.
     ///
     /// # Errors
+    /// - `DecodeFailed`, `ExtraneousData` or `UnexpectedItem` if the bytes are not one array.
     /// - `OutOfMemory` if an allocation fails. This happens only if the bytes are one item.
-    /// - A fault in the bytes, if they are not an array.
     pub fn each_from_slice(alloc: Global, bytes: &[u8]) -> Result<Vec<Result<CoseKey>>>
         ensures each { IfOk result (λ keys. AreReadAlone key key_view bytes.now keys.items) }
         ensures refused { IfErr result (λ e. IsRefused elements bytes.now e) }

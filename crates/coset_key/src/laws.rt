@@ -1,5 +1,5 @@
-//! Laws of keys, which callers may cite. Each law is the contract of an empty function. The laws of
-//! all types that are read and written are in `coset_codec::laws`.
+//! Laws of keys, which callers may cite. Each law is the contract of a function without effects.
+//! The laws of all types that are read and written are in `coset_codec::laws`.
 
 ghost use Rattle.std.specs.Prelude.{◌≡◌, ◌≤◌, ℕ, Contains, List, Ok};
 ghost use Rattle.coset_value.specs.Item.{Item, depth};

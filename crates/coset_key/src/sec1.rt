@@ -30,7 +30,7 @@ const UNCOMPRESSED: u8 = 0x04;
 /// An error in encoding the point of a key as an octet string.
 #[derive(Clone, Copy, Debug, PartialEq, Eq)]
 pub enum ToSec1OctetStringError {
-    /// The key isn't an elliptic curve key with two coordinates.
+    /// The key type isn't EC2 (RFC 8152, section 13.1).
     NotEcKey,
     /// The x or the y coordinate is missing.
     MissingCoordinate,
@@ -77,10 +77,10 @@ impl<T: Drop> From<AllocFailed<T>> for ToSec1OctetStringError {
     }
 }
 
-/// The error for an octet string that encodes no point.
+/// The error for a malformed octet string.
 ///
 /// The octet string is empty, begins with an octet other than 02, 03 and 04, or has an odd number
-/// of octets after 04.
+/// of octets after 04. So 00, the point at infinity, is refused (RFC 8152, section 13.1.1).
 #[derive(Clone, Copy, Debug, PartialEq, Eq)]
 pub struct ParseSec1OctetStringError;
 
@@ -135,10 +135,10 @@ impl CoseKey {
 
     /// Encodes the key's point as an octet string (SEC 1, section 2.3.3).
     ///
-    /// The key must be an elliptic curve key with two coordinates. The octets are 02 and x if the
-    /// sign of y is false, and 03 and x if it is true. If y itself is given, they are 04, x and y.
-    /// For each coordinate the first param counts. The function checks neither the curve nor the
-    /// lengths of the coordinates, except that both must have the same length.
+    /// The octets are 02 and x if the sign of y is false, and 03 and x if it is true. If y itself
+    /// is given, they are 04, x and y. For each coordinate the first param counts. The function
+    /// checks neither the curve nor the lengths of the coordinates, except that both must have the
+    /// same length.
     ///
     /// # Errors
     /// The first of these that applies: `NotEcKey`, `MissingCoordinate`, `InvalidCoordinateType`,
@@ -199,8 +199,8 @@ impl CoseKeyBuilder {
     /// its length.
     ///
     /// # Errors
-    /// - `ParseSec1OctetStringError` as the caller's error, exactly if `sec1` encodes no point.
-    /// - `OutOfMemory` if an allocation fails.
+    /// - `Caller` with `ParseSec1OctetStringError`, exactly if `sec1` is malformed.
+    /// - `Coset` with `OutOfMemory` if an allocation fails.
     pub fn new_ec2_pub_key_sec1_octet_string(
         alloc: Global,
         curve: EllipticCurve,

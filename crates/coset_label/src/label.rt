@@ -45,6 +45,11 @@ impl Codec for Label {
     ghost equal = { λ a b. same_label-decides (label_view a) (label_view b) };
 
     /// Allocates only to copy a text from borrowed bytes.
+    ///
+    /// # Errors
+    /// - `OutOfMemory` if an allocation fails.
+    /// - `OutOfRangeIntegerValue` if the item is an integer outside the range of `i64`.
+    /// - `UnexpectedItem` if the item is neither an integer nor a text.
     fn read(alloc: Global, input: &mut Decoder<'_>) -> Result<Label> {
         match input.integer() {
             Some(number) => Ok(Label::Int(i64::try_from(number)?)),
@@ -79,7 +84,8 @@ impl Clone for Label {
     }
 }
 
-/// Writes the number in decimal, or the text as `Debug` writes it: in double quotes, with escapes.
+/// Writes the number in decimal, or the text as `Debug` writes it. A text of ASCII is in double
+/// quotes, with escapes. Contracts say nothing of the output for other texts.
 impl fmt::Display for Label {
     ghost use Rattle.coset_label.specs.Views.{label_output};
 

@@ -32,7 +32,8 @@ pub fn orders_match_equality()
     ensures registered { TellsApart registered_cmp }
 {}
 
-/// Two lists with the same pairs are equal if neither repeats a label and both are sorted by label.
+/// Two lists with the same pairs are equal if neither repeats a label and one order sorts both.
+/// This holds for each of the three orders.
 pub fn one_order()
     ensures bytes { HasOneOrder label_cmp }
     ensures lengths { HasOneOrder canonical_cmp }

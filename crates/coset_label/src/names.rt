@@ -19,7 +19,8 @@ pub type KeyOperation = RegisteredLabel<Operation>;
 /// An algorithm (RFC 8152, section 16.4).
 pub type Algorithm = RegisteredLabelWithPrivate<coset_iana::Algorithm>;
 
-/// A claim name in a CBOR Web Token (RFC 8392, section 4), assigned or for private use, or a text.
+/// The key of a claim in a CBOR Web Token: an assigned number, a private-use number or a text (RFC
+/// 8392, section 9.1.1).
 pub type ClaimName = RegisteredLabelWithPrivate<CwtClaimName>;
 
 impl Default for Algorithm {

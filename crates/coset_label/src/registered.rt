@@ -17,6 +17,8 @@ use std::fmt;
 /// ```cddl
 /// registered_label = int / tstr
 /// ```
+///
+/// The integer must be a number that the registry assigns.
 #[derive(Debug, Drop)]
 pub enum RegisteredLabel<T> {
     /// A value that the registry assigns.
@@ -31,6 +33,8 @@ pub enum RegisteredLabel<T> {
 /// ```cddl
 /// registered_label_with_private = int / tstr
 /// ```
+///
+/// The integer must be an assigned number or a private-use number.
 #[derive(Debug, Drop)]
 pub enum RegisteredLabelWithPrivate<T> {
     /// A number for private use.
@@ -62,6 +66,12 @@ impl<T: EnumI64 + Drop> Codec for RegisteredLabel<T> {
         (registered_view T.number b) };
 
     /// Allocates only to copy a text from borrowed bytes.
+    ///
+    /// # Errors
+    /// - `OutOfMemory` if an allocation fails.
+    /// - `OutOfRangeIntegerValue` if the item is an integer outside the range of `i64`.
+    /// - `UnregisteredIanaValue` if the registry doesn't assign the number.
+    /// - `UnexpectedItem` if the item is neither an integer nor a text.
     fn read(alloc: Global, input: &mut Decoder<'_>) -> Result<RegisteredLabel<T>> {
         match input.integer() {
             Some(number) => match T::from_i64(i64::try_from(number)?) {
@@ -109,6 +119,12 @@ impl<T: EnumI64 + WithPrivateRange + Drop> Codec for RegisteredLabelWithPrivate<
         (registered_or_private_view T.number b) };
 
     /// Allocates only to copy a text from borrowed bytes.
+    ///
+    /// # Errors
+    /// - `OutOfMemory` if an allocation fails.
+    /// - `OutOfRangeIntegerValue` if the item is an integer outside the range of `i64`.
+    /// - `UnregisteredIanaNonPrivateValue` if the number is neither assigned nor for private use.
+    /// - `UnexpectedItem` if the item is neither an integer nor a text.
     fn read(alloc: Global, input: &mut Decoder<'_>) -> Result<RegisteredLabelWithPrivate<T>> {
         let Some(number) = input.integer() else {
             return Ok(RegisteredLabelWithPrivate::Text(input.text(alloc, "int/tstr")?));
@@ -143,7 +159,8 @@ impl<T: EnumI64 + WithPrivateRange + Drop> Codec for RegisteredLabelWithPrivate<
 }
 
 /// Writes an assigned value as its own `Display` does. For the enums of `coset_iana`, this is the
-/// value's name. Writes a text as its `Debug` does: in double quotes, with escapes.
+/// value's name. Writes a text as its `Debug` does: if it is ASCII, in double quotes, with escapes.
+/// Contracts say nothing of the output for other texts.
 impl<T: fmt::Display> fmt::Display for RegisteredLabel<T> {
     ghost use Rattle.coset_label.specs.Views.{registered_output};
 
@@ -158,8 +175,8 @@ impl<T: fmt::Display> fmt::Display for RegisteredLabel<T> {
 }
 
 /// Writes a private-use number in decimal, and an assigned value as its own `Display` does. For the
-/// enums of `coset_iana`, this is the value's name. Writes a text as its `Debug` does: in double
-/// quotes, with escapes.
+/// enums of `coset_iana`, this is the value's name. Writes a text as its `Debug` does: if it is
+/// ASCII, in double quotes, with escapes. Contracts say nothing of the output for other texts.
 impl<T: fmt::Display> fmt::Display for RegisteredLabelWithPrivate<T> {
     ghost use Rattle.coset_label.specs.Views.{registered_or_private_output};
 

@@ -91,7 +91,8 @@ pub fn enc_structure_of(
 /// ]
 /// ```
 ///
-/// A header that was read is represented by its kept bytes.
+/// A header that was read is represented by its kept bytes, even if they are an empty map. An empty
+/// header without kept bytes is represented by a byte string of length zero.
 ///
 /// # Errors
 /// - `OutOfMemory` if an allocation fails.

@@ -83,7 +83,7 @@ impl CoseEncrypt0 {
     }
 
     /// Calls `cipher` with the ciphertext and the additional authenticated data (RFC 8152, section
-    /// 5.3), and returns the plaintext.
+    /// 5.3), and returns its result.
     ///
     /// The message must carry its ciphertext. `cipher` gets its arguments in this order. It is
     /// called once, or not at all if the additional authenticated data can't be made.
@@ -109,8 +109,8 @@ impl CoseEncrypt0 {
         call_with(self.attached(), structure, cipher)
     }
 
-    /// Does the same as [`CoseEncrypt0::decrypt`], also for a message without a ciphertext. If the
-    /// ciphertext is missing, `missing` is called for the error, and `cipher` isn't called.
+    /// Does the same as [`CoseEncrypt0::decrypt`] if the message carries a ciphertext. Otherwise
+    /// `missing` is called for the error, and `cipher` isn't called.
     ///
     /// # Errors
     /// - The errors of [`CoseEncrypt0::decrypt`].

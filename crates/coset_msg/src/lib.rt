@@ -1,4 +1,5 @@
-//! Messages with a MAC (RFC 8152, section 6), encrypted messages (section 5), and their structures.
+//! Messages with a MAC and encrypted messages without lists of recipients, and the structures of
+//! both (RFC 8152, sections 5.2, 5.3, 6.2 and 6.3).
 #![tactic(auto)]
 
 pub mod enc_structure;

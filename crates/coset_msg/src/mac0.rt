@@ -72,7 +72,7 @@ impl CoseMac0 {
         }
     }
 
-    /// Returns the bytes to be authenticated for a detached payload (RFC 9052, section 6).
+    /// Returns the bytes to be authenticated for a detached payload (RFC 9052, section 6.1).
     /// `payload` takes the place of a payload that the message carries.
     ///
     /// # Errors
@@ -134,8 +134,8 @@ impl CoseMac0 {
         call_with(&self.tag, structure, verifier)
     }
 
-    /// Does the same as [`CoseMac0::verify_tag`], also for a message without a payload. If the
-    /// payload is missing, `missing` is called for the error, and `verifier` isn't called.
+    /// Does the same as [`CoseMac0::verify_tag`] if the message carries a payload. Otherwise
+    /// `missing` is called for the error, and `verifier` isn't called.
     ///
     /// # Errors
     /// - The errors of [`CoseMac0::verify_tag`].
@@ -164,7 +164,7 @@ impl CoseMac0 {
         call_with(&self.tag, structure, verifier)
     }
 
-    /// Does the same as [`CoseMac0::verify_tag`] for a detached payload (RFC 9052, section 6).
+    /// Does the same as [`CoseMac0::verify_tag`] for a detached payload (RFC 9052, section 6.1).
     /// `payload` takes the place of a payload that the message carries.
     ///
     /// # Errors
@@ -377,8 +377,8 @@ impl CoseMac0Builder {
     /// Calls `creator` with the bytes to be authenticated (RFC 8152, section 6.3), and sets the tag
     /// to its result.
     ///
-    /// Set all other fields before this call, including the payload. `creator` is called once, or
-    /// not at all if the bytes can't be made.
+    /// The message must carry its payload. Set its other fields before this call too. `creator` is
+    /// called once, or not at all if the bytes can't be made.
     ///
     /// # Errors
     /// - `OutOfMemory` if an allocation fails.
@@ -403,7 +403,7 @@ impl CoseMac0Builder {
     }
 
     /// Does the same as [`CoseMac0Builder::create_tag`] for a detached payload (RFC 9052,
-    /// section 6).
+    /// section 6.1).
     ///
     /// `payload` takes the place of a payload that the message carries. It isn't stored in the
     /// message.

@@ -152,7 +152,8 @@ pub fn structures_when_read()
     ensures tagged_encrypt { WhenRead (tagged 96 encrypt) EncryptsAll }
 {}
 
-/// The bytes of a structure determine its context and its parts, across all kinds of structures.
+/// The shortest encoding of a structure determines its context and its parts, across all kinds of
+/// structures.
 ///
 /// The kinds are those of signatures, MACs, ciphertexts, and countersignatures of version 2. The
 /// parts are one protected header, one signer or none, one `external_aad`, one payload, and the

@@ -81,7 +81,7 @@ impl CoseMac {
         }
     }
 
-    /// Returns the bytes to be authenticated for a detached payload (RFC 9052, section 6).
+    /// Returns the bytes to be authenticated for a detached payload (RFC 9052, section 6.1).
     /// `payload` takes the place of a payload that the message carries.
     ///
     /// # Errors
@@ -173,7 +173,7 @@ impl CoseMac {
         call_with(&self.tag, structure, verifier)
     }
 
-    /// Does the same as [`CoseMac::verify_tag`] for a detached payload (RFC 9052, section 6).
+    /// Does the same as [`CoseMac::verify_tag`] for a detached payload (RFC 9052, section 6.1).
     /// `payload` takes the place of a payload that the message carries.
     ///
     /// # Errors

@@ -55,7 +55,8 @@ pub struct CoseRecipient {
     pub protected: ProtectedHeader,
     /// The header that isn't authenticated.
     pub unprotected: Header,
-    /// The encrypted key, or `None` if there is none, as with key agreement.
+    /// The encrypted key, or `None` for nil, if there is none (RFC 8152, section 5.1). Recipients
+    /// that use a key directly may also carry an empty byte string (section 12.1).
     pub ciphertext: Option<Vec<u8>>,
     /// The recipients that can decrypt this ciphertext, and how they obtain its key.
     pub recipients: Vec<CoseRecipient>,

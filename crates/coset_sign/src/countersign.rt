@@ -127,8 +127,14 @@ fn countersigned_bytes(
 /// ```
 ///
 /// `body` is the protected header of the body, and `sign` that of the countersignature. A header
-/// that was read is represented by its kept bytes. The caller chooses `other_fields` from the
-/// countersigned structure; there must be at least one (RFC 9338, section 3.3).
+/// that was read is represented by its kept bytes.
+///
+/// `other_fields` are all byte strings of the countersigned structure after the second. There must
+/// be at least one (RFC 9338, section 3.3). The function doesn't check that they are all.
+///
+/// A structure with only two byte strings, such as `COSE_Encrypt0`, has no other fields. Its
+/// countersignature signs [`sig_structure_data`](crate::sig_structure_data) with the context
+/// `CounterSignature`.
 ///
 /// # Errors
 /// - `OutOfMemory` if an allocation fails.
@@ -158,10 +164,10 @@ pub fn countersign_v2_structure_data(
 }
 
 /// Returns the bytes that an abbreviated countersignature of version 2 signs: the shortest encoding
-/// of a `Countersign0_structure`.
+/// of a `Countersign_structure` without `sign_protected`.
 ///
 /// ```cddl
-/// Countersign0_structure = [
+/// Countersign_structure = [
 ///     context : "CounterSignature0V2",
 ///     body_protected : bstr,
 ///     external_aad : bstr,
@@ -170,8 +176,9 @@ pub fn countersign_v2_structure_data(
 /// ]
 /// ```
 ///
-/// It is the structure of [`countersign_v2_structure_data`] without the countersignature's header,
-/// and with a context of its own (RFC 9338, section 3.3).
+/// The context differs from that of [`countersign_v2_structure_data`], and `other_fields` are the
+/// same (RFC 9338, section 3.3). There must be at least one. A structure without other fields has
+/// the context `CounterSignature0`, which this function doesn't write.
 ///
 /// # Errors
 /// The same as [`countersign_v2_structure_data`].
@@ -192,9 +199,11 @@ pub fn countersign0_v2_structure_data(
 /// Calls `verifier` with the countersignature's bytes and the bytes that it signs
 /// ([`countersign_v2_structure_data`]), in this order.
 ///
-/// The structure includes the countersignature's protected header. `verifier` decides whether the
-/// countersignature is valid. It is called once, or not at all if the bytes to be signed can't be
-/// made. The process is that of RFC 9338, section 3.3.
+/// `other_fields` must not be empty (RFC 9338, section 3.3). The structure includes the
+/// countersignature's protected header.
+///
+/// `verifier` decides whether the countersignature is valid. It is called once, or not at all if
+/// the bytes to be signed can't be made.
 ///
 /// # Errors
 /// - `Coset` with an error of [`countersign_v2_structure_data`].

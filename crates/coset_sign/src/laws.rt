@@ -110,8 +110,8 @@ pub fn kept_in_signed()
 
 /// Bodies and signers with the same protected bytes have the same structures for countersignatures.
 ///
-/// This holds whatever the other parts are. It covers the countersignatures of labels 7 and 11, and
-/// the abbreviated ones of label 12.
+/// This holds whatever the other parts are. It covers the countersignatures of labels 7 and 11. It
+/// also covers the abbreviated ones of label 12 that have other fields.
 pub fn countersigned_by_bytes()
     ensures full { (body signer other_body other_signer : ProtectedView)
         → protected_bytes body ≡ protected_bytes other_body
@@ -130,7 +130,7 @@ pub fn countersigned_by_bytes()
 ///   or tagged.
 ///
 /// The first three clauses hold for any number of layers. All clauses except `apart` and
-/// `tagged_apart` also cover an abbreviated countersignature of the body.
+/// `tagged_apart` also cover an abbreviated countersignature of the body with other fields.
 ///
 /// `kept_in_messages` and `kept_with_recipients` say that bodies of other kinds have the same
 /// protected bytes.
@@ -166,7 +166,7 @@ pub fn countersigned_as_written()
 ///   or tagged.
 ///
 /// The first three clauses hold for any number of layers. All clauses except `apart` and
-/// `tagged_apart` also cover an abbreviated countersignature of the body.
+/// `tagged_apart` also cover an abbreviated countersignature of the body with other fields.
 ///
 /// For other messages and for recipients, `all_countersigned_when_read` says the same.
 pub fn countersigned_when_read()

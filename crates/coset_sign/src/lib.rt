@@ -1,4 +1,5 @@
-//! Signed messages, countersignatures and the bytes that they sign (RFC 8152, section 4).
+//! Signed messages (RFC 8152, section 4), countersignatures (also RFC 9338, section 3.3), and the
+//! bytes to be signed for both.
 #![tactic(auto)]
 
 mod countersign;

@@ -129,7 +129,7 @@ impl CoseSign {
         }
     }
 
-    /// Returns the bytes that `signature` signs if `payload` is detached. The message itself must
+    /// Returns the bytes that `signature` signs for the detached `payload`. The message itself must
     /// carry no payload.
     ///
     /// # Errors
@@ -163,7 +163,8 @@ impl CoseSign {
     ///
     /// `which` counts from 0, and there must be such a signature. `verifier` decides whether the
     /// signature is valid. It is called once, or not at all if the bytes to be signed can't be
-    /// made.
+    /// made. A missing payload counts as empty. For a detached payload, call
+    /// [`CoseSign::verify_detached_signature`] instead.
     ///
     /// # Errors
     /// - `Coset` with an error of [`CoseSign::tbs_data`].
@@ -472,8 +473,9 @@ impl CoseSignBuilder {
     /// Calls `signer` with the bytes that `signature` is to sign ([`CoseSign::tbs_data`]), and
     /// appends `signature` with the result of `signer`.
     ///
-    /// Set the headers of `signature` and the message's other fields before this call. `signer` is
-    /// called once, or not at all if an error of this library comes first.
+    /// Set the headers of `signature` and the message's other fields before this call. A missing
+    /// payload counts as empty. `signer` is called once, or not at all if an error of this library
+    /// comes first.
     ///
     /// # Errors
     /// The same as [`CoseSign::tbs_data`].

@@ -79,7 +79,7 @@ impl CoseSign1 {
         }
     }
 
-    /// Returns the bytes to be signed if `payload` is detached. The message itself must carry no
+    /// Returns the bytes to be signed for the detached `payload`. The message itself must carry no
     /// payload.
     ///
     /// # Errors
@@ -102,7 +102,8 @@ impl CoseSign1 {
     /// this order.
     ///
     /// `verifier` decides whether the signature is valid. It is called once, or not at all if the
-    /// bytes can't be made.
+    /// bytes can't be made. A missing payload counts as empty. For a detached payload, call
+    /// [`CoseSign1::verify_detached_signature`] instead.
     ///
     /// # Errors
     /// - `Coset` with an error of [`CoseSign1::tbs_data`].
@@ -339,8 +340,8 @@ impl CoseSign1Builder {
     /// Calls `signer` with the bytes to be signed ([`CoseSign1::tbs_data`]), and sets the signature
     /// to its result.
     ///
-    /// Set all other fields before this call. `signer` is called once, or not at all if the bytes
-    /// can't be made.
+    /// Set all other fields before this call. A missing payload counts as empty. `signer` is called
+    /// once, or not at all if the bytes can't be made.
     ///
     /// # Errors
     /// The same as [`CoseSign1::tbs_data`].

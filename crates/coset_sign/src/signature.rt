@@ -22,7 +22,8 @@ pub enum SignatureContext {
     CoseSignature,
     /// The signature of a `COSE_Sign1` message.
     CoseSign1,
-    /// A counter signature of any structure that has a body (section 4.5).
+    /// A counter signature of any structure that has a body (section 4.5), or a countersignature of
+    /// version 2 over a structure without other fields (RFC 9338, section 3.3).
     CounterSignature,
 }
 
@@ -114,8 +115,11 @@ pub(crate) fn sig_structure_of(
 /// ]
 /// ```
 ///
-/// `body` is the protected header of the body, and `sign` that of the signer, if there is one. A
-/// header that was read is represented by its kept bytes.
+/// `body` is the protected header of the body, and `sign` that of the signer, if there is one. The
+/// RFC leaves out `sign` with the context `CoseSign1`, and only there. This isn't checked.
+///
+/// A header that was read is represented by its kept bytes, even if they are an empty map. An empty
+/// header without kept bytes is represented by a byte string of length zero.
 ///
 /// # Errors
 /// - `OutOfMemory` if an allocation fails.

@@ -296,7 +296,8 @@ fn begin_pairs(
 ///
 /// # Errors
 /// - `OutOfMemory` if an allocation fails.
-/// - The first fault found, from the first pair on.
+/// - `UnexpectedItem` if the item is not a map.
+/// - Otherwise the first fault found, from the first pair on.
 #[cycle(read)]
 pub(crate) fn fill_header(
     header: &mut Header,
