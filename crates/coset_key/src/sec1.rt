@@ -12,8 +12,8 @@ ghost use Rattle.coset_key.specs.declared.sec1.ToSec1OctetStringError.TheVariant
 
 use crate::key::{CoseKey, CoseKeyBuilder};
 use coset_cbor::value::Value;
-use coset_iana::{Ec2KeyParameter, EllipticCurve};
-use coset_label::{CallError, RegisteredLabel, Result, iana, is_parameter};
+use coset_iana::{Ec2KeyParameter, EllipticCurve, EnumI64};
+use coset_label::{CallError, Label, RegisteredLabel, Result, iana};
 use std::alloc::{AllocError, AllocFailed, Global};
 use std::error::Error;
 use std::fmt;
@@ -120,17 +120,12 @@ fn octet_string(alloc: Global, x: &[u8], y: &Value) -> Result<Vec<u8>, ToSec1Oct
 }
 
 impl CoseKey {
-    /// Returns the value of the first param with this label, or `None` if there is none.
+    /// Returns the value of this param, or `None` if there is none.
     fn param(&self, parameter: Ec2KeyParameter) -> Option<&Value>
         ensures { option_map (λ v. value_item v.now) result
             ≡ param (number (ec2.number parameter)) (key_view self.now) }
     {
-        for (label, value) in &self.params {
-            if is_parameter(label, parameter) {
-                return Some(value);
-            }
-        }
-        None
+        self.get(&Label::Int(parameter.to_i64()))
     }
 
     /// Encodes the key's point as an octet string (SEC 1, section 2.3.3).

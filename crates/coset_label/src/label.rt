@@ -2,13 +2,11 @@
 
 ghost use Rattle.std.specs.Prelude.{◌≡◌, IfErr, IfOk};
 ghost use Rattle.coset_codec.specs.declared.error.CoseError.TheVariants.{OutOfMemory};
-ghost use Rattle.coset_label.specs.LabelData.{number, same_label};
 ghost use Rattle.coset_label.specs.Views.{label_view};
 
 use coset_codec::read::Decoder;
 use coset_codec::write::Encode;
 use coset_codec::{Codec, Result};
-use coset_iana::EnumI64;
 use std::alloc::{AllocError, Global};
 use std::fmt;
 
@@ -109,15 +107,5 @@ impl Label {
         ensures memory { IfErr result (λ e. e ≡ OutOfMemory) }
     {
         Ok(Clone::clone(self)?)
-    }
-}
-
-/// Returns true if the label is the number of `parameter`, which may be of any registry.
-pub fn is_parameter<P: EnumI64 + Copy>(label: &Label, parameter: P) -> bool
-    ensures { result ≡ same_label (number (P.number parameter)) (label_view label.now) }
-{
-    match label {
-        Label::Int(number) => *number == parameter.to_i64(),
-        Label::Text(_) => false,
     }
 }

@@ -16,7 +16,7 @@ pub use coset_codec::{
     ItemSource, Lawful, Result, TaggedCborSerializable, TaggedCodec, has_repeats, util,
 };
 pub use coset_iana as iana;
-pub use label::{Label, is_parameter};
+pub use label::Label;
 pub use names::{Algorithm, ClaimName, ContentType, KeyOperation, KeyType};
 pub use ordering::CborOrdering;
 pub use registered::{RegisteredLabel, RegisteredLabelWithPrivate};
