@@ -166,12 +166,14 @@ pub header::writing::write_header-returns-in_err-write_fields-clause-kept : goal
 header::writing::write_header-returns-in_err-write_fields-clause-kept t c =
     extends-on c.args.out.now.items c.write_head.new.out.items _ c.in_ok-write_head.ensures.kept c.in_err-write_fields.ensures.kept
 
-pub header::writing::write_header-returns-in_err-write_counter_signatures-clause-kept : goal.header::writing::write_header-returns-in_err-write_counter_signatures-clause-kept
+pub header::writing::write_header-returns-in_err-write_counter_signatures-clause-kept :
+    goal.header::writing::write_header-returns-in_err-write_counter_signatures-clause-kept
 header::writing::write_header-returns-in_err-write_counter_signatures-clause-kept t c =
     extends-on c.args.out.now.items c.write_head.new.out.items _ c.in_ok-write_head.ensures.kept
     (extends-on _ c.write_fields.new.out.items _ c.in_ok-write_fields.ensures.kept c.in_err-write_counter_signatures.ensures.kept)
 
-pub header::writing::write_header-returns-in_err-write_countersignatures-clause-kept : goal.header::writing::write_header-returns-in_err-write_countersignatures-clause-kept
+pub header::writing::write_header-returns-in_err-write_countersignatures-clause-kept :
+    goal.header::writing::write_header-returns-in_err-write_countersignatures-clause-kept
 header::writing::write_header-returns-in_err-write_countersignatures-clause-kept t c =
     extends-on c.args.out.now.items c.write_head.new.out.items _ c.in_ok-write_head.ensures.kept
     (extends-on _ c.write_fields.new.out.items _ c.in_ok-write_fields.ensures.kept
@@ -192,11 +194,13 @@ header::writing::write_header-returns-clause-kept t c =
     (extends-on _ c.write_countersignatures.new.out.items _ c.in_ok-write_countersignatures.ensures.kept
     (extends-on _ c.write_optional.new.out.items _ c.in_ok-write_optional.ensures.kept c.write_rest.ensures.kept))))
 
-pub header::writing::write_counter_signatures-returns-in_err-write_counter_signatures_head-clause-kept : goal.header::writing::write_counter_signatures-returns-in_err-write_counter_signatures_head-clause-kept
+pub header::writing::write_counter_signatures-returns-in_err-write_counter_signatures_head-clause-kept :
+    goal.header::writing::write_counter_signatures-returns-in_err-write_counter_signatures_head-clause-kept
 header::writing::write_counter_signatures-returns-in_err-write_counter_signatures_head-clause-kept t c =
     extends-on c.args.out.now.items c.write_parameter.new.out.items _ c.in_ok-write_parameter.ensures.kept c.in_err-write_counter_signatures_head.ensures.kept
 
-pub header::writing::write_counter_signatures-returns-in_err-write_signatures-clause-kept : goal.header::writing::write_counter_signatures-returns-in_err-write_signatures-clause-kept
+pub header::writing::write_counter_signatures-returns-in_err-write_signatures-clause-kept :
+    goal.header::writing::write_counter_signatures-returns-in_err-write_signatures-clause-kept
 header::writing::write_counter_signatures-returns-in_err-write_signatures-clause-kept t c =
     extends-on c.args.out.now.items c.write_parameter.new.out.items _ c.in_ok-write_parameter.ensures.kept
     (extends-on _ c.write_counter_signatures_head.new.out.items _ c.in_ok-write_counter_signatures_head.ensures.kept c.in_err-write_signatures.ensures.kept)
@@ -206,23 +210,28 @@ header::writing::write_counter_signatures-returns-clause-kept t c =
     extends-on c.args.out.now.items c.write_parameter.new.out.items _ c.in_ok-write_parameter.ensures.kept
     (extends-on _ c.write_counter_signatures_head.new.out.items _ c.in_ok-write_counter_signatures_head.ensures.kept c.in_ok-write_signatures.ensures.kept)
 
-pub header::writing::write_countersignatures-returns-in_err-write_counter_signatures_head-clause-kept : goal.header::writing::write_countersignatures-returns-in_err-write_counter_signatures_head-clause-kept
+pub header::writing::write_countersignatures-returns-in_err-write_counter_signatures_head-clause-kept :
+    goal.header::writing::write_countersignatures-returns-in_err-write_counter_signatures_head-clause-kept
 header::writing::write_countersignatures-returns-in_err-write_counter_signatures_head-clause-kept t c =
     extends-on c.args.out.now.items c.write_parameter.new.out.items _ c.in_ok-write_parameter.ensures.kept c.in_err-write_counter_signatures_head.ensures.kept
 
-pub header::writing::write_countersignatures-returns-in_err-write_each_countersignature-clause-kept : goal.header::writing::write_countersignatures-returns-in_err-write_each_countersignature-clause-kept
+pub header::writing::write_countersignatures-returns-in_err-write_each_countersignature-clause-kept :
+    goal.header::writing::write_countersignatures-returns-in_err-write_each_countersignature-clause-kept
 header::writing::write_countersignatures-returns-in_err-write_each_countersignature-clause-kept t c =
     extends-on c.args.out.now.items c.write_parameter.new.out.items _ c.in_ok-write_parameter.ensures.kept
-    (extends-on _ c.write_counter_signatures_head.new.out.items _ c.in_ok-write_counter_signatures_head.ensures.kept c.in_err-write_each_countersignature.ensures.kept)
+    (extends-on _ c.write_counter_signatures_head.new.out.items _ c.in_ok-write_counter_signatures_head.ensures.kept
+    c.in_err-write_each_countersignature.ensures.kept)
 
 pub header::writing::write_countersignatures-returns-clause-kept : goal.header::writing::write_countersignatures-returns-clause-kept
 header::writing::write_countersignatures-returns-clause-kept t c =
     extends-on c.args.out.now.items c.write_parameter.new.out.items _ c.in_ok-write_parameter.ensures.kept
-    (extends-on _ c.write_counter_signatures_head.new.out.items _ c.in_ok-write_counter_signatures_head.ensures.kept c.in_ok-write_each_countersignature.ensures.kept)
+    (extends-on _ c.write_counter_signatures_head.new.out.items _ c.in_ok-write_counter_signatures_head.ensures.kept
+    c.in_ok-write_each_countersignature.ensures.kept)
 
 pub signature::write_signature-returns-in_err-write_protected-clause-kept : goal.signature::write_signature-returns-in_err-write_protected-clause-kept
 signature::write_signature-returns-in_err-write_protected-clause-kept t c =
-    extends-on c.args.out.now.items c.write_array_head.new.out.items _ (least_head 4 3, c.in_ok-write_array_head.ensures.ok) c.in_err-write_protected.ensures.kept
+    extends-on c.args.out.now.items c.write_array_head.new.out.items _ (least_head 4 3, c.in_ok-write_array_head.ensures.ok)
+    c.in_err-write_protected.ensures.kept
 
 pub signature::write_signature-returns-in_err-write_header-clause-kept : goal.signature::write_signature-returns-in_err-write_header-clause-kept
 signature::write_signature-returns-in_err-write_header-clause-kept t c =
@@ -241,16 +250,20 @@ signature::write_signature-returns-clause-kept t c =
     (extends-on _ c.write_protected.new.out.items _ c.in_ok-write_protected.ensures.kept
     (extends-on _ c.write_header.new.out.items _ c.in_ok-write_header.ensures.kept (least_encoding (bytes c.deref.result.now), c.in_ok-write_bytes.ensures.ok)))
 
-pub countersignature::write_countersignature-returns-in_err-write_protected-clause-kept : goal.countersignature::write_countersignature-returns-in_err-write_protected-clause-kept
+pub countersignature::write_countersignature-returns-in_err-write_protected-clause-kept :
+    goal.countersignature::write_countersignature-returns-in_err-write_protected-clause-kept
 countersignature::write_countersignature-returns-in_err-write_protected-clause-kept t c =
-    extends-on c.args.out.now.items c.write_array_head.new.out.items _ (least_head 4 3, c.in_ok-write_array_head.ensures.ok) c.in_err-write_protected.ensures.kept
+    extends-on c.args.out.now.items c.write_array_head.new.out.items _ (least_head 4 3, c.in_ok-write_array_head.ensures.ok)
+    c.in_err-write_protected.ensures.kept
 
-pub countersignature::write_countersignature-returns-in_err-write_header-clause-kept : goal.countersignature::write_countersignature-returns-in_err-write_header-clause-kept
+pub countersignature::write_countersignature-returns-in_err-write_header-clause-kept :
+    goal.countersignature::write_countersignature-returns-in_err-write_header-clause-kept
 countersignature::write_countersignature-returns-in_err-write_header-clause-kept t c =
     extends-on c.args.out.now.items c.write_array_head.new.out.items _ (least_head 4 3, c.in_ok-write_array_head.ensures.ok)
     (extends-on _ c.write_protected.new.out.items _ c.in_ok-write_protected.ensures.kept c.in_err-write_header.ensures.kept)
 
-pub countersignature::write_countersignature-returns-in_err-write_bytes-clause-kept : goal.countersignature::write_countersignature-returns-in_err-write_bytes-clause-kept
+pub countersignature::write_countersignature-returns-in_err-write_bytes-clause-kept :
+    goal.countersignature::write_countersignature-returns-in_err-write_bytes-clause-kept
 countersignature::write_countersignature-returns-in_err-write_bytes-clause-kept t c =
     extends-on c.args.out.now.items c.write_array_head.new.out.items _ (least_head 4 3, c.in_ok-write_array_head.ensures.ok)
     (extends-on _ c.write_protected.new.out.items _ c.in_ok-write_protected.ensures.kept
