@@ -1,19 +1,14 @@
--- Elements of an array that were consumed.
-use Rattle.std.proofs.Common.{◌≡◌, ◌≤◌, Option, Result, Err, sym, subst, arith}
+-- The last element of an array, if it is there.
+use Rattle.std.proofs.Common.{◌≡◌, Option, Result, Err, sym, subst}
 use Rattle.std.specs.Prelude.{ℕ, Vec}
 use Rattle.std.specs.Global.{Global}
 use Rattle.coset_value.specs.Item.{Items, no_items, item}
 use Rattle.coset_codec.specs.declared.error.CoseError.{CoseError}
 use Rattle.coset_codec.specs.declared.read.decoder.ArrayElements.{ArrayElements}
 use Rattle.coset_codec.specs.Errors.{UnlessMemory}
-use Rattle.coset_codec.specs.Inputs.{State, tree, borrowed, AreWithin, MovesForward, length_left}
+use Rattle.coset_codec.specs.Inputs.{State, AreWithin}
 use Rattle.coset_codec.specs.Shape.{IsEnd, LastWrongLength}
 use Rattle.coset_claims.specs.SuppPub.{ReadsOther, other_place}
-
--- If `t` is after `s`, so is every later position `u`.
-pub goes_further : (s t u : State) → MovesForward s t → length_left u ≤ length_left t → MovesForward s u
-goes_further (tree w) t u g h = tt
-goes_further (borrowed s) t u g h = omega (arith, g, h)
 
 -- The items after the last element. If there are none, the number of elements isn't wrong.
 pub other_behind : (vs : Items) (t z : State) (m : ArrayElements) (r : Result (Option (Vec ℕ Global)) CoseError) → ReadsOther vs t z m r → (left : Items)

@@ -169,9 +169,6 @@ impl DecodeElements for SuppPrivInfo {
     }
 }
 
-/// The elements of a context's array.
-type ContextElements = (Algorithm, (PartyInfo, (PartyInfo, (SuppPubInfo, SuppPrivInfo))));
-
 impl Codec for CoseKdfContext {
     ghost use Rattle.coset_codec.specs.EqDecides.{vec_decides, lists_decides};
     ghost use Rattle.coset_label.specs.SameLaws.{algorithm_decides};
@@ -195,15 +192,19 @@ impl Codec for CoseKdfContext {
     /// Reads the elements of a context in order. If there are too few elements, the error says so.
     /// Otherwise the error is the fault of the last element that has one.
     fn read(alloc: Global, input: &mut Decoder<'_>) -> Result<CoseKdfContext> {
-        let elements: ContextElements = decode_array(alloc, input, "array with at least 4 items")?;
-        let (algorithm_id, (party_u_info, (party_v_info, (supp_pub_info, private)))) = elements;
-        Ok(CoseKdfContext {
-            algorithm_id,
-            party_u_info,
-            party_v_info,
-            supp_pub_info,
-            supp_priv_info: private.0,
-        })
+        match decode_array(alloc, input, "array with at least 4 items") {
+            Ok((algorithm_id, (party_u_info, (party_v_info, (supp_pub_info, private))))) => {
+                let SuppPrivInfo(supp_priv_info) = private;
+                Ok(CoseKdfContext {
+                    algorithm_id,
+                    party_u_info,
+                    party_v_info,
+                    supp_pub_info,
+                    supp_priv_info,
+                })
+            }
+            Err(error) => Err(error),
+        }
     }
 
     /// Leaves out the algorithm, because the hints of the other elements have room for its number.

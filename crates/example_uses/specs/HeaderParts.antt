@@ -1,9 +1,9 @@
 -- Facts in a header: a certificate, the algorithm, and the key.
-use Rattle.std.specs.Prelude.{◌==◌, if◌then◌else◌, ℕ, List, length, Bool, false, Option, Some, None}
+use Rattle.std.specs.Prelude.{◌==◌, ◌&&◌, if◌then◌else◌, ℕ, List, length, Bool, false, Option, Some, None}
 use Rattle.std.specs.Cmp.Lexicographic.{pointwise}
-use Rattle.std.specs.List.{list_any}
+use Rattle.std.specs.List.{list_all, list_any}
 use Rattle.coset_value.specs.Item.{Item, bytes, array, item}
-use Rattle.coset_label.specs.LabelData.{RegisteredLabelView}
+use Rattle.coset_label.specs.LabelData.{RegisteredLabelView, as_label}
 use Rattle.coset_claims.specs.Claims.{same_label}
 use Rattle.coset_core.specs.Headers.{HeaderView, ProtectedView, fields_in}
 
@@ -15,6 +15,15 @@ is_there_and test (Some x) = test x
 -- The label is one of these.
 abbrev pub is_one_of : List RegisteredLabelView → RegisteredLabelView → Bool
 is_one_of labels l = list_any (λ m. same_label m l) labels
+
+-- The label is one of these, and a parameter of the header that isn't a field.
+abbrev pub is_met : List RegisteredLabelView → HeaderView → RegisteredLabelView → Bool
+is_met labels h l = is_one_of labels l && list_any (λ e. same_label e.0 (as_label l)) (fields_in h).rest
+
+-- Each critical label is one of these and in the protected header `h`, and the unprotected header `u` lists none (RFC 8152,
+-- section 3.1).
+abbrev pub is_understood : List RegisteredLabelView → HeaderView → HeaderView → Bool
+is_understood labels h u = list_all (is_met labels h) (fields_in h).crit && length (fields_in u).crit == 0
 
 -- The end entity's certificate of COSE_X509 = bstr / [2*certs: bstr] (RFC 9360, section 2).
 abbrev pub leaf : Item → Option (List ℕ)

@@ -9,13 +9,15 @@ ghost use Rattle.coset_value.specs.View.{value_item};
 ghost use Rattle.coset_iana.specs.Algorithm as algorithms;
 ghost use Rattle.coset_iana.specs.HeaderParameter as parameters;
 ghost use Rattle.coset_iana.specs.declared.headers.HeaderParameter.TheVariants.{X5Chain};
-ghost use Rattle.coset_label.specs.LabelData.{assigned, number, same_label};
+ghost use Rattle.coset_label.specs.LabelData.{as_label, assigned, number, same_label};
+ghost use Rattle.coset_label.specs.Views.{entry_view};
 ghost use Rattle.coset_core.specs.Headers.{fields_in};
 ghost use Rattle.coset_core.specs.Views.{critical_view, header_view, protected_view};
-ghost use Rattle.example_uses.specs.HeaderParts.{has_algorithm, is_one_of, leaf, names_key, one_names_key};
+ghost use Rattle.example_uses.specs.HeaderParts.{has_algorithm, is_met, is_one_of, is_understood, leaf, names_key, one_names_key};
 
 use coset::cbor::value::Value;
 use coset::iana::{Algorithm, EnumI64, HeaderParameter};
+use coset::laws::orders_match_equality;
 use coset::{Header, Label, ProtectedHeader, RegisteredLabelWithPrivate};
 
 /// An entry of `crit`, a label that must be understood.
@@ -28,13 +30,44 @@ fn is_known(known: &[Critical], label: &Critical) -> bool
     known.contains(label)
 }
 
-/// Returns true if each label in the header's `crit` is one of these (RFC 8152, section 3.1). A
-/// message with another critical label must be refused.
-pub fn is_understood(header: &Header, known: &[Critical]) -> bool
-    ensures { result ≡ list_all (is_one_of (map critical_view known.now))
-        (fields_in (header_view header.now)).crit }
+/// Returns true if the pair has this label.
+fn is_labelled(pair: &(Label, Value), label: &Critical) -> bool
+    ensures { result ≡ same_label (entry_view pair.now).0 (as_label (critical_view label.now)) }
 {
-    header.crit.iter().all(|label| is_known(known, label))
+    orders_match_equality();
+    match (&pair.0, label) {
+        (Label::Int(held), RegisteredLabelWithPrivate::Assigned(parameter)) => *held
+            == parameter.to_i64(),
+        (Label::Int(held), RegisteredLabelWithPrivate::PrivateUse(number)) => held == number,
+        (Label::Text(held), RegisteredLabelWithPrivate::Text(text)) => held == text,
+        _ => false,
+    }
+}
+
+/// Returns true if the label is one of these, and a parameter that isn't a field of the header.
+fn is_met(header: &Header, known: &[Critical], label: &Critical) -> bool
+    ensures { result ≡ is_met (map critical_view known.now) (header_view header.now)
+        (critical_view label.now) }
+{
+    is_known(known, label) && header.rest.iter().any(|pair| is_labelled(pair, label))
+}
+
+/// Returns true if each label in `crit` is one of these and a parameter of the protected header,
+/// and the unprotected header has no `crit` (RFC 8152, section 3.1).
+///
+/// Any other message must be refused. The labels of fields of a [`Header`] count as missing. They
+/// should not be in `crit`, because every recipient understands them.
+pub fn is_understood(
+    protected: &ProtectedHeader,
+    unprotected: &Header,
+    known: &[Critical],
+) -> bool
+    ensures { result ≡ is_understood (map critical_view known.now)
+        (protected_view protected.now).header (header_view unprotected.now) }
+{
+    let header = &protected.header;
+    let are_met = header.crit.iter().all(|label| is_met(header, known, label));
+    are_met && unprotected.crit.is_empty()
 }
 
 /// Returns the value of a parameter that isn't a field of the header.

@@ -2,7 +2,7 @@
 
 use coset::cbor::value::Value;
 use coset::iana::HeaderParameter;
-use coset::{CborSerializable, Header, RegisteredLabelWithPrivate};
+use coset::{CborSerializable, Header, ProtectedHeader, RegisteredLabelWithPrivate};
 use example_uses::headers::{is_understood, signer_certificate};
 use example_uses::sequences::{and_value, uncounted_lengths, values_in};
 use std::alloc::Global;
@@ -13,16 +13,48 @@ fn header(alloc: Global, bytes: &[u8]) -> Result<Header, Fail> {
     Ok(Header::from_slice(alloc, bytes).ok().ok_or("refused")?)
 }
 
+/// Reads the protected header from the bytes of its map.
+fn protected(alloc: Global, bytes: &[u8]) -> Result<ProtectedHeader, Fail> {
+    Ok(ProtectedHeader {
+        original_data: None,
+        header: header(alloc, bytes)?,
+    })
+}
+
 #[test]
 fn labels_that_are_understood(rt: HostRuntime) -> Result<(), Fail> {
     let alloc = rt.alloc();
-    let known = [RegisteredLabelWithPrivate::Assigned(HeaderParameter::ContentType)];
-    let critical = header(alloc, b"\xa2\x02\x81\x03\x03\x00")?;
-    assert!(rt; is_understood(&critical, &known));
-    assert!(rt; !is_understood(&critical, &[]));
-    assert!(rt; is_understood(&header(alloc, b"\xa1\x03\x00")?, &[]));
-    let other = header(alloc, b"\xa2\x02\x82\x03\x05\x03\x00")?;
-    assert!(rt; !is_understood(&other, &known));
+    let known = [
+        RegisteredLabelWithPrivate::Assigned(HeaderParameter::X5Chain),
+        RegisteredLabelWithPrivate::PrivateUse(-65537),
+        RegisteredLabelWithPrivate::Text(String::from_str(alloc, "a")?),
+    ];
+    let none = header(alloc, b"\xa0")?;
+    let understood: [&[u8]; 5] = [
+        b"\xa1\x03\x00",
+        b"\xa2\x02\x81\x18\x21\x18\x21\x41a",
+        b"\xa2\x02\x82\x18\x21\x18\x21\x18\x21\x41a",
+        b"\xa2\x02\x81\x3a\x00\x01\x00\x00\x3a\x00\x01\x00\x00\xf6",
+        b"\xa2\x02\x81\x61a\x61a\x01",
+    ];
+    for bytes in understood {
+        let critical = protected(alloc, bytes)?;
+        assert!(rt; is_understood(&critical, &none, &known));
+    }
+    let refused: [&[u8]; 5] = [
+        b"\xa1\x02\x81\x18\x21",
+        b"\xa2\x02\x81\x18\x22\x18\x22\x41a",
+        b"\xa2\x02\x82\x18\x21\x61a\x18\x21\x41a",
+        b"\xa2\x02\x81\x61a\x61b\x01",
+        b"\xa2\x02\x81\x03\x03\x00",
+    ];
+    for bytes in refused {
+        let critical = protected(alloc, bytes)?;
+        assert!(rt; !is_understood(&critical, &none, &known));
+    }
+    let listed = protected(alloc, b"\xa2\x02\x81\x18\x21\x18\x21\x41a")?;
+    assert!(rt; !is_understood(&listed, &none, &[]));
+    assert!(rt; !is_understood(&protected(alloc, b"\xa0")?, &listed.header, &known));
     Ok(())
 }
 
