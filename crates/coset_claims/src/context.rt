@@ -191,6 +191,7 @@ impl Codec for CoseKdfContext {
 
     /// Reads the elements of a context in order. If there are too few elements, the error says so.
     /// Otherwise the error is the fault of the last element that has one.
+    #[tactic(auto, unfolding(coset_label::specs::Labels::algorithm))]
     fn read(alloc: Global, input: &mut Decoder<'_>) -> Result<CoseKdfContext> {
         match decode_array(alloc, input, "array with at least 4 items") {
             Ok((algorithm_id, (party_u_info, (party_v_info, (supp_pub_info, private))))) => {
