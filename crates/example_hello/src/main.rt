@@ -48,15 +48,21 @@ fn received(alloc: Global, bytes: &[u8]) -> Result<Option<Vec<u8>>, CallError<Re
     Ok(message.payload)
 }
 
-fn main(rt: HostRuntime) -> io::Result<()> {
+/// The step that failed, and its error. The program prints it, and ends with status 1.
+#[derive(Debug, Drop)]
+enum Failed {
+    Sending(CallError<Refused>),
+    Receiving(CallError<Refused>),
+    Printing(io::Error),
+}
+
+fn main(rt: HostRuntime) -> Result<(), Failed> {
     let alloc = rt.alloc();
-    let Ok(bytes) = sent(alloc) else {
-        return println!(rt; "not signed");
+    let bytes = sent(alloc).map_err(Failed::Sending)?;
+    println!(rt; "{} bytes sent", bytes.len()).map_err(Failed::Printing)?;
+    let printed = match received(alloc, &bytes).map_err(Failed::Receiving)? {
+        Some(payload) => println!(rt; "verified, with {} bytes of payload", payload.len()),
+        None => println!(rt; "verified, without a payload"),
     };
-    println!(rt; "{} bytes sent", bytes.len())?;
-    match received(alloc, &bytes) {
-        Ok(Some(payload)) => println!(rt; "verified, with {} bytes of payload", payload.len()),
-        Ok(None) => println!(rt; "verified, without a payload"),
-        Err(_) => println!(rt; "refused"),
-    }
+    printed.map_err(Failed::Printing)
 }

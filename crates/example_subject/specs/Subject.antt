@@ -2,7 +2,7 @@
 use Rattle.std.specs.Prelude.{◌≡◌, ℕ, List, [], ◌∷◌, ◌++◌, Bool, true, false, Some}
 use Rattle.coset_claims.specs.Claims.{ClaimsView}
 use Rattle.example_subject.specs.declared.Unprinted.{Unprinted}
-use Rattle.example_subject.specs.declared.Unprinted.TheVariants.{NotVerified, NoSubject, NotWritten}
+use Rattle.example_subject.specs.declared.Unprinted.TheVariants.{NotVerified, NoSubject, NotALine, NotWritten}
 use Rattle.example_uses.specs.Exchange.{AreVerified}
 
 -- The line is the subject in the claims of a verified token, and a line feed.
@@ -17,4 +17,5 @@ pub record IsSubjectLine (accepts : List ℕ → List ℕ → Type 0) (token lin
 abbrev pub comes_before_writing : Unprinted → Bool
 comes_before_writing (NotVerified error) = true
 comes_before_writing NoSubject = true
+comes_before_writing NotALine = true
 comes_before_writing (NotWritten error) = false

@@ -1,11 +1,13 @@
-//! Prints the subject of a signed web token, if its signature is valid. The token is read from
-//! standard input, in hexadecimal. The stand-in key is to be replaced: it protects nothing.
+//! Prints the subject of a signed web token, if its signature is valid. Nothing else of the token
+//! is checked. It is read from standard input, in hexadecimal. If no subject is printed, standard
+//! error says why, and the status is 1. The stand-in key is to be replaced: it protects nothing.
 #![tactic(auto)]
 
 ghost use Rattle.std.specs.Prelude.{◌≡◌, ℕ, List, IfErr, IsTrue, OnOk};
 ghost use Rattle.std.specs.Io.KnownBytes.{Appends};
 ghost use Rattle.example_subject.specs.Subject.{IsSubjectLine, comes_before_writing};
 
+use anyhow::bail;
 use coset::{CallError, CoseError};
 use example_uses::cipher::{Refused, VerifyingKey};
 use example_uses::stand_in::StandInKey;
@@ -21,6 +23,8 @@ enum Unprinted {
     NotVerified(CallError<Refused>),
     /// The claims have no subject.
     NoSubject,
+    /// The subject has a control character, such as a line feed.
+    NotALine,
     /// The line couldn't be written, or only a part of it.
     NotWritten(io::Error),
 }
@@ -48,6 +52,9 @@ fn print_subject<K: VerifyingKey, W: Write>(
     let Some(subject) = &claims.subject else {
         return Err(Unprinted::NoSubject);
     };
+    if subject.chars().any(char::is_control) {
+        return Err(Unprinted::NotALine);
+    }
     let Ok(line) = format!(in alloc; "{subject}\n") else {
         let error = CallError::Coset(CoseError::OutOfMemory);
         return Err(Unprinted::NotVerified(error));
@@ -58,17 +65,36 @@ fn print_subject<K: VerifyingKey, W: Write>(
     }
 }
 
-fn main(rt: HostRuntime) -> io::Result<()> {
+fn main(rt: HostRuntime) -> anyhow::Result<()> {
     let alloc = rt.alloc();
     let mut input = String::new(alloc);
     rt.stdin().read_to_string(&mut input)?;
-    let Ok(token) = hex::decode(alloc, input.trim()) else {
-        return eprintln!(rt; "this isn't hexadecimal");
-    };
+    let token = hex::decode(alloc, input.trim())?;
     match print_subject(alloc, &StandInKey, &token, &mut rt.stdout()) {
         Ok(()) => Ok(()),
-        Err(Unprinted::NotVerified(error)) => eprintln!(rt; "not verified: {error:?}"),
-        Err(Unprinted::NoSubject) => eprintln!(rt; "the claims have no subject"),
-        Err(Unprinted::NotWritten(error)) => Err(error),
+        Err(reason) => bail!("{reason:?}"),
+    }
+}
+
+#[cfg(test)]
+mod tests {
+    use super::*;
+    use coset::cwt::ClaimsSetBuilder;
+    use coset::iana::Algorithm;
+    use example_uses::issue::issue_token;
+    use std::test::Fail;
+
+    #[test]
+    fn a_subject_with_a_line_feed_is_refused(rt: HostRuntime) -> Result<(), Fail> {
+        let alloc = rt.alloc();
+        let claims = ClaimsSetBuilder::new(alloc)
+            .subject_from(alloc, "erikw\nadmin")?
+            .build();
+        let token = issue_token(alloc, &StandInKey, Algorithm::ES256, claims, b"")?;
+        let mut written = Vec::new(alloc);
+        let result = print_subject(alloc, &StandInKey, &token, &mut written);
+        assert!(rt; matches!(result, Err(Unprinted::NotALine)));
+        assert!(rt; written.is_empty());
+        Ok(())
     }
 }

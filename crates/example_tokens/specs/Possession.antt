@@ -1,5 +1,5 @@
 -- Proofs that the sender of a token possesses the key that the token confirms (RFC 8747, section 3.5).
-use Rattle.std.specs.Prelude.{◌≡◌, ◌≢◌, ◌⊎◌, ◌==◌, ◌||◌, not, ℕ, List, [], length, Option, Some, None, Bool, true, false, Result, Ok, Err}
+use Rattle.std.specs.Prelude.{◌≡◌, ◌≢◌, ◌⊎◌, ◌==◌, ◌||◌, ◌<◌, ◌≤◌, not, ℕ, List, [], length, Option, Some, None, Bool, true, false, Result, Ok, Err}
 use Rattle.std.specs.Option.{IsSomeAnd}
 use Rattle.coset.specs.Calls.{IsStructure}
 use Rattle.coset.specs.CoseKey.{CoseKey}
@@ -102,7 +102,14 @@ VerifiesProof c k challenge b r = IsUncritical b (λ m. IsOver challenge m (λ s
 
 -- The result for a token and the proof `b`. On success, the ciphers accepted the message's signature over the challenge
 -- by the key that the token confirms, which fits the message.
+abbrev pub VerifiesConfirmed : {E : Type 0} → CiphersView E → TokenView → List ℕ → List ℕ → Result (Unit {0}) (NotPossessed E) → Type 0
+VerifiesConfirmed c t challenge b (Err (refusal.Confirmation e)) = ReadsConfirmation t (Err e)
+VerifiesConfirmed c t challenge b (Err refusal.NoKey) = ConfirmsNoKey t
+VerifiesConfirmed c t challenge b r = (k : KeyView) × IsConfirmed t k × VerifiesProof c k challenge b r
+
+-- ---- the challenge
+
+-- A challenge has at least 8 bytes, as has the nonce of an attestation token (RFC 9711, section 4.1).
 abbrev pub ProvesPossession : {E : Type 0} → CiphersView E → TokenView → List ℕ → List ℕ → Result (Unit {0}) (NotPossessed E) → Type 0
-ProvesPossession c t challenge b (Err (refusal.Confirmation e)) = ReadsConfirmation t (Err e)
-ProvesPossession c t challenge b (Err refusal.NoKey) = ConfirmsNoKey t
-ProvesPossession c t challenge b r = (k : KeyView) × IsConfirmed t k × VerifiesProof c k challenge b r
+ProvesPossession c t challenge b (Err refusal.ShortChallenge) = length challenge < 8
+ProvesPossession c t challenge b r = (8 ≤ length challenge) × VerifiesConfirmed c t challenge b r

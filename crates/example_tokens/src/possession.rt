@@ -5,7 +5,7 @@ ghost use Rattle.coset.specs.Keys.{key_view};
 ghost use Rattle.coset.specs.Sign1.{sign1_view};
 ghost use Rattle.cwt_keys.specs.Sealed.{seal_view};
 ghost use Rattle.cwt_verify.specs.Verify.{token_view};
-ghost use Rattle.example_tokens.specs.Possession.{ProvesPossession, ReadsProofKey, VerifiesMessage, VerifiesProof, VerifiesSealed, for_proofs, is_critical, key_of};
+ghost use Rattle.example_tokens.specs.Possession.{ProvesPossession, ReadsProofKey, VerifiesConfirmed, VerifiesMessage, VerifiesProof, VerifiesSealed, for_proofs, is_critical, key_of};
 
 use coset::iana::Algorithm;
 use coset::{CoseError, CoseKey, CoseSign1, RegisteredLabelWithPrivate, TaggedCborSerializable};
@@ -15,9 +15,15 @@ use cwt_ring::{Ciphers, fits};
 use cwt_verify::VerifiedToken;
 use std::alloc::Global;
 
+/// The least number of bytes in a challenge, as in the nonce of an attestation token (RFC 9711,
+/// section 4.1).
+const SHORTEST: usize = 8;
+
 /// The reason why a sender isn't accepted.
 #[derive(Debug, Drop)]
 pub enum NotPossessed<E> {
+    /// The challenge has fewer than 8 bytes.
+    ShortChallenge,
     /// The token's confirmation is refused.
     Confirmation(ConfirmationError),
     /// The token has no key in the clear: it has no confirmation, an encrypted key or an
@@ -162,12 +168,31 @@ fn verify_proof<C: Ciphers>(
     verify_message(alloc, key, ciphers, challenge, &message)
 }
 
+/// Accepts a proof by the key that the token confirms, for this challenge.
+///
+/// # Errors
+/// - `Confirmation` or `NoKey`, as from `proof_key`.
+/// - An error of `verify_proof`.
+fn verify_confirmed<C: Ciphers>(
+    alloc: Global,
+    token: &VerifiedToken<'_>,
+    ciphers: &C,
+    challenge: &[u8],
+    proof: &[u8],
+) -> Result<(), NotPossessed<C::Error>>
+    ensures { VerifiesConfirmed (C.view ciphers.now) (token_view token.now) challenge.now proof.now
+        result }
+{
+    let key = proof_key(alloc, token)?;
+    verify_proof(alloc, &key, ciphers, challenge, proof)
+}
+
 /// Accepts the sender of a verified token, if it signed the challenge with the key that the token
 /// confirms (RFC 8747, section 3.5).
 ///
-/// `challenge` is a random nonce that this service chose for the sender and accepts once. `proof`
-/// is a `COSE_Sign1`, tagged or not. Its signature is over the challenge, whatever payload it
-/// carries.
+/// `challenge` is a random nonce of 8 bytes or more. This service chose it for the sender, and
+/// accepts it once. `proof` is a `COSE_Sign1`, tagged or not. Its signature is over the challenge,
+/// whatever payload it carries.
 ///
 /// # Errors
 /// The first of [`NotPossessed`] that applies. If an allocation fails, `Message` may come after
@@ -182,6 +207,8 @@ pub fn check_possession<C: Ciphers>(
     ensures { ProvesPossession (C.view ciphers.now) (token_view token.now) challenge.now proof.now
         result }
 {
-    let key = proof_key(alloc, token)?;
-    verify_proof(alloc, &key, ciphers, challenge, proof)
+    if challenge.len() < SHORTEST {
+        return Err(NotPossessed::ShortChallenge);
+    }
+    verify_confirmed(alloc, token, ciphers, challenge, proof)
 }

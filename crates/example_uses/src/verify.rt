@@ -19,7 +19,8 @@ use coset_codec::laws::encodings_agree;
 use coset_sign::laws::{attached_as_written, signed_as_written, signed_when_read};
 use std::alloc::Global;
 
-/// Decodes and returns a token's message, if the key accepts its signature.
+/// Decodes and returns a token's message, if the key accepts its signature. Nothing else is
+/// checked.
 ///
 /// # Errors
 /// - A fault in bytes that aren't a message with one signature.
@@ -59,7 +60,8 @@ pub fn verify_token<K: VerifyingKey>(
     Ok(message)
 }
 
-/// Returns the claims of a web token, if the key accepts its signature.
+/// Returns the claims of a web token, if the key accepts its signature. Nothing else is checked,
+/// such as `exp` or `aud`.
 ///
 /// # Errors
 /// - The errors of [`verify_token`].
