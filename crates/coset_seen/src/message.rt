@@ -121,10 +121,11 @@ fn content_of<'a>(elements: Elements<'a>, input: &[u8]) -> Option<Part<'a>>
 /// message must be the whole input, and both its headers must be plain. Its array, the headers'
 /// maps and its byte strings must have definite lengths (RFC 8949, section 3.2).
 ///
-/// The labels of a plain header are integers from 0 to `i64::MAX`, in ascending order. It has no
-/// `crit`, no Partial IV and no countersignatures. Its algorithm is a registered number or one for
-/// private use, and its content type a registered number. Its key identifier and its IV are byte
-/// strings of definite length, and not empty. Other labels may have any value.
+/// The labels of a plain header are integers from 0 to `i64::MAX`, in ascending order. None is 2, 6,
+/// 7, 11 or 12: it has no `crit`, no Partial IV, and no countersignature but an abbreviated one
+/// under label 9. Its algorithm is a registered number or one for private use, and its content type
+/// a registered number. Its key identifier and its IV are byte strings of definite length, and not
+/// empty. Other labels may have any value.
 ///
 /// A label may be in both headers, as in a decoded message. RFC 8152, section 3, lets applications
 /// check that it isn't.

@@ -7,9 +7,11 @@ use coset::CoseKey;
 /// 3.1).
 #[derive(Debug, Drop)]
 pub enum Confirmation {
-    /// A public key, or a symmetric key that only those who decrypt the token can read: `COSE_Key`
-    /// (section 3.2). It has the members that its type requires. Their lengths aren't checked, and
-    /// a symmetric key may be empty.
+    /// A public key, or a symmetric key that a layer encrypts: `COSE_Key` (section 3.2). Whether
+    /// signatures that weren't accepted, or countersignatures, show a symmetric key isn't checked.
+    ///
+    /// The key has the members that its type requires. `fits` of `cwt_ring` checks their lengths
+    /// and the curve (RFC 9053, section 7.1). Here a symmetric key may be empty.
     Key(CoseKey),
     /// A key that the caller must decrypt: `Encrypted_COSE_Key` (section 3.3). The plaintext is the
     /// encoded `COSE_Key`. Nothing of the message or of that key is checked.

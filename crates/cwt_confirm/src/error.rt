@@ -23,7 +23,7 @@ pub enum ConfirmationError {
     KeyId,
     /// The claim has no key, no encrypted key and no `kid`. Other members aren't understood.
     NoKey,
-    /// `COSE_Key` isn't a key (section 3.2). Or `Encrypted_COSE_Key` isn't an encrypted message
+    /// `COSE_Key` isn't a key (section 3.2), or `Encrypted_COSE_Key` isn't an encrypted message
     /// (section 3.3).
     Malformed(CoseError),
     /// The key lacks a member that its type requires, or its type isn't one of IANA's (section

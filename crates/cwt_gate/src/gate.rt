@@ -35,8 +35,10 @@ use std::alloc::Global;
 /// - that `exp` or another claim is present, and the time of issue (`iat`).
 /// - that the token wasn't used before (replay; `cti`).
 ///
-/// The claims are refused if `aud` is an array, or if a claim's number is neither assigned nor for
-/// private use. RFC 8392, sections 3 and 3.1.3, allows both.
+/// The claims are refused if `aud` is an array, if a claim's number is neither assigned nor for
+/// private use, or if `exp` or `nbf` is a float. RFC 8392, sections 2, 3 and 3.1.3, allows these.
+/// Names in `iss`, `sub` and `aud` may be any texts, also those with a `:` that are no URI (section
+/// 2).
 ///
 /// # Errors
 /// The first error that applies, in the order of [`GateError`]. If an allocation fails, the error

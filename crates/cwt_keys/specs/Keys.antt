@@ -11,12 +11,18 @@ abbrev pub name_view : Option (Bor (List ℕ)) → Name
 name_view n = option_map (λ s. s.now) n
 
 -- The view of keys: the signatures and MACs that they may accept, the plaintexts that they may return, each for the
--- issuer of a name, and the errors that they may return.
+-- issuer of a name, and the errors that they may return for either.
 pub record KeysView (E : Type 0) : Type 1 where
   pub accepts : SealView → Name → Type 0
+  pub not_accepted : SealView → E → Type 0
   pub decrypts : SealView → List ℕ → Name → Type 0
-  pub refuses : SealView → E → Type 0
+  pub not_decrypted : SealView → E → Type 0
 
 -- Keys of which nothing is known.
 abbrev pub accept_anything : {E : Type 0} → KeysView E
-accept_anything = record { accepts = λ s n. Unit {0}; decrypts = λ s p n. Unit {0}; refuses = λ s e. Unit {0} }
+accept_anything = record {
+  accepts = λ s n. Unit {0};
+  not_accepted = λ s e. Unit {0};
+  decrypts = λ s p n. Unit {0};
+  not_decrypted = λ s e. Unit {0};
+}

@@ -14,7 +14,9 @@ use std::alloc::Global;
 /// the crate `cwt_ring` does:
 ///
 /// - The key is for the algorithm of the protected header, and for no other (RFC 8725, section
-///   3.1).
+///   3.1). Its type, curve, length and `key_ops` are right for it (RFC 9052, section 7.1; RFC 9053,
+///   sections 2 to 4). `fits` of `cwt_ring` checks this.
+/// - A MAC has its full length. A ciphertext whose tag is wrong is an error.
 /// - The name that is returned is that of the issuer to whom the key belongs (RFC 8725, section
 ///   3.8). It doesn't come from the token.
 ///
@@ -32,17 +34,18 @@ pub trait Keys {
     /// has no name.
     ///
     /// # Errors
-    /// Any error that these keys may return for this layer (`refuses` of `view`).
+    /// Any error that these keys may return for this layer (`not_accepted` of `view`).
     fn verify<'k>(&'k self, sealed: &Sealed<'_>) -> Result<Option<&'k str>, Self::Error>
         ensures accepted { IfOk result (λ n.
             (view self.now).accepts (seal_view sealed.now) (name_view n)) }
-        ensures refused { IfErr result (λ e. (view self.now).refuses (seal_view sealed.now) e) };
+        ensures refused { IfErr result (λ e.
+            (view self.now).not_accepted (seal_view sealed.now) e) };
 
     /// Returns the plaintext of an encrypted layer (`COSE_Encrypt0`, `COSE_Encrypt`), and the name
     /// of the issuer whose key decrypted it, or `None` if that issuer has no name.
     ///
     /// # Errors
-    /// Any error that these keys may return for this layer (`refuses` of `view`).
+    /// Any error that these keys may return for this layer (`not_decrypted` of `view`).
     fn decrypt<'k>(
         &'k self,
         alloc: Global,
@@ -50,5 +53,6 @@ pub trait Keys {
     ) -> Result<(Vec<u8>, Option<&'k str>), Self::Error>
         ensures decrypted { IfOk result (λ x.
             (view self.now).decrypts (seal_view sealed.now) x.0.items (name_view x.1)) }
-        ensures refused { IfErr result (λ e. (view self.now).refuses (seal_view sealed.now) e) };
+        ensures refused { IfErr result (λ e.
+            (view self.now).not_decrypted (seal_view sealed.now) e) };
 }

@@ -53,7 +53,8 @@ fn first_nonempty<'a>(first: &'a [u8], second: &'a [u8]) -> &'a [u8]
 }
 
 impl<'a> Sealed<'a> {
-    /// Returns the parts of a layer without recipients, or of one signature.
+    /// Returns the parts of a layer without recipients, or of one signature. `form` should be such a
+    /// form; this isn't checked.
     pub fn new(
         form: Form,
         protected: &'a ProtectedHeader,
@@ -74,7 +75,8 @@ impl<'a> Sealed<'a> {
         }
     }
 
-    /// Returns the parts of a layer for a recipient that has this unprotected header.
+    /// Returns the parts of a layer for a recipient that has this unprotected header. The caller must
+    /// have checked that the recipient is `direct`, as `verify_token` does.
     pub fn for_recipient(
         form: Form,
         protected: &'a ProtectedHeader,
@@ -105,11 +107,10 @@ impl<'a> Sealed<'a> {
         assigned_in(&self.protected.header.alg)
     }
 
-    /// Returns the key identifier of the recipient. For a layer without recipients, it is that of
-    /// the protected header, or if it has none, that of the unprotected one (RFC 8152, section
-    /// 3.1).
+    /// Returns the key identifier that the layer names, or no bytes if it names none.
     ///
-    /// The result is empty if there is no identifier. It helps to find a key, but it doesn't prove
+    /// With a recipient it is that of the recipient. Otherwise it is that of the protected header, or
+    /// if it has none, that of the unprotected one (RFC 8152, section 3.1). It helps to find a key, but it doesn't prove
     /// who sent the token.
     pub fn key_id(&self) -> &'a [u8]
         ensures { result.now ≡ key_id_of (seal_view self.now) }

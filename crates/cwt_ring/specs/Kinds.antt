@@ -91,9 +91,14 @@ abbrev pub is_modulus : List ℕ → Bool
 is_modulus [] = false
 is_modulus (b ∷ bs) = nat_lt 0 b && (nat_lt 256 (length (b ∷ bs)) || (length (b ∷ bs) == 256 && nat_le 128 b))
 
+-- The exponent has no leading zeros (RFC 8230, section 4).
+abbrev pub is_exponent : List ℕ → Bool
+is_exponent [] = false
+is_exponent (b ∷ bs) = nat_lt 0 b
+
 -- A public RSA key: n and e (RFC 8230, section 4).
 abbrev pub is_rsa : KeyView → Bool
-is_rsa k = has_type kty.RSA k && has_bytes is_modulus (minus 1) k && has_length_from 1 (minus 2) k
+is_rsa k = has_type kty.RSA k && has_bytes is_modulus (minus 1) k && has_bytes is_exponent (minus 2) k
 
 -- The t-values, both matrices and the permutation of a WalnutDSA key (RFC 9021, section 6.3).
 abbrev pub has_walnut_arrays : KeyView → Bool

@@ -1,5 +1,5 @@
 -- The results of a ring of keys.
-use Rattle.std.specs.Prelude.{◌⊎◌, ℕ, ℤ, List, map}
+use Rattle.std.specs.Prelude.{ℕ, ℤ, List, map}
 use Rattle.std.specs.Option.{IsSomeAnd}
 use Rattle.coset.specs.Keys.{KeyView}
 use Rattle.cwt_keys.specs.Keys.{KeysView}
@@ -51,12 +51,11 @@ Decrypts c s p k = IsSomeAnd (algorithm_of s) (λ a. DecryptsBy c a s p k)
 abbrev pub NotDecrypted : {E : Type 0} → CiphersView E → SealView → Fitted → E → Type 0
 NotDecrypted c s k e = IsSomeAnd (algorithm_of s) (λ a. NotDecryptedBy c a s k e)
 
--- The view of a ring. Each key that fits the layer is tried, in order, until one is accepted. Any error is that of
--- trying to verify or of trying to decrypt.
+-- The view of a ring. Each key that fits the layer is tried, in order, until one is accepted.
 abbrev pub ring_view : {E : Type 0} → CiphersView E → List Issuer → KeysView (KeyError E)
 ring_view c is = record {
   accepts = λ s name. Finds (Verifies c s) (NotVerified c s) (fitting s (map issuer_view is)) name;
+  not_accepted = λ s e. RefusedFor (NotVerified c s) (fitting s (map issuer_view is)) e;
   decrypts = λ s p name. Finds (Decrypts c s p) (NotDecrypted c s) (fitting s (map issuer_view is)) name;
-  refuses = λ s e.
-      RefusedFor (NotVerified c s) (fitting s (map issuer_view is)) e ⊎ RefusedFor (NotDecrypted c s) (fitting s (map issuer_view is)) e;
+  not_decrypted = λ s e. RefusedFor (NotDecrypted c s) (fitting s (map issuer_view is)) e;
 }

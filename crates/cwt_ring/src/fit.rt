@@ -113,7 +113,8 @@ fn nonce_by(row: Row, key: &CoseKey, sealed: &Sealed<'_>) -> Option<Nonce>
 ///   assigned the algorithm's number, and the table of `cwt_keys` has a row for it, of the layer's
 ///   form.
 /// - Its `kty`, its curve and the lengths of its members are those of the row (RFC 9053, section
-///   7). Of several params with the same label, the first counts.
+///   7). Of HSS-LMS and WalnutDSA keys, the members are checked by type alone. Of several params
+///   with the same label, the first counts.
 /// - Its `key_ops` are absent, or contain an operation for layers of this form (RFC 9052, section
 ///   7.1).
 /// - A MAC has exactly the length of the row, and a ciphertext is at least as long as its tag.

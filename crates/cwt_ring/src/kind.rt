@@ -3,7 +3,7 @@
 
 ghost use Rattle.std.specs.Prelude.{◌≡◌};
 ghost use Rattle.coset.specs.Keys.{key_view};
-ghost use Rattle.cwt_ring.specs.Kinds.{coordinate_length, edwards_length, has_bytes, has_curve, has_point, has_type, has_walnut_arrays, is_ec2, is_modulus, is_of_kind, is_okp, is_rsa, is_walnut};
+ghost use Rattle.cwt_ring.specs.Kinds.{coordinate_length, edwards_length, has_bytes, has_curve, has_point, has_type, has_walnut_arrays, is_ec2, is_exponent, is_modulus, is_of_kind, is_okp, is_rsa, is_walnut};
 
 use crate::member::{
     bytes_of, has_length, has_length_from, integer_of, is_array, is_bool, is_byte_string,
@@ -117,13 +117,33 @@ fn has_modulus(key: &CoseKey, label: i64) -> bool
     }
 }
 
+/// Returns true if an exponent has no leading zeros (RFC 8230, section 4).
+fn is_exponent(bytes: &[u8]) -> bool
+    ensures { result ≡ is_exponent bytes.now }
+{
+    match bytes.first() {
+        Some(first) => *first > 0,
+        None => false,
+    }
+}
+
+/// Returns true if e is a byte string that is such an exponent.
+fn has_exponent(key: &CoseKey, label: i64) -> bool
+    ensures { result ≡ has_bytes is_exponent label (key_view key.now) }
+{
+    match bytes_of(key, label) {
+        Some(bytes) => is_exponent(bytes),
+        None => false,
+    }
+}
+
 /// Returns true if this is a public RSA key (RFC 8230, section 4).
 fn is_rsa(key: &CoseKey) -> bool
     ensures { result ≡ is_rsa (key_view key.now) }
 {
     has_type(key, KeyType::RSA)
         && has_modulus(key, RsaKeyParameter::N.to_i64())
-        && has_length_from(key, RsaKeyParameter::E.to_i64(), 1)
+        && has_exponent(key, RsaKeyParameter::E.to_i64())
 }
 
 /// Returns true if the key has the arrays of a WalnutDSA key (RFC 9021, section 6.3).

@@ -13,7 +13,7 @@ use coset::{CoseKey, iana};
 use cwt_keys::{Keys, Sealed};
 use std::alloc::Global;
 
-/// The ciphers of a caller. A [`KeyRing`] calls them only with a key that fits the layer.
+/// The ciphers of a caller. A [`KeyRing`] accepts a layer only by a key that fits it.
 ///
 /// An implementer states in `view` which signatures, MACs and ciphertexts the ciphers may accept,
 /// and which errors they may return.

@@ -54,8 +54,8 @@ module _ {E : Type 0} (k : KeysView E) (p : PolicyView) where
 
   pub signed_refused :
       (m : Sign1View) (c t : List ℕ) (x : SealView) (f : E) → m.payload ≡ Some c → IsStructure (sign1_structure m [] c) t
-      → x ≡ parts Sign1 m.protected m.unprotected m.signature t None → k.refuses x f → Refuses k p (signed m) f
-  signed_refused m c t x f is made e h = (c, t, is, made, subst (λ y. k.refuses y f) e h)
+      → x ≡ parts Sign1 m.protected m.unprotected m.signature t None → k.not_accepted x f → Refuses k p (signed m) f
+  signed_refused m c t x f is made e h = (c, t, is, made, subst (λ y. k.not_accepted y f) e h)
 
   pub mac_accepted :
       (m : Mac0View) (c t : List ℕ) (x : SealView) (n : Name) → m.payload ≡ Some c → IsStructure (mac0_structure m [] c) t
@@ -64,8 +64,8 @@ module _ {E : Type 0} (k : KeysView E) (p : PolicyView) where
 
   pub mac_refused :
       (m : Mac0View) (c t : List ℕ) (x : SealView) (f : E) → m.payload ≡ Some c → IsStructure (mac0_structure m [] c) t
-      → x ≡ parts Mac0 m.protected m.unprotected m.tag t None → k.refuses x f → Refuses k p (macced m) f
-  mac_refused m c t x f is made e h = (c, t, is, made, subst (λ y. k.refuses y f) e h)
+      → x ≡ parts Mac0 m.protected m.unprotected m.tag t None → k.not_accepted x f → Refuses k p (macced m) f
+  mac_refused m c t x f is made e h = (c, t, is, made, subst (λ y. k.not_accepted y f) e h)
 
   pub decrypted :
       (m : Encrypt0View) (q t : List ℕ) (x : SealView) (c : List ℕ) (n : Name) → m.ciphertext ≡ Some q → IsStructure (encrypt0_structure m []) t
@@ -74,8 +74,8 @@ module _ {E : Type 0} (k : KeysView E) (p : PolicyView) where
 
   pub not_decrypted :
       (m : Encrypt0View) (q t : List ℕ) (x : SealView) (f : E) → m.ciphertext ≡ Some q → IsStructure (encrypt0_structure m []) t
-      → x ≡ parts Encrypt0 m.protected m.unprotected q t None → k.refuses x f → Refuses k p (encrypted m) f
-  not_decrypted m q t x f is made e h = (q, t, is, made, subst (λ y. k.refuses y f) e h)
+      → x ≡ parts Encrypt0 m.protected m.unprotected q t None → k.not_decrypted x f → Refuses k p (encrypted m) f
+  not_decrypted m q t x f is made e h = (q, t, is, made, subst (λ y. k.not_decrypted y f) e h)
 
   pub mac_accepted_for :
       (m : MacView) (r : RecipientView) (c t : List ℕ) (x : SealView) (n : Name) → only_direct m.recipients ≡ Some r → m.payload ≡ Some c
@@ -85,9 +85,9 @@ module _ {E : Type 0} (k : KeysView E) (p : PolicyView) where
 
   pub mac_refused_for :
       (m : MacView) (r : RecipientView) (c t : List ℕ) (x : SealView) (f : E) → only_direct m.recipients ≡ Some r → m.payload ≡ Some c
-      → IsStructure (mac_structure_of m [] c) t → x ≡ parts Mac m.protected m.unprotected m.tag t (Some r.unprotected) → k.refuses x f
+      → IsStructure (mac_structure_of m [] c) t → x ≡ parts Mac m.protected m.unprotected m.tag t (Some r.unprotected) → k.not_accepted x f
       → Refuses k p (macced_for m) f
-  mac_refused_for m r c t x f only is made e h = (r, (only, (c, t, is, made, subst (λ y. k.refuses y f) e h)))
+  mac_refused_for m r c t x f only is made e h = (r, (only, (c, t, is, made, subst (λ y. k.not_accepted y f) e h)))
 
   pub decrypted_for :
       (m : EncryptView) (r : RecipientView) (q t : List ℕ) (x : SealView) (c : List ℕ) (n : Name) → only_direct m.recipients ≡ Some r → m.ciphertext ≡ Some q
@@ -97,6 +97,6 @@ module _ {E : Type 0} (k : KeysView E) (p : PolicyView) where
 
   pub not_decrypted_for :
       (m : EncryptView) (r : RecipientView) (q t : List ℕ) (x : SealView) (f : E) → only_direct m.recipients ≡ Some r → m.ciphertext ≡ Some q
-      → IsStructure (encrypt_structure_of m []) t → x ≡ parts Encrypt m.protected m.unprotected q t (Some r.unprotected) → k.refuses x f
+      → IsStructure (encrypt_structure_of m []) t → x ≡ parts Encrypt m.protected m.unprotected q t (Some r.unprotected) → k.not_decrypted x f
       → Refuses k p (encrypted_for m) f
-  not_decrypted_for m r q t x f only is made e h = (r, (only, (q, t, is, made, subst (λ y. k.refuses y f) e h)))
+  not_decrypted_for m r q t x f only is made e h = (r, (only, (q, t, is, made, subst (λ y. k.not_decrypted y f) e h)))

@@ -53,8 +53,8 @@ module _ {E : Type 0} (k : KeysView E) (p : PolicyView) (body : ProtectedView) (
 
   -- The keys refuse the signature.
   pub refused_by_keys : (s : SignatureView) (t : List ℕ) (e : E) (h : HeadersView) (x : SealView) → h ≡ signature_headers s → IsAdmitted p h
-      → IsStructure (signature_item body c s) t → x ≡ signature_seal s t → k.refuses x e → RefusesSignature k p body c s (reason.Keys e)
-  refused_by_keys s t e h x same admitted made is no_more = (subst (IsAdmitted p) same admitted, (t, made, subst (λ y. k.refuses y e) is no_more))
+      → IsStructure (signature_item body c s) t → x ≡ signature_seal s t → k.not_accepted x e → RefusesSignature k p body c s (reason.Keys e)
+  refused_by_keys s t e h x same admitted made is no_more = (subst (IsAdmitted p) same admitted, (t, made, subst (λ y. k.not_accepted y e) is no_more))
 
   -- The policy doesn't admit the headers of the signature, or an allocation failed.
   pub turned_away : (s : SignatureView) (e : LayerError E) → ChecksHeaders p (signature_headers s) (Err e) → TriesSignature k p body c s (Err e)

@@ -102,9 +102,10 @@ RefusesLast k p l e = ⊥
 -- Asked about exactly this layer, or about its last signature, the keys may return the error `e`.
 abbrev pub Refuses : {E : Type 0} → KeysView E → PolicyView → LayerView → E → Type 0
 Refuses k p (signed_by m) e = RefusesLast k p (signed_by m) (Keys e)
-Refuses k p (macced_for m) e = (r : RecipientView) × Receives (macced_for m) (for_recipient r) (λ c s. k.refuses s e)
-Refuses k p (encrypted_for m) e = (r : RecipientView) × Receives (encrypted_for m) (for_recipient r) (λ c s. k.refuses s e)
-Refuses k p l e = Receives l whole (λ c s. k.refuses s e)
+Refuses k p (macced_for m) e = (r : RecipientView) × Receives (macced_for m) (for_recipient r) (λ c s. k.not_accepted s e)
+Refuses k p (encrypted m) e = Receives (encrypted m) whole (λ c s. k.not_decrypted s e)
+Refuses k p (encrypted_for m) e = (r : RecipientView) × Receives (encrypted_for m) (for_recipient r) (λ c s. k.not_decrypted s e)
+Refuses k p l e = Receives l whole (λ c s. k.not_accepted s e)
 
 -- The reason why a layer isn't opened whose headers the policy admits.
 abbrev pub RefusesContent : {E : Type 0} → KeysView E → PolicyView → LayerView → LayerError E → Type 0

@@ -49,7 +49,7 @@ AcceptsSignature k p body c n s = IsAdmitted p (signature_headers s) × Receives
 
 -- The first reason against the signature: that of the policy, or if the policy admits it, that of the keys.
 abbrev pub RefusesSignature : {E : Type 0} → KeysView E → PolicyView → ProtectedView → List ℕ → SignatureView → LayerError E → Type 0
-RefusesSignature k p body c s (Keys e) = IsAdmitted p (signature_headers s) × ReceivesSignature body c s (λ x. k.refuses x e)
+RefusesSignature k p body c s (Keys e) = IsAdmitted p (signature_headers s) × ReceivesSignature body c s (λ x. k.not_accepted x e)
 RefusesSignature k p body c s e = RefusesHeaders p (signature_headers s) e
 
 -- ---- all signatures

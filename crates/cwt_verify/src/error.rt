@@ -90,9 +90,11 @@ pub enum TokenError<E> {
     Expired,
     /// The token isn't valid yet: `now` plus the leeway is before `nbf` (RFC 8392, section 3.1.5).
     NotYetValid,
-    /// The token was issued later than now, which the policy refuses (RFC 8392, section 3.1.6).
+    /// The policy refuses future tokens, and `now` plus the leeway is before `iat` (RFC 8392, section
+    /// 3.1.6).
     IssuedInFuture,
-    /// The token has reached the greatest age, or has no time of issue (RFC 8392, section 3.1.6).
+    /// The policy has a greatest age, and `now` isn't before `iat` plus that age and the leeway. Or
+    /// the token has no `iat` (RFC 8392, section 3.1.6).
     TooOld,
     /// The token is meant for someone else (RFC 8392, section 3.1.3).
     Audience,

@@ -36,8 +36,10 @@ pub enum Audience<'a> {
 
 /// A verifier's requirements for a token, in addition to acceptance by its keys.
 ///
-/// [`Policy::strict`] is the safe choice for each field that isn't named:
-/// `Policy { algorithms: &[Algorithm::ES256], ..Policy::strict() }`.
+/// Fields that aren't named have the values of [`Policy::strict`]:
+/// `Policy { algorithms: &[Algorithm::ES256], ..Policy::strict() }`. It checks no type, and accepts
+/// tokens without an audience. If the issuer has other relying parties, name `audience` (RFC 8725,
+/// section 3.9).
 #[derive(Clone, Copy, Debug)]
 pub struct Policy<'a> {
     /// The allowed algorithms. The protected header of each layer must name one of them that is for
@@ -71,7 +73,7 @@ pub struct Policy<'a> {
     pub authenticated_by: Authentication,
     /// True if a token must have an expiration time (`exp`).
     pub require_exp: bool,
-    /// True if a token is refused when it was issued later than now (`iat`).
+    /// True if a token is refused when it was issued later than `now` plus the leeway (`iat`).
     pub refuse_future_iat: bool,
     /// The age in seconds since the time of issue (`iat`) at which a token is refused; `leeway` is
     /// added to it. A token without a time of issue is then refused too.

@@ -81,6 +81,7 @@ Waits b os s OutOfMemory = Unit {0}
 abbrev pub opened_view : List ℕ → List Opened → KeysView Waiting
 opened_view b os = record {
   accepts = λ s n. (p : List ℕ) × (opened_in b os s ≡ Some (p, n));
+  not_accepted = λ s e. Waits b os s e;
   decrypts = λ s p n. opened_in b os s ≡ Some (p, n);
-  refuses = λ s e. Waits b os s e;
+  not_decrypted = λ s e. Waits b os s e;
 }

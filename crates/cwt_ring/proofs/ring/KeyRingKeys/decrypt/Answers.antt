@@ -1,4 +1,4 @@
-use Rattle.std.proofs.Common.{map, inl, inr}
+use Rattle.std.proofs.Common.{map}
 use Rattle.coset_iana.specs.Algorithm.{number}
 use Rattle.cwt_keys.specs.Keys.{name_view}
 use Rattle.cwt_keys.specs.Sealed.{seal_view}
@@ -8,7 +8,7 @@ use Rattle.std.proofs.lemmas.Result.{IfErr-weaker, IfOk-weaker}
 use Rattle.cwt_ring.proofs.ring.KeyRingKeys.decrypt.Goals as goal
 
 pub returns-in_default-clause-refused : goal.returns-in_default-clause-refused
-returns-in_default-clause-refused g c = inl (none_fits (seal_view c.args.sealed.now) (map issuer_view c.args.self.now.issuers.now) c.in_default.ensures)
+returns-in_default-clause-refused g c = none_fits (seal_view c.args.sealed.now) (map issuer_view c.args.self.now.issuers.now) c.in_default.ensures
 
 pub returns-clause-decrypted : goal.returns-clause-decrypted
 returns-clause-decrypted g c =
@@ -21,5 +21,5 @@ pub returns-clause-refused : goal.returns-clause-refused
 returns-clause-refused g c =
     let s = seal_view c.args.sealed.now in
     IfErr-weaker c.try_each.result _ _
-    (λ e h. inr (not_decrypted (g.C.Ciphers.view c.args.self.now.ciphers) s (number c.in-Some.algorithm) c.in-Some.ensures
-    (fitting s (map issuer_view c.args.self.now.issuers.now)) e h)) c.try_each.ensures.refused
+    (λ e h. not_decrypted (g.C.Ciphers.view c.args.self.now.ciphers) s (number c.in-Some.algorithm) c.in-Some.ensures
+    (fitting s (map issuer_view c.args.self.now.issuers.now)) e h) c.try_each.ensures.refused
