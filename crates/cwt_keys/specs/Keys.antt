@@ -10,8 +10,8 @@ Name = Option (List ℕ)
 abbrev pub name_view : Option (Bor (List ℕ)) → Name
 name_view n = option_map (λ s. s.now) n
 
--- The view of keys: the signatures and MACs that they may accept, the plaintexts that they may return, each for the
--- issuer of a name, and the errors that they may return for either.
+-- The view of keys: the signatures and MACs that they may accept, and the plaintexts that they may return, each for the
+-- issuer of a name. For either it has the errors that they may return.
 pub record KeysView (E : Type 0) : Type 1 where
   pub accepts : SealView → Name → Type 0
   pub not_accepted : SealView → E → Type 0
