@@ -57,11 +57,7 @@ fn is_met(header: &Header, known: &[Critical], label: &Critical) -> bool
 ///
 /// Any other message must be refused. The labels of fields of a [`Header`] count as missing. They
 /// should not be in `crit`, because every recipient understands them.
-pub fn is_understood(
-    protected: &ProtectedHeader,
-    unprotected: &Header,
-    known: &[Critical],
-) -> bool
+pub fn is_understood(protected: &ProtectedHeader, unprotected: &Header, known: &[Critical]) -> bool
     ensures { result ≡ is_understood (map critical_view known.now)
         (protected_view protected.now).header (header_view unprotected.now) }
 {
