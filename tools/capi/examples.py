@@ -80,6 +80,13 @@ def issuings():
     yield ("issued", 0, key_id, says + [signed + b"x", message[3][1]], -1, None)
 
 
+def wrong_signers():
+    """Yields calls of the issuer in C whose signer returns another number than 1, or sets a length above its room."""
+    *_, words, _, _ = next(issuings())
+    for answer in ("=0", "=-1", "=2", "=256", "+1", f"+{(1 << 64) - 129}"):
+        yield ("issued", 0, token()[2], [*words[:-1], answer], -1, None)
+
+
 def calls(check):
     """Yields all calls of this file. Before, the signatures are verified here."""
     verify_signatures(check)

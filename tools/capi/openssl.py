@@ -390,15 +390,18 @@ def accepted(folder, check):
                     file.write(data)
             words = [f"{folder}/accept", *(f"{files}/{it}" for it in ("as", "hub", "token"))]
             return subprocess.run(words, capture_output=True, text=True, check=False)
+        ran = subprocess.run([f"{folder}/accept"], capture_output=True, text=True, check=False)
+        check(ran.returncode == 1, f"accept without its files: {ran.returncode}")
         tries = 0
         for place, key in enumerate(keys):
             name = HUB if place == 2 else AS
+            controls = [(1, {2: f"erik{it}w"}) for it in "\0\n\r\x1b\x1f\x7f\x80\x85\x9b\x9f"]
             for status, change in ((0, {}), (0, {4: here - 50}), (1, {4: here - 70}), (1, {3: "coap://x"}), (1, {1: "x"}),
-                                   (1, {5: here + 70})):
+                                   (1, {5: here + 70}), *controls, (0, {2: "\xa0\xc2 \u0420"}), (0, {2: ""})):
                 token = key.seal(item({1: name, 2: "erikw", 3: audience, 4: here + 100, **change}))
                 for data, wanted in ((token, status), (flipped(token, 8 * len(token) - 1), 1)):
                     ran = run_with(data)
-                    is_right = ran.returncode == wanted and ran.stdout == ("" if wanted else f"{name} says erikw\n")
+                    is_right = ran.returncode == wanted and ran.stdout == ("" if wanted else f"{name} says {change.get(2, 'erikw')}\n")
                     check(is_right, f"accept: {data.hex()}: {ran.returncode} {ran.stdout}{ran.stderr} and not {wanted}")
                     tries += 1
     return tries
