@@ -1,6 +1,6 @@
 /** The types of coset.mjs, which has a comment for each call.
  *
- * An option that is given as undefined is a Misuse. `tsc --exactOptionalPropertyTypes` reports it. */
+ * An option that is undefined is a Misuse. With `exactOptionalPropertyTypes`, `tsc` reports it. */
 
 /** Bytes that a call takes. */
 export type Data = ArrayBufferView | ArrayBufferLike;

@@ -13,7 +13,7 @@
  * refused. `verify` and `decrypt` return a message's contents only after the caller's function said yes. They also throw
  * NotAllowed, Critical, WrongHeaders or Refused. The header and docs/C.md say what each call promises.
  *
- * An option that is given as undefined is a Misuse. So a wrong spelling of a variable's field doesn't drop a rule. */
+ * An option that is undefined is a Misuse. So a field that doesn't exist doesn't drop a rule. */
 
 export const SIGN1 = 1, SIGN = 2, MAC0 = 3, MAC = 4, ENCRYPT0 = 5, ENCRYPT = 6, SIGNATURE = 7, RECIPIENT = 8;
 export const HEADER = 9, KEY = 10, KEY_SET = 11, CLAIMS = 12, ITEM = 13, KDF_CONTEXT = 14;
@@ -399,9 +399,10 @@ function isPlain(it) {
  * that is undefined is a Misuse, because it may be a field that doesn't exist. */
 function settled(options, defaults) {
   if (!isPlain(options)) throw new Misuse("options are a plain object");
-  const unknown = Object.keys(options).find(name => !Object.hasOwn(defaults, name));
+  const given = Object.fromEntries(Object.getOwnPropertyNames(options).map(name => [name, options[name]]));
+  const unknown = Object.keys(given).find(name => !Object.hasOwn(defaults, name));
   if (unknown !== undefined) throw new Misuse(`there is no option ${unknown}`);
-  const given = { ...options }, empty = Object.keys(given).find(name => given[name] === undefined);
+  const empty = Object.keys(given).find(name => given[name] === undefined);
   if (empty !== undefined) throw new Misuse(`the option ${empty} is undefined`);
   return { ...defaults, ...given };
 }

@@ -228,6 +228,9 @@ const tests = {
         assert.ok(error instanceof coset.Misuse && error.message.includes(option), `${name}: ${option}: ${error}`);
       }
     }
+    const hidden = Object.defineProperty({ ...POLICY }, "required", { value: [8], enumerable: false });
+    const refusal = await thrown(() => coset.verifyToken(nested(1), layer => [layer.form === ENCRYPT0 ? layer.proof : true, "as"], hidden));
+    assert.deepEqual([refusal.reason, refusal.number], ["MISSING", 8]); // an option that isn't enumerable counts
     const layer = { form: MAC0, algorithm: 5, keyId: null, iv: null, partialIv: null, proof: new Uint8Array(32) };
     assert.deepEqual(coset.keyFits(key, layer), NONE);
     for (const field of Object.keys(layer)) assert.ok(await thrown(() => coset.keyFits(key, { ...layer, [field]: undefined })) instanceof coset.Misuse, field);
