@@ -17,8 +17,8 @@ struct token {
 typedef int (*signer)(void *key, const uint8_t *tbs, size_t tbs_len, uint8_t *sig, size_t cap, size_t *sig_len);
 
 /* Writes a token with these claims to `out`, in the order of their labels, signed by ES256. Returns the status, or -1
- * if `sign` didn't sign, or set a length greater than `cap`. COSET_MISUSE, or COSET_SHORT with `*len` 0, means that the claims are too long for the buffers
- * of this function. */
+ * if `sign` didn't sign, or set a length greater than its room. COSET_MISUSE, or COSET_SHORT with `*len` 0, means that
+ * the claims are too long for the buffers of this function. */
 int32_t issued(const struct token *t, signer sign, void *key, uint8_t *out, size_t cap, size_t *len) {
   coset_pair room[7];
   uint8_t texts[1024], claims[1024], head[16], ids[128], tbs[1200], sig[128];
