@@ -390,8 +390,8 @@ typedef struct coset_text {
   size_t len;
 } coset_text;
 
-/* Initializes a coset_text with a string literal. */
-#define COSET_LITERAL(literal) {literal, sizeof(literal) - 1}
+/* Initializes a coset_text with a string literal. Nothing else compiles. */
+#define COSET_LITERAL(literal) {"" literal, sizeof("" literal) - 1}
 
 /* A verifier's requirements for a token, besides the lists. If all fields but size are zero, these hold:
  * - A layer without a tag is a COSE_Sign1, and a signature or a MAC must authenticate.

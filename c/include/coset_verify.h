@@ -19,7 +19,8 @@ enum {
 
 /* The caller's requirements for a message. A policy of all zeros accepts nothing. */
 typedef struct coset_policy {
-  const int64_t *algorithms; /* the algorithms that are allowed */
+  const int64_t *algorithms; /* the algorithms that are allowed. List only algorithms for the kind of the message: a
+                                COSE_Mac0's algorithm in a COSE_Sign1's list would be accepted */
   size_t algorithms_len;
   const int64_t *critical; /* the critical labels that the caller understands, and acts on. It isn't checked that the
                               protected header has each label that crit names (docs/C.md, 'A verifier') */
@@ -33,6 +34,7 @@ typedef struct coset_policy {
 
 /* The question that the caller's function answers. */
 typedef struct coset_question {
+  uint32_t kind;           /* the kind of the message, without COSET_TAGGED or COSET_EITHER */
   int64_t algorithm;       /* one of those that are allowed */
   const uint8_t *key_id;   /* NULL if the message names no key */
   size_t key_id_len;
@@ -60,9 +62,9 @@ enum {
  * - 1 if it is authentic. The plaintext is then in `plain`, which has `cap` bytes, and `*len` is its length. `plain` has
  *   room for as many bytes as the ciphertext has.
  * - COSET_NO_ROOM if `cap` is too small all the same. `*len` may be the size that is needed.
- * - 0 otherwise. Any other result counts as 0, and so does a length greater than `cap`.
+ * - 0 otherwise. Any other result counts as 0. So does 1 with a length greater than `cap`, or if `*len` isn't set.
  *
- * A message may have an IV in one header and a partial IV in the other. Refuse it then (RFC 8152, section 3.1). */
+ * It isn't called for a message with both an IV and a partial IV. */
 typedef int (*coset_decrypter)(void *context, const coset_question *question, uint8_t *plain, size_t cap, size_t *len);
 
 /* Writes zeros over memory whose contents weren't handed out. */
@@ -71,7 +73,8 @@ static inline void coset_cleared(uint8_t *at, size_t len) {
 }
 
 /* Checks the view against the policy. Returns COSET_OK, COSET_NOT_ALLOWED or COSET_CRITICAL, or COSET_MISUSE if the
- * list of algorithms is longer than any object. */
+ * list of algorithms is longer than any object. It isn't checked that the algorithms are for the kind of the message. */
+COSET_CALL(1, 2)
 static inline coset_status coset_permitted(const coset_message_spans_view *view, const coset_policy *policy) {
   size_t i = 0;
   if (policy->algorithms_len > COSET_CAST(size_t, PTRDIFF_MAX) / sizeof *policy->algorithms) return COSET_MISUSE;
@@ -89,8 +92,10 @@ static inline uint32_t coset_kind_in(uint32_t message, uint32_t form) {
 }
 
 /* Returns the question for a view. Its texts are in the message or in `out`, as the view says. */
-static inline coset_question coset_asked(const coset_message_spans_view *view, const uint8_t *in, const uint8_t *out) {
+static inline coset_question coset_asked(uint32_t kind, const coset_message_spans_view *view, const uint8_t *in,
+                                         const uint8_t *out) {
   coset_question question;
+  question.kind = kind & 0xff;
   question.algorithm = view->algorithm;
   question.input = out;
   question.input_len = view->structure_len;
@@ -106,7 +111,8 @@ static inline coset_question coset_asked(const coset_message_spans_view *view, c
 }
 
 /* Verifies a message of one of the first four kinds, and returns the status. A COSET_SIGN is verified for the signer at
- * index.
+ * index. For another kind, an index other than 0 is COSET_MISUSE. The critical labels of a COSET_MAC's recipients aren't
+ * looked at.
  *
  * If the status is COSET_OK, `verify` said yes, and `*payload` is the payload, of `*payload_len` bytes. It is in `out`,
  * where the signed or authenticated structure ends with it, also if it is detached. After any other status `*payload`
@@ -114,20 +120,23 @@ static inline coset_question coset_asked(const coset_message_spans_view *view, c
  *
  * `out` needs room for the structure, and for the other texts if the message is read by copies (coset_message_spans).
  * If `out` is too small, the status is COSET_SHORT, and `*payload_len` is the size that is needed. */
+COSET_CALL(5, 6, 10, 11)
 static inline coset_status coset_verify(uint32_t kind, const uint8_t *in, size_t in_len, size_t index, const coset_policy *policy,
                                         coset_verifier verify, void *context, uint8_t *out, size_t cap,
                                         const uint8_t **payload, size_t *payload_len) {
   coset_message_spans_view view;
   coset_question question;
+  coset_status status;
   size_t len;
-  coset_status status = coset_message_spans((kind & 0xff) <= COSET_MAC ? kind : 0, in, in_len, index, policy->external_aad,
-                                            policy->external_aad_len, policy->has_detached, policy->detached,
-                                            policy->detached_len, policy->critical, policy->critical_len, out, cap, &len,
-                                            &view);
   *payload = NULL;
-  *payload_len = status == COSET_SHORT ? len : 0;
+  *payload_len = 0;
+  if ((kind & 0xff) > COSET_MAC || (index && (kind & 0xff) != COSET_SIGN)) return COSET_MISUSE;
+  status = coset_message_spans(kind, in, in_len, index, policy->external_aad, policy->external_aad_len, policy->has_detached,
+                               policy->detached, policy->detached_len, policy->critical, policy->critical_len, out, cap, &len,
+                               &view);
+  if (status == COSET_SHORT) *payload_len = len;
   if (status) return status;
-  question = coset_asked(&view, in, out);
+  question = coset_asked(kind, &view, in, out);
   status = coset_permitted(&view, policy);
   if (!status && verify(context, &question) != 1) status = COSET_REFUSED;
   if (status) {
@@ -140,6 +149,7 @@ static inline coset_status coset_verify(uint32_t kind, const uint8_t *in, size_t
 }
 
 /* coset_verify for a message with one signature, a COSET_SIGN1. form is 0, COSET_TAGGED or COSET_EITHER. */
+COSET_CALL(4, 5, 9, 10)
 static inline coset_status coset_sign1_verify(uint32_t form, const uint8_t *in, size_t in_len, const coset_policy *policy,
                                               coset_verifier verify, void *context, uint8_t *out, size_t cap,
                                               const uint8_t **payload, size_t *payload_len) {
@@ -147,13 +157,16 @@ static inline coset_status coset_sign1_verify(uint32_t form, const uint8_t *in, 
 }
 
 /* coset_verify for a message with a MAC, a COSET_MAC0. */
+COSET_CALL(4, 5, 9, 10)
 static inline coset_status coset_mac0_verify(uint32_t form, const uint8_t *in, size_t in_len, const coset_policy *policy,
                                              coset_verifier verify, void *context, uint8_t *out, size_t cap,
                                              const uint8_t **payload, size_t *payload_len) {
   return coset_verify(coset_kind_in(COSET_MAC0, form), in, in_len, 0, policy, verify, context, out, cap, payload, payload_len);
 }
 
-/* coset_verify for the signer at index of a COSET_SIGN. The caller decides which signers are enough. */
+/* coset_verify for the signer at index of a COSET_SIGN. The caller decides which signers are enough. A signature may be in
+ * the list twice: count keys, not indices. */
+COSET_CALL(5, 6, 10, 11)
 static inline coset_status coset_sign_verify(uint32_t form, const uint8_t *in, size_t in_len, size_t index,
                                              const coset_policy *policy, coset_verifier verify, void *context, uint8_t *out,
                                              size_t cap, const uint8_t **payload, size_t *payload_len) {
@@ -162,6 +175,7 @@ static inline coset_status coset_sign_verify(uint32_t form, const uint8_t *in, s
 
 /* Writes the byte string under a label of a message, from the protected header, else from the unprotected one. `*map` is
  * the header that has it. `*len` is 0, and `*map` COSET_NONE, if neither has it. */
+COSET_CALL(7, 8)
 static inline coset_status coset_in_either(uint32_t kind, const uint8_t *in, size_t in_len, int64_t label, uint8_t *out,
                                            size_t cap, size_t *len, uint32_t *map) {
   coset_status status = coset_label_bytes(kind, in, in_len, COSET_IN_PROTECTED, label, out, cap, len);
@@ -176,6 +190,7 @@ static inline coset_status coset_in_either(uint32_t kind, const uint8_t *in, siz
 
 /* Sets the lengths of both IVs, and that of the ciphertext, carried by the COSET_ENCRYPT0 or detached in the policy.
  * Returns COSET_OK, or COSET_ABSENT if there is no ciphertext. */
+COSET_CALL(4, 5)
 static inline coset_status coset_lengths(uint32_t kind, const uint8_t *in, size_t in_len, const coset_policy *policy,
                                          coset_question *question) {
   coset_status status = coset_part(kind, in, in_len, COSET_CIPHERTEXT, NULL, 0, &question->proof_len);
@@ -187,13 +202,15 @@ static inline coset_status coset_lengths(uint32_t kind, const uint8_t *in, size_
   return status == COSET_SHORT ? COSET_OK : status;
 }
 
-/* Writes both IVs to `at`, which has room for them, and completes the question. */
+/* Writes both IVs to `at`, which has room for them, and completes the question. Returns COSET_HEADERS if the message has
+ * both (RFC 8152, section 3.1). */
+COSET_CALL(4, 5, 8)
 static inline coset_status coset_completed(uint32_t kind, const uint8_t *in, size_t in_len, const coset_policy *policy,
                                            const coset_message_spans_view *view, uint8_t *out, uint8_t *at,
                                            coset_question *question) {
   const coset_question sizes = *question;
   coset_status status;
-  *question = coset_asked(view, in, out);
+  *question = coset_asked(kind, view, in, out);
   question->proof = policy->has_detached ? policy->detached : (view->is_content_in_input ? in : out) + view->content_at;
   question->proof_len = sizes.proof_len;
   status = coset_in_either(kind, in, in_len, 5, at, sizes.iv_len, &question->iv_len, &question->iv_map);
@@ -202,21 +219,23 @@ static inline coset_status coset_completed(uint32_t kind, const uint8_t *in, siz
   at += question->iv_len;
   status = coset_in_either(kind, in, in_len, 6, at, sizes.partial_iv_len, &question->partial_iv_len, &question->partial_iv_map);
   question->partial_iv = question->partial_iv_len ? at : NULL;
+  if (!status && question->iv_map && question->partial_iv_map) return COSET_HEADERS;
   return status;
 }
 
 /* Returns the size of a buffer whose last `left` bytes, after the first `at`, had no room for the plaintext. `said` is the
- * size that the caller's function needs, if it said so. */
+ * size that the caller's function needs, or SIZE_MAX if it didn't say. */
 static inline size_t coset_larger(size_t at, size_t left, size_t said, size_t proof_len) {
-  if (said <= left) said = proof_len > left ? proof_len : left + 1;
+  if (said <= left || said == SIZE_MAX) said = proof_len > left ? proof_len : left + 1;
   return said <= COSET_CAST(size_t, PTRDIFF_MAX) - at ? at + said : COSET_CAST(size_t, PTRDIFF_MAX);
 }
 
 /* Asks for the plaintext, after the first `at` bytes of `out`. If the answer is yes, `*len` is its length. If the status is
  * COSET_SHORT, that is the size of `out` that is needed. */
+COSET_CALL(1, 3, 7)
 static inline coset_status coset_decrypted(coset_decrypter decrypt, void *context, const coset_question *question,
                                            uint8_t *out, size_t at, size_t cap, size_t *len) {
-  size_t plain = 0;
+  size_t plain = SIZE_MAX; /* no room is as large, so a decrypter that doesn't set it is refused */
   const int said = decrypt(context, question, out + at, cap - at, &plain);
   if (said == COSET_NO_ROOM) {
     *len = coset_larger(at, cap - at, plain, question->proof_len);
@@ -231,10 +250,12 @@ static inline coset_status coset_decrypted(coset_decrypter decrypt, void *contex
  *
  * If the status is COSET_OK, `decrypt` said yes, and `*plain` is the plaintext, of `*plain_len` bytes, in `out`. After
  * any other status `*plain` is NULL, and `out` has nothing of the message. COSET_REFUSED means that `decrypt` said no.
+ * COSET_HEADERS: the message has both an IV and a partial IV (RFC 8152, section 3.1).
  *
  * `out` needs room for Enc_structure, both IVs, and a plaintext as long as the ciphertext. It also needs room for the other
  * texts if the message is read by copies. If `out` is too small, the status is COSET_SHORT, and `*plain_len` is the size
  * that is needed. That size is enough, unless `decrypt` says COSET_NO_ROOM. */
+COSET_CALL(4, 5, 9, 10)
 static inline coset_status coset_encrypt0_decrypt(uint32_t form, const uint8_t *in, size_t in_len, const coset_policy *policy,
                                                   coset_decrypter decrypt, void *context, uint8_t *out, size_t cap,
                                                   const uint8_t **plain, size_t *plain_len) {
@@ -388,7 +409,7 @@ typedef struct coset_token_policy {
   size_t required_len;
   const coset_text *audiences; /* the caller's names, one of which aud must be; none: a token with aud is refused */
   size_t audiences_len;
-  const coset_text *types; /* the types, one of which typ must be; none: typ isn't looked at */
+  const coset_text *types; /* the types, one of which typ must be; none: typ isn't looked at, also if it is critical */
   size_t types_len;
 } coset_token_policy;
 
@@ -414,7 +435,8 @@ typedef struct coset_layer_question {
  * - 1 if the layer is authentic. For COSET_ENCRYPT0 the plaintext is then in `plain`, which has `cap` bytes, and `*len`
  *   is its length. `*issuer` is the name of the key's issuer, or remains empty if that issuer has no name.
  * - COSET_NO_ROOM if `cap` is too small. `*len` may be the size that is needed.
- * - 0 otherwise. Any other result counts as 0. */
+ * - 0 otherwise. Any other result counts as 0. For COSET_ENCRYPT0, so does 1 with a length greater than `cap`, or if
+ *   `*len` isn't set. */
 typedef int (*coset_opener)(void *context, const coset_layer_question *question, uint8_t *plain, size_t cap, size_t *len,
                             coset_text *issuer);
 
@@ -466,6 +488,7 @@ static inline void coset_token_none(coset_token *token, const coset_layer *layer
 }
 
 /* Takes the verified token of `len` bytes at `item` apart, into its five elements. */
+COSET_CALL(1, 3)
 static inline coset_status coset_token_parts(const uint8_t *item, size_t len, coset_token *token) {
   coset_span span[5], name;
   coset_status status = coset_member_span(COSET_ITEM, item, len, 0, &span[0]);
@@ -492,6 +515,7 @@ struct coset_work {
 };
 
 /* Makes the call of coset_token_open with the layers that are opened. Its result is behind them in the memory. */
+COSET_CALL(1, 5, 6, 7)
 static inline coset_status coset_work_next(const struct coset_work *work, const uint8_t *in, size_t in_len, int64_t now,
                                            const coset_token_policy *policy, size_t *len, coset_layer *layer) {
   coset_rules rules = policy->rules;
@@ -504,13 +528,14 @@ static inline coset_status coset_work_next(const struct coset_work *work, const 
 
 /* Asks about the layer whose five texts, of `texts_len` bytes, are behind the opened layers. If the answer is yes,
  * appends the layer to these. Returns COSET_OK, COSET_REFUSED, or COSET_SHORT if `*needed` bytes are needed. */
+COSET_CALL(1, 2, 4, 6)
 static inline coset_status coset_work_ask(struct coset_work *work, const coset_layer *layer, size_t texts_len,
                                           coset_opener opener, void *context, size_t *needed) {
   const size_t at = work->used + texts_len, left = work->cap - at;
   const coset_layer_question question = coset_layer_asked(layer, work->at + work->used);
   coset_opened *opened;
   coset_text name = {NULL, 0};
-  size_t plain = 0, i;
+  size_t plain = layer->form == COSET_ENCRYPT0 ? SIZE_MAX : 0, i; /* as in coset_decrypted */
   int said;
   if (work->count == 4) return COSET_REFUSED;
   said = opener(context, &question, work->at + at, left, &plain, &name);
@@ -545,6 +570,7 @@ static inline coset_status coset_work_ask(struct coset_work *work, const coset_l
  * token's length and 64 bytes for each of its layers are enough, if the names of issuers and audience are short
  * (docs/C.md: The room). If `work` is too small, the status is COSET_SHORT, and token->needed says how much the next
  * step needs. It is more than `cap`. A later step may need more. */
+COSET_CALL(4, 5, 9)
 static inline coset_status coset_token_verify(const uint8_t *in, size_t in_len, int64_t now, const coset_token_policy *policy,
                                               coset_opener opener, void *context, uint8_t *work, size_t cap,
                                               coset_token *token) {

@@ -227,8 +227,40 @@ def compile_headers():
                 run([*words, *warnings, "-include", f"{HERE}/c/include/{name}", "/dev/null"])
 
 
+# A program that the compiler must accept. With one of the changes in REFUSED, it must refuse the program.
+PROGRAM = """#include "coset_verify.h"
+static int yes(void *context, const coset_question *question) { return !context && !question; }
+int main(void) {
+  const coset_policy policy = {NULL, 0, NULL, 0, NULL, 0, 0, NULL, 0};
+  const char *name = "coap://as.example.com";
+  const coset_text text = COSET_LITERAL(@literal@);
+  const uint8_t *payload;
+  size_t len;
+  @if@ (coset_sign1_verify(0, NULL, 0, &policy, @verify@, NULL, NULL, 0, &payload, &len));
+  return text.chars == name;
+}
+"""
+ACCEPTED = {"literal": '"coap://as.example.com"', "if": "if", "verify": "yes"}
+REFUSED = {"a pointer as a literal": {"literal": "name"}, "an ignored status": {"if": ""}, "no verifier": {"verify": "NULL"}}
+
+
+def refuse_misuses():
+    """Compiles programs that ignore a status, pass no verifier, or give COSET_LITERAL a pointer. The compiler must refuse each."""
+    flags = ["-O2", "-Wall", "-Wextra", "-Werror", "-Wno-empty-body", f"-I{HERE}/c/include", "-c", "-o", os.devnull, "-"]
+    languages = [["cc", "-std=c99", "-x", "c"], *([["c++", "-x", "c++"]] if shutil.which("c++") else [])]
+    for language in languages:
+        for name, change in {"the program": {}, **REFUSED}.items():
+            text = PROGRAM
+            for word, value in {**ACCEPTED, **change}.items():
+                text = text.replace(f"@{word}@", value)
+            ran = subprocess.run([*language, *flags], input=text, capture_output=True, text=True, check=False)
+            if (ran.returncode == 0) != (not change):
+                sys.exit(f"{' '.join(language)}: {name} is {'accepted' if change else 'refused'}\n{ran.stderr}")
+
+
 def build_callers(folder, objects):
     """Builds the program in C that makes calls."""
     sources = [f"{WRAPPERS}/c/{name}.c" for name in ("calls", "token", "verify", "issue")]
     run(["cc", *FLAGS, "-o", "calls_c", *sources, "text.o", *objects], cwd=folder)
     compile_headers()
+    refuse_misuses()

@@ -123,7 +123,7 @@ def lines_of(call, number, data, words, status, answer):
     """Yields the lines that ask for a call with buffers of several sizes, each with the right output."""
     for cap in rooms(call, answer):
         yield line(call, number, data, words, cap), told_by_c(call, status, answer, cap)
-    if call == "safe" and status in (OK, NOT_ALLOWED, CRITICAL, REFUSED) or call in TOKENS and status == OK:
+    if call == "safe" and status in (OK, NOT_ALLOWED, CRITICAL, REFUSED, HEADERS) or call in TOKENS and status == OK:
         yield line(call, number, data, words, 0), [str(SHORT)]
     if call == "verified" and status == OK:
         whole = len(words[2])  # the structure that is signed; the other parts stay in the token
@@ -142,6 +142,13 @@ def lengths(program, check):
     """Checks that the calls of coset_verify.h refuse a length above PTRDIFF_MAX. Bytes of such a length exceed every depth."""
     told = answers([program], [f"lengths 0 {token()[0].hex()} 4096"], check)
     check(told == [f"{MISUSE} {MISUSE} {MISUSE} {MISUSE} 1"], f"a length above PTRDIFF_MAX: {told}")
+
+
+def without_length(program, check):
+    """Checks that a decrypter that says yes is refused if it sets no length. If it says that there is too little room, and sets no
+    length, the buffer needs a byte more."""
+    told = answers([program], ["unset 0 8343a10101a04163 4096"], check)
+    check(told == [f"{REFUSED} 0 {SHORT} 4097"], f"a decrypter that sets no length: {told}")
 
 
 # ---- through the wrappers

@@ -13,17 +13,24 @@ FUNCTION = r"^(?:int32_t|coset_status|pub fn|def|export function|export async fu
 SHOWN = ("c/verify.c", "rust/verify.rs", "python/verify.py", "c/issue.c", "rust/issue.rs", "python/issue.py", "rust/accept.rs",
          "python/accept.py", "js/verify.mjs", "js/issue.mjs", "go/calls/verify.go",
          "go/calls/issue.go")
+# What each verifier says of itself, because its payload may be that of a web token.
+UNCHECKED = "Nothing else is checked, such as `exp`, `aud` or `iss`: for a web token call"
 # Programs that the page shows as a whole.
 PROGRAMS = {"c/accept.c": r"^#include[\s\S]*", "js/accept.mjs": r"^import[\s\S]*", "go/calls/accept.go": r"^import[\s\S]*"}
 
 
 def compare_page(check):
-    """Checks that the page shows the verifiers, the issuers and the program for web tokens as they are."""
+    """Checks that the page shows the verifiers, the issuers and the program for web tokens as they are. Each verifier says what it
+    leaves unchecked."""
     page = read("docs", "C.md")
     for path in (*SHOWN, *PROGRAMS):
         text = read("c", "wrappers", *path.split("/"))
         parts = re.findall(PROGRAMS.get(path, FUNCTION), text, re.M)
         check(len(parts) == 1 and parts[0].strip() in page, f"docs/C.md doesn't show what c/wrappers/{path} has")
+        words = " ".join(re.sub(r"^\s*(?://+|\*)", "", text, flags=re.M).split())
+        is_verifier = path.rpartition("/")[2].startswith("verify.")
+        check(not is_verifier or UNCHECKED in words, f"c/wrappers/{path} doesn't say what it leaves unchecked")
+    check(UNCHECKED in page, "docs/C.md doesn't say what a verifier leaves unchecked")
 
 
 def verify_signatures(check):
@@ -78,6 +85,13 @@ def issuings():
     says = [claims[("int", label)][1] for label in (1, 2, 3, 7, 4, 5, 6)]
     yield ("issued", 0, key_id, says + [signed, message[3][1]], OK, data)
     yield ("issued", 0, key_id, says + [signed + b"x", message[3][1]], -1, None)
+
+
+def wrong_signers():
+    """Yields calls of the issuer in C whose signer returns another number than 1, or sets a length above its room."""
+    *_, words, _, _ = next(issuings())
+    for answer in ("=0", "=-1", "=2", "=256", "+1", f"+{(1 << 64) - 129}"):
+        yield ("issued", 0, token()[2], [*words[:-1], answer], -1, None)
 
 
 def calls(check):

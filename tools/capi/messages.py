@@ -4,7 +4,7 @@ A call is a tuple, here and in the other files. It has the call's name, the kind
 right status and result."""
 import itertools
 
-from capi.kinds import ABSENT, CRITICAL, EITHER, MISUSE, NOT_ALLOWED, OK, PARTS, REFUSED, TAGS, bytes_at, headers_of
+from capi.kinds import ABSENT, CRITICAL, EITHER, HEADERS, MISUSE, NOT_ALLOWED, OK, PARTS, REFUSED, TAGS, bytes_at, headers_of
 from cbor import encode
 
 CONTEXTS = {"sign1": b"Signature1", "sign": b"Signature", "mac0": b"MAC0", "mac": b"MAC", "encrypt0": b"Encrypt0",
@@ -93,10 +93,16 @@ def plaintext(item, ciphertext):
     return b"".join(found) + bytes(byte ^ 0x5a for byte in ciphertext)
 
 
+def has_both_ivs(item):
+    """Returns true if the headers of a COSE_Encrypt0 have both an IV and a partial IV (RFC 8152, section 3.1)."""
+    headers = headers_of("encrypt0", item)
+    return all(any(("int", label) in header for header in headers) for label in (5, 6))
+
+
 def safe_calls(kind, number, data, item, words, status, told, detached):
     """Yields the calls of coset_verify.h, and the same calls of the wrappers. In one the verifier gets the right structure and
-    accepts; others are refused."""
-    if kind in ("mac", "encrypt"):
+    accepts; others are refused. The verifier also gets the right kind."""
+    if kind == "encrypt":
         return
     carried, crypted = bytes_at(item, 2), kind == "encrypt0"
     if status == OK and crypted and carried is None and detached is None:
@@ -112,6 +118,7 @@ def safe_calls(kind, number, data, item, words, status, told, detached):
     asked = [texts[0], proof, texts[3]]
     for allowed, said in ([view[0], True], [view[0], False], [view[0] + 1, True]):
         status = CRITICAL if view[3] == 2 else NOT_ALLOWED if view[1] != 1 or allowed != view[0] else OK if said else REFUSED
+        status = HEADERS if status in (OK, REFUSED) and crypted and has_both_ivs(item) else status
         given = words[:4] + [f"{allowed},-99999", words[4]] + (asked if said else [texts[0] + b"x", *asked[1:]])
         yield ("safe", number, data, given, status, answer if status == OK else None)
 
@@ -123,6 +130,36 @@ def sealed_calls():
         header = encode(("map", [("int", 1), ("int", 1), *protected]))
         item = ("array", [(2, header), ("map", unprotected), content])
         yield from message_calls("encrypt0", 5, encode(item), item, False)
+
+
+def mac_calls():
+    """Yields the calls for a COSE_Mac whose recipient names a critical label that nobody understands. Nothing looks at it."""
+    critical = encode(("map", [("int", 2), ("array", [("int", -70000)]), ("int", -70000), ("int", 1)]))
+    recipients = ("array", [("array", [(2, critical), ("map", []), (2, b"")])])
+    for protected in (b"\xa1\1\5", encode(("map", [("int", 1), ("int", 5), ("int", 2), ("array", [("int", -70000)])]))):
+        item = ("array", [(2, protected), ("map", []), (2, b"payload"), (2, b"tag"), recipients])
+        yield from message_calls("mac", 4, encode(item), item, False)
+        yield from message_calls("mac", 4 + EITHER, encode(("tag", TAGS["mac"], item)), item, True)
+
+
+# The greatest index that each language has.
+INDICES = (1, 2, (1 << 31) - 1)
+
+
+def indexed(call, words):
+    """Yields the calls with an index other than 0, for kinds without signers. `words` follow the index."""
+    for kind in ("sign1", "mac0", "mac"):
+        recipients = [("array", [("array", [(2, b""), ("map", []), (2, b"")])])] if kind == "mac" else []
+        item = ("array", [(2, b"\xa1\1\x26"), ("map", []), (2, b"payload"), (2, b"proof"), *recipients])
+        signed = encode(("array", [(3, CONTEXTS[kind]), (2, b"\xa1\1\x26"), (2, b""), (2, b"payload")]))
+        for index in INDICES:
+            more = [signed, b"proof", b""] if call == "safe" else []
+            yield (call, list(CONTEXTS).index(kind) + 1, encode(item), [index, *words, *more], MISUSE, None)
+
+
+def index_calls():
+    """Yields the calls of coset_verify.h with an index other than 0, for kinds without signers. Each would be accepted with 0."""
+    yield from indexed("safe", [b"", 0, b"", "-7", "-"])
 
 
 def calls(kind, number, data, item, tagged):

@@ -108,6 +108,14 @@ def compare_functions(sources, check):
     check(not declared, f"the Rust wrapper has no {', '.join(declared)}")
 
 
+def compare_marks(check):
+    """Checks that the compiler warns if a status of coset_verify.h is ignored."""
+    text = read("c", "include", "coset_verify.h")
+    marked = re.findall(r"^COSET_CALL\([\d, ]+\)\nstatic inline coset_status (\w+)\(", text, re.M)
+    there = re.findall(r"^static inline coset_status (\w+)\(", text, re.M)
+    check(there and marked == there, f"coset_verify.h hasn't COSET_CALL before {', '.join(sorted(set(there) - set(marked)))}")
+
+
 # Constants of the header that Python has by other words.
 NOT_IN_RANGES = {"FALSE", "TRUE", "NULL"}
 
@@ -197,6 +205,7 @@ def compare(check):
     sources = "".join(map(source, SOURCES))
     compare_constants(sources, check)
     compare_functions(sources, check)
+    compare_marks(check)
     compare_python(check)
     compare_javascript(check)
     compare_go(check)

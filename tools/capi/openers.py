@@ -32,6 +32,10 @@ def answers():
         yield SIGNED, f"+{more}", OK
         yield ENCRYPTED, f"+{more}", REFUSED
     yield ENCRYPTED, "+0", NOT_CLAIMS
+    for number, status in ((1, REFUSED), (0, REFUSED), (2, REFUSED), (-1, SHORT)):
+        yield ENCRYPTED, f"~{number}", status
+    yield SIGNED, "~1", OK
+    yield SIGNED, "~-1", SHORT
     yield ENCRYPTED, "pa1041907d0", OK
     yield ENCRYPTED, "pa1041907d0,yes", OK
     yield ENCRYPTED, "p" + SIGNED.hex() + ",=2", REFUSED

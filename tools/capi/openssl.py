@@ -381,7 +381,10 @@ def made(program, calls, check, **more):
 def accepted(folder, check):
     """Runs the program of docs/C.md with tokens of both issuers. Returns the number of tokens."""
     keys = [ecdsa(-7, "P-256", 5), mac(5, bytes(range(32))), ecdsa(-7, "P-256", 6)]
-    audience, here = "coap://light.example.com", int(datetime.datetime.now().timestamp())
+    audience, controls = "coap://light.example.com", "\0\n\r\x1b\x1f\x7f\x80\x85\x9b\x9f"
+    # Claims that differ from the others, by their status. Times are relative to now.
+    changes = [(0, {}), (0, {4: -50}), (1, {4: -70}), (1, {3: "coap://x"}), (1, {1: "x"}), (1, {5: 70}), (0, {2: "\xa0\xc2 \u0420"}), (0, {2: ""}),
+               *((1, {2: f"erik{it}w"}) for it in controls)]
     with tempfile.TemporaryDirectory() as files:
         def run_with(token):
             sets = [keys_of(keys[0].public, keys[1].public), keys_of(keys[2].public)]
@@ -390,15 +393,18 @@ def accepted(folder, check):
                     file.write(data)
             words = [f"{folder}/accept", *(f"{files}/{it}" for it in ("as", "hub", "token"))]
             return subprocess.run(words, capture_output=True, text=True, check=False)
+        ran = subprocess.run([f"{folder}/accept"], capture_output=True, text=True, check=False)
+        check(ran.returncode == 1, f"accept without its files: {ran.returncode}")
         tries = 0
         for place, key in enumerate(keys):
             name = HUB if place == 2 else AS
-            for status, change in ((0, {}), (0, {4: here - 50}), (1, {4: here - 70}), (1, {3: "coap://x"}), (1, {1: "x"}),
-                                   (1, {5: here + 70})):
-                token = key.seal(item({1: name, 2: "erikw", 3: audience, 4: here + 100, **change}))
+            for status, change in changes:
+                here = int(datetime.datetime.now().timestamp())
+                made_of = {1: name, 2: "erikw", 3: audience, 4: 100, **change}
+                token = key.seal(item({label: here + it if label in (4, 5) else it for label, it in made_of.items()}))
                 for data, wanted in ((token, status), (flipped(token, 8 * len(token) - 1), 1)):
                     ran = run_with(data)
-                    is_right = ran.returncode == wanted and ran.stdout == ("" if wanted else f"{name} says erikw\n")
+                    is_right = ran.returncode == wanted and ran.stdout == ("" if wanted else f"{name} says {change.get(2, 'erikw')}\n")
                     check(is_right, f"accept: {data.hex()}: {ran.returncode} {ran.stdout}{ran.stderr} and not {wanted}")
                     tries += 1
     return tries

@@ -178,7 +178,7 @@ def by_types(folder, check):
     if not shutil.which("tsc"):
         return "there is no tsc"
     shutil.copy(f"{HERE}/c/packaging/try/types.mts", folder)
-    words = ["--noEmit", "--strict", "--target", "es2022", "--module", "node16", "--moduleResolution", "node16"]
+    words = ["--noEmit", "--strict", "--exactOptionalPropertyTypes", "--target", "es2022", "--module", "node16", "--moduleResolution", "node16"]
     told = trying.run("tsc", *words, "types.mts", cwd=folder)
     check(not told, f"coset.d.ts: {told}")
     return "types tried"

@@ -84,9 +84,10 @@ def tested(given, folder, _, wrong):
 
 def every_call(check):
     """Returns the calls that are made in each language, and all calls from C."""
-    calls = [*rows.calls(check), *examples.calls(check), *messages.sealed_calls(), *items.calls(), *tokens.calls()]
+    of_messages = [*messages.sealed_calls(), *messages.mac_calls(), *messages.index_calls()]
+    calls = [*rows.calls(check), *examples.calls(check), *of_messages, *items.calls(), *tokens.calls()]
     of_tokens = [*tokens.calls_from_c(check), *openers.calls(), *shapes.calls()]
-    return calls, [*calls, *of_tokens, *misuses.calls(), *depths.calls(calls)]
+    return calls, [*calls, *of_tokens, *misuses.calls(), *examples.wrong_signers(), *depths.calls(calls)]
 
 
 def of_library(given, folder, objects, wrong):
@@ -155,6 +156,7 @@ def called(given, folder, objects, wrong):
     calls, every = every_call(wrong.check)
     lines, wanted = calling.from_c(f"{folder}/calls_c", every, wrong.check)
     calling.lengths(f"{folder}/calls_c", wrong.check)
+    calling.without_length(f"{folder}/calls_c", wrong.check)
     told = [f"calls {len(calls)}", f"from C {len(lines)}"]
     told += openssl.tried(folder, objects, wrong.check)
     told += of_library(given, folder, objects, wrong)

@@ -1,4 +1,6 @@
-/** The types of coset.mjs, which has a comment for each call. */
+/** The types of coset.mjs, which has a comment for each call.
+ *
+ * An option that is undefined is a Misuse. With `exactOptionalPropertyTypes`, `tsc` reports it. */
 
 /** Bytes that a call takes. */
 export type Data = ArrayBufferView | ArrayBufferLike;
@@ -47,6 +49,7 @@ export class OutOfMemory extends CosetError {}
 export class Refused extends CosetError {}
 export class NotAllowed extends Refused {}
 export class Critical extends Refused {}
+export class WrongHeaders extends Refused {}
 export class InvalidToken extends CosetError {
   constructor(status: number, layer?: number | null, number?: Integer | null);
   readonly layer: number | null;
@@ -84,6 +87,7 @@ export interface Sign1 {
 }
 /** The question that the caller's function answers about a message. */
 export interface Question {
+  readonly kind: number;
   readonly algorithm: Integer;
   readonly keyId: Uint8Array | null;
   readonly keyIdMap: number | null;
@@ -95,7 +99,7 @@ export interface Question {
   readonly partialIvMap: number | null;
 }
 /** The question that the caller's function answers about a layer of a token. */
-export interface Layer extends Omit<Question, "ivMap" | "partialIvMap"> {
+export interface Layer extends Omit<Question, "kind" | "ivMap" | "partialIvMap"> {
   readonly form: number;
   readonly index: number;
 }

@@ -1,4 +1,4 @@
-/** Uses of the package that its types allow, and two that they don't. `tsc` compiles it (tools/capi/wasm.py). */
+/** Uses of the package that its types allow, and others that they don't. `tsc` compiles it (tools/capi/wasm.py). */
 import * as coset from "coset-rattle";
 
 const token = new Uint8Array();
@@ -19,5 +19,9 @@ try {
 }
 // @ts-expect-error the answer is true or false
 await coset.verify(coset.SIGN1, token, { algorithms: [-7] }, async () => "yes");
+// @ts-expect-error an option is undefined (--exactOptionalPropertyTypes)
+await coset.verify(coset.SIGN1, token, { algorithms: [-7], detached: undefined }, async () => true);
+// @ts-expect-error the name of an issuer is undefined
+new coset.KeyRing([[undefined, token]]);
 // @ts-expect-error the algorithms are missing
 await coset.verify(coset.SIGN1, token, {}, async () => true);

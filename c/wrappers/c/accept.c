@@ -1,5 +1,5 @@
 /* Verifies a web token (RFC 8392) of one of two issuers, with the ciphers of OpenSSL: `accept KEYS KEYS TOKEN`. The files
- * are the COSE_KeySets of the issuers, and the token. Prints the issuer and the subject of the token. */
+ * are the COSE_KeySets of the issuers, and the token. Prints the issuer and the subject of the token in one line. */
 #include "coset_openssl.h"
 #include <stdio.h>
 #include <time.h>
@@ -11,12 +11,19 @@ static size_t contents(const char *name, uint8_t *at, size_t cap) {
   return len;
 }
 
+/* Returns 1 if the UTF-8 text has a control character: one below 20, 7f, or one from 80 to 9f, in hexadecimal. */
+static int has_control(const uint8_t *text, size_t len) {
+  for (size_t i = 0; i < len; i++)
+    if (text[i] < 0x20 || text[i] == 0x7f || (text[i] == 0xc2 && i + 1 < len && text[i + 1] < 0xa0)) return 1;
+  return 0;
+}
+
 int main(int count, char **names) {
   static uint8_t as[4096], hub[4096], in[4096], work[9 * sizeof in + 1024], subject[256];
   static const int64_t algorithms[] = {COSET_ES256, COSET_HMAC_256_256};
   static const coset_text here = COSET_LITERAL("coap://light.example.com");
   const time_t now = time(NULL);
-  if (count != 4 || now < 1) return 2;
+  if (count != 4 || now < 1) return 1;
   const coset_issuer issuers[] = {
       {COSET_LITERAL("coap://as.example.com"), as, contents(names[1], as, sizeof as)},    /* a key for each algorithm */
       {COSET_LITERAL("coap://hub.example.com"), hub, contents(names[2], hub, sizeof hub)} /* a key for ES256 */
@@ -33,6 +40,7 @@ int main(int count, char **names) {
   if (!status)
     status = coset_label_bytes(COSET_CLAIMS, token.claims, token.claims_len, COSET_IN_ITEM, 2, subject, sizeof subject, &len);
   if (status) return fprintf(stderr, "refused: %s\n", coset_status_text(status)), 1;
+  if (has_control(subject, len)) return fputs("refused: the subject has a control character\n", stderr), 1;
   printf("%.*s says %.*s\n", (int)token.issuer_len, token.issuer, (int)len, (char *)subject);
   return 0;
 }

@@ -122,11 +122,11 @@ static int same(const char *word, const uint8_t *at, size_t len) {
   return is;
 }
 
-/* Returns true if the question has the four values of the words. */
+/* Returns true if the question is about a COSE_Sign1, and has the four values of the words. */
 static int is_as_said(void *words, const coset_question *q) {
   char **word = words;
-  return atoll(word[0]) == q->algorithm && same(word[1], q->key_id, q->key_id_len) && same(word[2], q->input, q->input_len) &&
-         same(word[3], q->proof, q->proof_len);
+  return q->kind == COSET_SIGN1 && atoll(word[0]) == q->algorithm && same(word[1], q->key_id, q->key_id_len) &&
+         same(word[2], q->input, q->input_len) && same(word[3], q->proof, q->proof_len);
 }
 
 /* Returns the status of `verified` for these words. Afterwards `out` has the payload at its front, and nothing else. */
@@ -155,26 +155,48 @@ static void deeper(struct bytes in) {
   printf("levels %zu\n", most + (size_t)coset_is_deeper(in.at, in.len, most));
 }
 
+/* A decrypter that returns the number at `number`, and sets no length. */
+static int says_number(void *number, const coset_question *question, uint8_t *plain, size_t cap, size_t *len) {
+  (void)question, (void)plain, (void)cap, (void)len;
+  return *(const int *)number;
+}
+
+/* Prints the results of coset_encrypt0_decrypt if the decrypter sets no length: for a yes, and for too little room. Prints the
+ * size of the buffer that is then needed. */
+static void without_length(struct bytes in, uint8_t *out, size_t cap) {
+  const int64_t algorithm = 1;
+  const coset_policy policy = {.algorithms = &algorithm, .algorithms_len = 1};
+  const uint8_t *plain = NULL;
+  int answers[] = {1, COSET_NO_ROOM};
+  for (int i = 0; i < 2; i++) {
+    size_t len = 77;
+    const coset_status status = coset_encrypt0_decrypt(COSET_EITHER, in.at, in.len, &policy, says_number, &answers[i], out, cap, &plain, &len);
+    printf("%" PRId32 " %zu%s", status, len, i ? "\n" : " ");
+  }
+}
+
 /* Prints the results of coset_verify.h for a length that no object has. The length is that of a list of algorithms, a
  * buffer, the memory to work in, a token, and the bytes of coset_is_deeper. */
 static void lengths(struct bytes in, uint8_t *out, size_t cap) {
+  const coset_verifier never = is_as_said;
+  const coset_decrypter says = says_number;
   const int64_t es256 = -7;
   const coset_policy policy = {.algorithms = &es256, .algorithms_len = SIZE_MAX};
   coset_token told;
   const uint8_t *payload = NULL;
   size_t len;
-  printf("%" PRId32, coset_sign1_verify(COSET_EITHER, in.at, in.len, &policy, NULL, NULL, out, cap, &payload, &len));
-  printf(" %" PRId32, coset_encrypt0_decrypt(COSET_EITHER, in.at, in.len, &policy, NULL, NULL, out, SIZE_MAX, &payload, &len));
+  printf("%" PRId32, coset_sign1_verify(COSET_EITHER, in.at, in.len, &policy, never, NULL, out, cap, &payload, &len));
+  printf(" %" PRId32, coset_encrypt0_decrypt(COSET_EITHER, in.at, in.len, &policy, says, NULL, out, SIZE_MAX, &payload, &len));
   printf(" %" PRId32, length_call(in.at, in.len, out, SIZE_MAX, &told));
   printf(" %" PRId32, length_call(in.at, SIZE_MAX, out, cap, &told));
   printf(" %d\n", coset_is_deeper(in.at, SIZE_MAX, COSET_MOST_LEVELS));
 }
 
-/* Returns true if the question has the values of the words. */
+/* Returns true if the question has the values of the words, and the kind that is nine words before them. */
 static int is_asked(void *words, const coset_question *question) {
   char **word = words;
-  return same(word[0], question->input, question->input_len) && same(word[1], question->proof, question->proof_len) &&
-         same(word[2], question->key_id, question->key_id_len);
+  return question->kind == (strtoul(word[-9], NULL, 0) & 0xff) && same(word[0], question->input, question->input_len) &&
+         same(word[1], question->proof, question->proof_len) && same(word[2], question->key_id, question->key_id_len);
 }
 
 /* Appends the number of a header and the IV in it, if there is one. */
@@ -244,11 +266,17 @@ static int32_t safe(char **word, uint32_t number, struct bytes in, uint8_t *out,
   const size_t index = strtoull(word[4], NULL, 0);
   const uint8_t *payload = out;
   int32_t status = -2;
-  switch (number & 0xff) {
+  /* These two have no argument for an index. */
+  if (index && ((number & 0xff) == COSET_SIGN1 || (number & 0xff) == COSET_MAC0))
+    status = coset_verify(coset_kind_in(number & 0xff, form), in.at, in.len, index, &policy, is_asked, word + 10, out, cap, &payload, len);
+  else switch (number & 0xff) {
   case COSET_SIGN1: status = coset_sign1_verify(form, in.at, in.len, &policy, is_asked, word + 10, out, cap, &payload, len); break;
   case COSET_MAC0: status = coset_mac0_verify(form, in.at, in.len, &policy, is_asked, word + 10, out, cap, &payload, len); break;
   case COSET_SIGN:
     status = coset_sign_verify(form, in.at, in.len, index, &policy, is_asked, word + 10, out, cap, &payload, len);
+    break;
+  case COSET_MAC:
+    status = coset_verify(coset_kind_in(COSET_MAC, form), in.at, in.len, index, &policy, is_asked, word + 10, out, cap, &payload, len);
     break;
   default:
     status = decrypted(form, in, &policy, word + 10, out, cap, len);
@@ -278,9 +306,12 @@ struct token {
 typedef int (*signer)(void *key, const uint8_t *tbs, size_t tbs_len, uint8_t *sig, size_t cap, size_t *sig_len);
 int32_t issued(const struct token *t, signer sign, void *key, uint8_t *out, size_t cap, size_t *len);
 
-/* Gives the signature of the second word, if the bytes to sign are those of the first. */
+/* Gives the signature of the second word, if the bytes to sign are those of the first. The second word may be `=N`, for an
+ * answer N with 64 bytes, or `+N`, for a length that is N more than the room. */
 static int sign_as_said(void *words, const uint8_t *tbs, size_t tbs_len, uint8_t *sig, size_t cap, size_t *sig_len) {
   char **word = words;
+  if (*word[1] == '=') return memset(sig, 0, 64), *sig_len = 64, atoi(word[1] + 1);
+  if (*word[1] == '+') return *sig_len = cap + strtoull(word[1] + 1, NULL, 0), 1;
   struct bytes b = spelled(word[1]);
   int is = same(word[0], tbs, tbs_len) && b.len <= cap;
   if (is && b.len) memcpy(sig, b.at, b.len);
@@ -488,12 +519,13 @@ int main(void) {
     left = refused ? atol(refused) : -1;
     int is_token = !strcmp(call, "token") || !strcmp(call, "answers") || !strcmp(call, "ring") || !strcmp(call, "openssl");
     int is_room = !strcmp(call, "room") || !strcmp(call, "roomy"), is_open = !strcmp(call, "open");
-    if (is_token || is_room || is_open || !strcmp(call, "fits") || !strcmp(call, "deeper") || !strcmp(call, "lengths")) {
+    if (is_token || is_room || is_open || !strcmp(call, "fits") || !strcmp(call, "deeper") || !strcmp(call, "lengths") || !strcmp(call, "unset")) {
       if (is_token) token_call(word, in, cap);
       else if (is_room) room_call(word, in, cap);
       else if (is_open) open_call(word, in, cap);
       else if (*call == 'f') fits_call(word, in, cap);
       else if (*call == 'd') deeper(in);
+      else if (*call == 'u') without_length(in, out, cap);
       else lengths(in, out, cap);
       free(in.at), free(out);
       if (live) return fprintf(stderr, "%ld blocks are left\n", live), 1;

@@ -12,16 +12,17 @@ struct token {
   int64_t exp, nbf, iat;
 };
 
-/* Signs `tbs`, and returns 0 if it didn't. Else `sig`, which has `cap` bytes, has a signature of `*sig_len` bytes. */
+/* Signs `tbs`. Returns 1 if it signed; any other result counts as 0. The signature is then in `sig`, which has `cap` bytes,
+ * and `*sig_len` is its length. */
 typedef int (*signer)(void *key, const uint8_t *tbs, size_t tbs_len, uint8_t *sig, size_t cap, size_t *sig_len);
 
 /* Writes a token with these claims to `out`, in the order of their labels, signed by ES256. Returns the status, or -1
- * if `sign` returned 0. COSET_MISUSE, or COSET_SHORT with `*len` 0, means that the claims are too long for the buffers
- * of this function. */
+ * if `sign` didn't sign, or set a length greater than its room. COSET_MISUSE, or COSET_SHORT with `*len` 0, means that
+ * the claims are too long for the buffers of this function. */
 int32_t issued(const struct token *t, signer sign, void *key, uint8_t *out, size_t cap, size_t *len) {
   coset_pair room[7];
   uint8_t texts[1024], claims[1024], head[16], ids[128], tbs[1200], sig[128];
-  size_t nc, nh, ni, nt, ns;
+  size_t nc, nh, ni, nt, ns = 0;
   coset_pairs pairs = coset_pairs_in(room, 7, texts, sizeof texts);
   coset_pairs_text(&pairs, 1, t->iss.at, t->iss.len);
   coset_pairs_text(&pairs, 2, t->sub.at, t->sub.len);
@@ -35,6 +36,6 @@ int32_t issued(const struct token *t, signer sign, void *key, uint8_t *out, size
   if (!s) s = coset_put_int(COSET_HEADER, NULL, 0, 1, -7, head, sizeof head, &nh);
   if (!s) s = coset_put_bytes(COSET_HEADER, NULL, 0, 4, t->kid.at, t->kid.len, ids, sizeof ids, &ni);
   if (!s) s = coset_structure_of(COSET_SIGN1, head, nh, NULL, 0, NULL, 0, claims, nc, tbs, sizeof tbs, &nt);
-  if (!s && !sign(key, tbs, nt, sig, sizeof sig, &ns)) return -1;
+  if (!s && (sign(key, tbs, nt, sig, sizeof sig, &ns) != 1 || ns > sizeof sig)) return -1;
   return s ? s : coset_make(COSET_SIGN1 + COSET_TAGGED, head, nh, ids, ni, 1, claims, nc, sig, ns, out, cap, len);
 }

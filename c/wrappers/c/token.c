@@ -125,6 +125,7 @@ static void name_in(struct script *script, const char *answer, size_t len, coset
 /* Gives the next answer of the script. Besides yes, no and a plaintext, it may be one that no caller should give:
  * - `=N` returns the number N, `+N` returns 1 and a length that is N more than the room for the plaintext,
  * - `>N` returns COSET_NO_ROOM and the length N,
+ * - `~N` returns the number N, and sets no length,
  * - `!` overwrites the question's bytes, and says yes. */
 static int is_opened(void *context, const coset_layer_question *question, uint8_t *plain, size_t cap, size_t *len,
                      coset_text *issuer) {
@@ -132,9 +133,11 @@ static int is_opened(void *context, const coset_layer_question *question, uint8_
   const char *answer = script->answers;
   const size_t n = strcspn(answer, ",");
   struct bytes text = {NULL, 0};
-  if ((question->index != script->count && !script->is_damaged) || *len || issuer->chars || issuer->len) exit(2);
+  const size_t unset = question->form == COSET_ENCRYPT0 ? SIZE_MAX : 0;
+  if ((question->index != script->count && !script->is_damaged) || *len != unset || issuer->chars || issuer->len) exit(2);
   heard(script, question);
   script->answers += n + (answer[n] == ',');
+  if (*answer == '~') return atoi(answer + 1);
   if (*answer == 'p') text = spelled(answer + 1);
   if (text.len > cap) return *len = text.len, free(text.at), COSET_NO_ROOM;
   if (text.len) memcpy(plain, text.at, text.len);

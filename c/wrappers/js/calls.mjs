@@ -69,7 +69,7 @@ function message(kind, given, index, aad, has, content, known) {
 
 /** Returns the result of `verify` or `decrypt`, as calls.c describes it. */
 async function safe(kind, given, index, aad, has, content, algorithms, known, ...words) {
-  const isAsked = q => [q.input, q.proof, q.keyId ?? []].every((it, i) => hex(it) === (words[i] === "-" ? "" : words[i]));
+  const isAsked = q => q.kind === (kind & 0xff) && [q.input, q.proof, q.keyId ?? []].every((it, i) => hex(it) === (words[i] === "-" ? "" : words[i]));
   const ivs = q => [[q.ivMap, q.iv], [q.partialIvMap, q.partialIv]].flatMap(([which, iv]) => which ? [[which], iv] : []);
   const plain = q => isAsked(q) ? concat([...ivs(q), q.proof.map(byte => byte ^ 0x5a)]) : null;
   const options = { algorithms: listed(algorithms, BigInt), critical: listed(known, BigInt), externalAad: data(aad), detached: detached(has, content) };
@@ -192,7 +192,8 @@ function floating(value) {
 }
 
 async function verification(given, ...words) {
-  const isAsked = q => [String(q.algorithm), hex(q.keyId ?? []), hex(q.input), hex(q.proof)].join() === words.join();
+  const texts = q => [String(q.algorithm), hex(q.keyId ?? []), hex(q.input), hex(q.proof)];
+  const isAsked = q => q.kind === coset.SIGN1 && texts(q).join() === words.join();
   return hex(await verified(given, async q => isAsked(q)));
 }
 

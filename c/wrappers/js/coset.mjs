@@ -11,7 +11,9 @@
  *
  * `verifyToken` verifies a web token (RFC 8392) with the keys of a `KeyRing`. It throws InvalidToken if the token is
  * refused. `verify` and `decrypt` return a message's contents only after the caller's function said yes. They also throw
- * NotAllowed, Critical or Refused. The header and docs/C.md say what each call promises. */
+ * NotAllowed, Critical, WrongHeaders or Refused. The header and docs/C.md say what each call promises.
+ *
+ * An option that is undefined is a Misuse. So a field that doesn't exist doesn't drop a rule. */
 
 export const SIGN1 = 1, SIGN = 2, MAC0 = 3, MAC = 4, ENCRYPT0 = 5, ENCRYPT = 6, SIGNATURE = 7, RECIPIENT = 8;
 export const HEADER = 9, KEY = 10, KEY_SET = 11, CLAIMS = 12, ITEM = 13, KDF_CONTEXT = 14;
@@ -75,7 +77,7 @@ export class Empty extends CosetError {}
 export class WrongType extends CosetError {}
 
 /** An argument has no meaning for the call, or has another type, or a payload or ciphertext is given although the message
- * carries one. */
+ * carries one. Or an option is undefined, or an index isn't 0 for a kind without signers. */
 export class Misuse extends CosetError {
   constructor(text = undefined) {
     super(Status.MISUSE, text);
@@ -98,6 +100,9 @@ export class NotAllowed extends Refused {}
 /** A critical label isn't understood, or isn't protected. */
 export class Critical extends Refused {}
 
+/** A message has both an IV and a partial IV (RFC 8152, section 3.1). */
+export class WrongHeaders extends Refused {}
+
 /** The token is refused. `reason` is the first reason against it, such as "EXPIRED". It is "UNFIT" if no key of a
  * KeyRing fits a layer. `layer` is the index of the refused layer, counted from 0, the outermost, or null. `number` is
  * the number of the algorithm for "NOT_ALLOWED", and of the missing claim for "MISSING", else null. */
@@ -117,6 +122,7 @@ const AGAINST = { [Status.ABSENT]: "it carries no payload or ciphertext", [Statu
 const OF_LAYER = [Status.ABSENT, Status.NOT_ALLOWED, Status.CRITICAL, Status.REFUSED, Status.HEADERS];
 const ERRORS = {
   [Status.ABSENT]: Absent, [Status.TYPE]: WrongType, [Status.EMPTY]: Empty, [Status.NOT_ALLOWED]: NotAllowed, [Status.CRITICAL]: Critical,
+  [Status.HEADERS]: WrongHeaders,
 };
 
 function isFault(status) {
@@ -375,12 +381,12 @@ function own(data) {
 }
 
 function optional(data) {
-  return data === null || data === undefined ? null : own(data);
+  return data === null ? null : own(data);
 }
 
-/** Returns a flag and the bytes, for a content that may be missing. */
+/** Returns a flag and the bytes, for a content that may be null. */
 function flagged(content) {
-  return content === null || content === undefined ? [0, NOTHING] : [1, bytes(content)];
+  return content === null ? [0, NOTHING] : [1, bytes(content)];
 }
 
 /** Returns true for an object of no class, such as a literal. */
@@ -389,13 +395,16 @@ function isPlain(it) {
   return proto === null || (proto !== undefined && Object.getPrototypeOf(proto) === null);
 }
 
-/** Returns the options, with defaults for those that aren't given. Nothing is taken from a class or a prototype. */
+/** Returns the options, with defaults for those that aren't given. Nothing is taken from a class or a prototype. An option
+ * that is undefined is a Misuse, because it may be a field that doesn't exist. */
 function settled(options, defaults) {
   if (!isPlain(options)) throw new Misuse("options are a plain object");
-  const unknown = Object.keys(options).find(name => !Object.hasOwn(defaults, name));
+  const given = Object.fromEntries(Object.getOwnPropertyNames(options).map(name => [name, options[name]]));
+  const unknown = Object.keys(given).find(name => !Object.hasOwn(defaults, name));
   if (unknown !== undefined) throw new Misuse(`there is no option ${unknown}`);
-  const isGiven = name => Object.hasOwn(options, name) && options[name] !== undefined;
-  return Object.fromEntries(Object.entries(defaults).map(([name, value]) => [name, isGiven(name) ? options[name] : value]));
+  const empty = Object.keys(given).find(name => given[name] === undefined);
+  if (empty !== undefined) throw new Misuse(`the option ${empty} is undefined`);
+  return { ...defaults, ...given };
 }
 
 function number(value) {
@@ -406,6 +415,13 @@ function number(value) {
 function size(value) {
   if (!Number.isSafeInteger(value) || value < 0) throw new Misuse("an index is a whole number");
   return BigInt(value);
+}
+
+/** Returns the index of a signer. It is 0 for a kind without signers. */
+function signerAt(kind, value) {
+  const index = size(value);
+  if (index !== 0n && (number(kind) & 0xff) !== SIGN) throw new Misuse("an index of a signer, for a kind without signers");
+  return index;
 }
 
 function isInteger(value) {
@@ -623,10 +639,11 @@ export function keyOf(data, keyId) {
 }
 
 /** Returns the structure that is signed (by the signer at `index`), authenticated, or goes with the ciphertext. Its
- * payload is the one that the message carries. If the message carries none, it is `detached`. */
+ * payload is the one that the message carries. If the message carries none, it is `detached`. An index other than 0 is for a
+ * SIGN alone. */
 export function structure(kind, data, options = {}) {
   const { index, externalAad, detached } = settled(options, { index: 0, externalAad: NOTHING, detached: null });
-  return written("structure", number(kind), bytes(data), size(index), bytes(externalAad), ...flagged(detached));
+  return written("structure", number(kind), bytes(data), signerAt(kind, index), bytes(externalAad), ...flagged(detached));
 }
 
 /** Returns the structure that goes with the ciphertext of a recipient, by the kind that contains it: ENCRYPT, MAC or
@@ -645,11 +662,12 @@ export function countersignStructure(kind, data, label, options = {}) {
 }
 
 /** Returns everything that verifying or decrypting a message takes. For a message with signers, it is for the signer at
- * `index`. `critical` are the critical labels that the caller understands. */
+ * `index`; for another kind, an index other than 0 is a Misuse. `critical` are the critical labels that the caller
+ * understands. */
 export function message(kind, data, options = {}) {
   const given = settled(options, { index: 0, critical: [], externalAad: NOTHING, detached: null });
   const input = bytes(data), view = new Place(blank(SPANS));
-  const words = [number(kind), input, size(given.index), bytes(given.externalAad), ...flagged(given.detached)];
+  const words = [number(kind), input, signerAt(kind, given.index), bytes(given.externalAad), ...flagged(given.detached)];
   const [status, text] = writing("message_spans", [...words, int64s(given.critical, "critical")], [view]);
   must(status);
   const told = readStruct(SPANS, view);
@@ -673,29 +691,36 @@ export function sign1(kind, data, options = {}) {
 // ---- Verifying messages
 
 /** Returns the question about a message, or throws an error if the message isn't allowed. */
-function asked(found, algorithms, proof) {
+function asked(kind, found, algorithms, proof) {
   if (!Array.isArray(algorithms)) throw new Misuse("algorithms is a list of integers");
   const allowed = algorithms.map(it => exact(int64(it)));
   if (found.critical === NOT_UNDERSTOOD) throw new Critical(Status.CRITICAL);
   if (found.algorithm === null || !allowed.includes(found.algorithm)) throw new NotAllowed(Status.NOT_ALLOWED);
   const { algorithm, keyId, keyIdMap, input } = found;
-  return { algorithm, keyId: keyIdMap ? keyId : null, keyIdMap, input, proof, iv: null, partialIv: null, ivMap: null, partialIvMap: null };
+  const ivs = { iv: null, partialIv: null, ivMap: null, partialIvMap: null };
+  return { kind: kind & 0xff, algorithm, keyId: keyIdMap ? keyId : null, keyIdMap, input, proof, ...ivs };
 }
 
 /** Returns the payload of a message with signatures or a MAC, after `ask` said yes. `kind` is SIGN1, SIGN, MAC0 or MAC,
- * with TAGGED, EITHER or neither added.
+ * with TAGGED, EITHER or neither added. Nothing else is checked: for a web token call `verifyToken`.
  *
- * `ask` gets the question: `{ algorithm, keyId, keyIdMap, input, proof }`, and no IV. It returns true, or a promise of true, if the
- * proof is a signature or MAC of the input, by a key that the caller trusts for that algorithm. Any other answer refuses
- * the message. `algorithms` are those that are allowed. `critical` are the critical labels that the caller understands,
- * and acts on. The bytes are copied before `ask` is called. */
+ * `ask` gets the question: `{ kind, algorithm, keyId, keyIdMap, input, proof }`, and no IV. `kind` is SIGN1, SIGN, MAC0 or
+ * MAC. `ask` returns true, or a promise of true, if the proof is a signature or MAC of the input, by a key that the caller
+ * trusts for that algorithm. Any other answer refuses the message. The bytes are copied before `ask` is called.
+ *
+ * `algorithms` are those that are allowed. List only algorithms for that kind: a MAC0's algorithm in a SIGN1's list would be
+ * accepted. `critical` are the critical labels that the caller understands, and acts on. Those of a MAC's recipients aren't
+ * looked at.
+ *
+ * For a message with signers, the question is about the signer at `index`. The caller decides which signers are enough. A
+ * signature may be in the list twice: count keys, not indices. For another kind, an index other than 0 is a Misuse. */
 export async function verify(kind, data, options, ask) {
   const given = settled(options, { algorithms: [], index: 0, critical: [], externalAad: NOTHING, detached: null });
   const { algorithms, ...rest } = { ...given, detached: optional(given.detached) };
   if (![SIGN1, SIGN, MAC0, MAC].includes(number(kind) & 0xff)) throw new Misuse("a kind without a signature or a tag");
   if (typeof ask !== "function") throw new Misuse("the verifier is a function");
   const found = message(kind, data, rest), payload = rest.detached ?? found.content;
-  if (await ask(Object.freeze(asked(found, algorithms, found.proof))) !== true) throw new Refused(Status.REFUSED);
+  if (await ask(Object.freeze(asked(kind, found, algorithms, found.proof))) !== true) throw new Refused(Status.REFUSED);
   return payload;
 }
 
@@ -711,8 +736,8 @@ function inEither(kind, data, label) {
 
 /** Returns the plaintext of an ENCRYPT0, with TAGGED, EITHER or neither added. `open` gets the question, whose proof is
  * the ciphertext. It also has `iv` and `partialIv`, the strings under the labels 5 and 6, and the headers that have them,
- * `ivMap` and `partialIvMap`, each null if there is none. A message may have an IV in one header and a partial IV in the
- * other. Refuse it then (RFC 8152, section 3.1).
+ * `ivMap` and `partialIvMap`, each null if there is none. A message with both is refused with WrongHeaders (RFC 8152, section
+ * 3.1).
  *
  * `open` returns the plaintext as bytes, or a promise of it. Null, undefined or false refuses the message. The options are
  * those of `verify`. */
@@ -724,7 +749,8 @@ export async function decrypt(kind, data, options, open) {
   const found = message(kind, input, { critical, externalAad, detached });
   const ciphertext = detached ?? part(kind, input, CIPHERTEXT);
   const [[iv, ivMap], [partialIv, partialIvMap]] = [5, 6].map(name => inEither(kind, input, name));
-  const question = asked(found, given.algorithms, ciphertext);
+  const question = asked(kind, found, given.algorithms, ciphertext);
+  if (ivMap !== null && partialIvMap !== null) throw new WrongHeaders(Status.HEADERS);
   const plain = await open(Object.freeze({ ...question, iv, partialIv, ivMap, partialIvMap }));
   if (plain === null || plain === undefined || plain === false) throw new Refused(Status.REFUSED);
   return own(plain);
@@ -785,9 +811,9 @@ function waiting(view, text) {
   });
 }
 
-/** Returns the name of an issuer as bytes, or null. */
+/** Returns the name of an issuer as bytes, or null if it is null. */
 function issuerOf(name) {
-  if (name === null || name === undefined) return null;
+  if (name === null) return null;
   if (name === "") throw new Misuse("an issuer's name is empty");
   return utf8(name);
 }
@@ -905,9 +931,9 @@ export async function verifyToken(data, keys, options) {
 }
 
 /** Returns the nonce by which a key fits a layer, or null if it doesn't fit. For an algorithm without a nonce, such as a
- * signature's, it is empty. */
+ * signature's, it is empty. The layer's `keyId`, `iv` and `partialIv` are bytes or null. */
 export function keyFits(key, layer) {
-  const given = [layer.keyId, layer.iv, layer.partialIv, layer.proof].map(text => bytes(text ?? NOTHING));
+  const given = [layer.keyId, layer.iv, layer.partialIv, layer.proof].map(text => text === null ? NOTHING : bytes(text));
   const [status, nonce] = writing("key_fits", [bytes(key), number(layer.form), int64(layer.algorithm), ...given]);
   if (status === Status.UNFIT) return null;
   must(status);
@@ -938,7 +964,7 @@ function pairsOf(pairs) {
 /** The keys of issuers, for `verifyToken`. It says whose key accepted a layer.
  *
  * `issuers` is an object, a Map or an array of pairs: for each issuer's name, as in `iss`, a KEY_SET. The name null is for
- * an issuer whose tokens have no `iss`. Keys that can't be read are skipped (RFC 9052, section 7).
+ * an issuer whose tokens have no `iss`; undefined is a Misuse. Keys that can't be read are skipped (RFC 9052, section 7).
  *
  * `ciphers` has two methods, which may return promises. They are called only with a KEY that fits the layer:
  * - `verify(key, algorithm, input, proof)` returns true if the proof is a signature or a MAC of the input, else false.

@@ -7,5 +7,5 @@ export async function issued(claims, keyId, sign) {
   const header = coset.put(coset.HEADER, new Uint8Array(), 1, coset.ES256);
   const unprotected = coset.put(coset.HEADER, new Uint8Array(), 4, keyId);
   const proof = await sign(coset.structureOf(coset.SIGN1, header, { content: payload }));
-  return proof && coset.make(coset.SIGN1 + coset.TAGGED, header, unprotected, { content: payload, proof });
+  return proof === null ? null : coset.make(coset.SIGN1 + coset.TAGGED, header, unprotected, { content: payload, proof });
 }

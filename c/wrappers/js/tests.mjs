@@ -175,6 +175,10 @@ const tests = {
       () => coset.verify(SIGN1 + EITHER, message, { algorithms: -7 }, () => true),
       () => coset.verify(SIGN1 + EITHER, message, { algorithms: [-7] }),
       () => coset.verify(ENCRYPT0, message, { algorithms: [-7] }, () => true),
+      () => coset.verify(SIGN1 + EITHER, message, { algorithms: [-7], index: 1 }, () => true),
+      () => coset.message(SIGN1 + EITHER, message, { index: 1 }),
+      () => coset.structure(SIGN1 + EITHER, message, { index: 1 }),
+      () => coset.verifyToken(nested(1), layer => [layer.form === ENCRYPT0 ? layer.proof : true, undefined], POLICY),
       () => coset.structure(SIGN1 + EITHER, message, { detached: NONE }),
       () => coset.structure(SIGN1 + EITHER, message, null),
       () => coset.check(0, message),
@@ -195,6 +199,58 @@ const tests = {
       () => coset.putAll(CLAIMS, NONE, [[true, "a"]]),
     ];
     for (const make of misused) assert.ok(await thrown(make) instanceof coset.Misuse, String(make));
+  },
+
+  async "an option that is undefined is a misuse, in each call"() {
+    const message = signed("x"), key = coset.putAll(KEY, NONE, [[1, 4], [3, 5], [-1, new Uint8Array(32)]]);
+    const sealed = coset.make(ENCRYPT0, coset.put(HEADER, NONE, 1, 1), NONE, { content: ENCODER.encode("cipher") });
+    const calls = {
+      structure: [["index", "externalAad", "detached"], options => coset.structure(SIGN1 + EITHER, message, options)],
+      recipientStructure: [["externalAad"], options => coset.recipientStructure(coset.ENCRYPT, message, options)],
+      countersignStructure: [["signer", "externalAad", "detached"], options => coset.countersignStructure(SIGN1 + EITHER, message, 11, options)],
+      message: [["index", "critical", "externalAad", "detached"], options => coset.message(SIGN1 + EITHER, message, options)],
+      sign1: [["externalAad", "detached"], options => coset.sign1(SIGN1 + EITHER, message, options)],
+      verify: [["algorithms", "index", "critical", "externalAad", "detached"],
+        options => coset.verify(SIGN1 + EITHER, message, { algorithms: [-7], ...options }, () => true)],
+      decrypt: [["algorithms", "critical", "externalAad", "detached"],
+        options => coset.decrypt(ENCRYPT0, sealed, { algorithms: [1], ...options }, () => NONE)],
+      verifyToken: [["algorithms", "audience", "types", "required", "critical", "leeway", "maxAge", "untaggedForm", "authenticatedBy",
+        "anyAudience", "mayNotExpire", "mayBeIssuedLater", "now"],
+      options => coset.verifyToken(nested(1), layer => [layer.form === ENCRYPT0 ? layer.proof : true, "as"], { ...POLICY, ...options })],
+      structureOf: [["content", "signer", "externalAad"], options => coset.structureOf(SIGN1, ES256, options)],
+      recipientStructureOf: [["externalAad"], options => coset.recipientStructureOf(coset.ENCRYPT, ES256, options)],
+      make: [["content", "proof"], options => coset.make(SIGN1, ES256, NONE, options)],
+    };
+    for (const [name, [options, make]] of Object.entries(calls)) {
+      if (!name.startsWith("recipient")) await make({});
+      for (const option of options) {
+        const error = await thrown(() => make({ [option]: undefined }));
+        assert.ok(error instanceof coset.Misuse && error.message.includes(option), `${name}: ${option}: ${error}`);
+      }
+    }
+    const hidden = Object.defineProperty({ ...POLICY }, "required", { value: [8], enumerable: false });
+    const refusal = await thrown(() => coset.verifyToken(nested(1), layer => [layer.form === ENCRYPT0 ? layer.proof : true, "as"], hidden));
+    assert.deepEqual([refusal.reason, refusal.number], ["MISSING", 8]); // an option that isn't enumerable counts
+    const layer = { form: MAC0, algorithm: 5, keyId: null, iv: null, partialIv: null, proof: new Uint8Array(32) };
+    assert.deepEqual(coset.keyFits(key, layer), NONE);
+    for (const field of Object.keys(layer)) assert.ok(await thrown(() => coset.keyFits(key, { ...layer, [field]: undefined })) instanceof coset.Misuse, field);
+  },
+
+  async "the question has the plain kind"() {
+    for (const kind of [SIGN1, MAC0]) {
+      for (const form of [0, TAGGED, EITHER]) {
+        const found = await coset.verify(kind + form, signed("x", kind + (form && TAGGED)), { algorithms: [-7] }, question => question.kind === kind);
+        assert.equal(text(found), "x");
+      }
+    }
+  },
+
+  async "a message with both IVs is refused"() {
+    const header = coset.put(HEADER, coset.put(HEADER, NONE, 1, 1), 5, ENCODER.encode("iv")), other = coset.put(HEADER, NONE, 6, ENCODER.encode("p"));
+    const both = coset.make(ENCRYPT0, header, other, { content: ENCODER.encode("cipher") }), never = () => assert.fail("the decrypter is called");
+    const error = await thrown(() => coset.decrypt(ENCRYPT0, both, { algorithms: [1] }, never));
+    assert.deepEqual([error.name, error.reason, error instanceof coset.Refused], ["WrongHeaders", "HEADERS", true]);
+    assert.equal((await thrown(() => coset.decrypt(ENCRYPT0, both, { algorithms: [3] }, never))).reason, "NOT_ALLOWED");
   },
 
   async "bytes come in views and buffers"() {
@@ -246,7 +302,9 @@ const tests = {
     assert.equal((await thrown(() => says({ hub: set }))).reason, "ISSUER");
     assert.equal((await thrown(() => says([[null, set]]))).reason, "ISSUER");
     assert.equal((await thrown(() => says({}))).reason, "UNFIT");
-    assert.ok(await thrown(() => says([["", set]])) instanceof coset.Misuse);
+    for (const name of ["", undefined, 0, false]) assert.ok(await thrown(() => says([[name, set]])) instanceof coset.Misuse);
+    assert.ok(await thrown(() => says([[undefined, Uint8Array.of(0x80)]])) instanceof coset.Misuse);
+    assert.ok(await thrown(() => says({ as: undefined })) instanceof coset.Misuse);
   },
 
   async "a large input leaves the module usable"() {

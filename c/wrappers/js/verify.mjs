@@ -1,7 +1,9 @@
-/** Verifies a signed web token (RFC 8392), with the caller's cryptography. */
+/** Verifies a signed message, a COSE_Sign1, with the caller's cryptography. */
 import * as coset from "coset-rattle";
 
-/** Returns a promise of the payload of a token whose ES256 signature `verify` accepts. `verify` gets the question. */
-export function verified(token, verify) {
-  return coset.verify(coset.SIGN1 + coset.EITHER, token, { algorithms: [coset.ES256] }, verify);
+/** Returns a promise of the payload of a message whose ES256 signature `verify` accepts. `verify` gets the question.
+ *
+ * Nothing else is checked, such as `exp`, `aud` or `iss`: for a web token call `coset.verifyToken`. */
+export function verified(message, verify) {
+  return coset.verify(coset.SIGN1 + coset.EITHER, message, { algorithms: [coset.ES256] }, verify);
 }

@@ -15,7 +15,8 @@ _REFUSED = dict(enumerate(
     "TokenType HeaderClaims Missing Unfit".split(), 18))
 _REFUSED |= {**_NAMES, 12: "Absent", 16: "NotAllowed", 17: "Critical"}
 _RAISED = {coset.Absent: "Absent", coset.Empty: "Empty", coset.WrongType: "Type", coset.Misuse: "Misuse",
-           coset.Refused: "Refused", coset.NotAllowed: "NotAllowed", coset.Critical: "Critical", MemoryError: "Memory"}
+           coset.Refused: "Refused", coset.NotAllowed: "NotAllowed", coset.Critical: "Critical", coset.WrongHeaders: "Headers",
+           MemoryError: "Memory"}
 
 
 def data(word):
@@ -66,7 +67,7 @@ def message(kind, given, index, aad, has, content, known):
 
 def safe(kind, given, index, aad, has, content, algorithms, known, *words):
     """Returns the result of `verify` or `decrypt`, as calls.c describes it."""
-    is_asked = lambda q: [q.input, q.proof, q.key_id or b""] == list(map(data, words))
+    is_asked = lambda q: [q.kind, q.input, q.proof, q.key_id or b""] == [kind & 0xFF, *map(data, words)]
     ivs = lambda q: b"".join(bytes([which]) + iv for which, iv in ((q.iv_map, q.iv), (q.partial_iv_map, q.partial_iv)) if which)
     plain = lambda q: ivs(q) + bytes(byte ^ 0x5A for byte in q.proof) if is_asked(q) else None
     more = {"critical": integers(known), "external_aad": data(aad), "detached": detached(has, content)}
@@ -237,7 +238,7 @@ def places(pairs):
 
 def verification(given, *words):
     """Returns the payload for the words of `verified`."""
-    is_asked = lambda q: [str(q.algorithm), (q.key_id or b"").hex(), q.input.hex(), q.proof.hex()] == list(words)
+    is_asked = lambda q: [q.kind, str(q.algorithm), (q.key_id or b"").hex(), q.input.hex(), q.proof.hex()] == [coset.SIGN1, *words]
     return verified(given, is_asked).hex()
 
 

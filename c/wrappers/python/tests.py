@@ -65,6 +65,58 @@ assert coset.decrypt(coset.ENCRYPT0, sealed, [1], lambda question: bytearray(b"p
 assert coset.verify(coset.SIGN1, token, [-7], lambda question: True) == bytes(100_000)
 
 
+
+class Falsy(list):
+    """A list that counts as false, as an array of zeros may."""
+
+    def __bool__(self):
+        return False
+
+
+class Ambiguous(list):
+    """A list without a truth, as an array of several numbers."""
+
+    def __bool__(self):
+        raise ValueError("the truth of an array of several numbers")
+
+
+class Bytes(bytearray):
+    """Bytes that count as false."""
+
+    def __bool__(self):
+        return False
+
+
+# Only the length of an argument counts, and not its truth.
+critical = coset.make(coset.SIGN1, b"\xa3\x01\x26\x02\x81\x3a\x00\x01\x11\x6f\x3a\x00\x01\x11\x6f\x01", b"", b"payload", bytes(64))
+for form in (list, tuple, Falsy, Ambiguous, set):
+    labels = form([-70000])
+    assert coset.message(coset.SIGN1, critical, critical=labels).critical == coset.UNDERSTOOD
+    assert coset.verify(coset.SIGN1, critical, form([-7]), lambda question: True, critical=labels) == b"payload"
+assert type(raised(coset.verify, coset.SIGN1, critical, [-7], lambda question: True, critical=Falsy())) is coset.Critical
+key = coset.put_all(coset.KEY, b"", {1: 2, 2: b"kid", 3: -7, -1: 1, -2: bytes(32), -3: bytes(32)})
+layer = coset.Layer(coset.SIGN1, -7, b"other", None, b"", bytes(64), None, None, 0)
+for form in (bytes, bytearray, Bytes):
+    assert coset.key_fits(key, layer._replace(key_id=form(b"kid"))) == b"" and coset.key_fits(key, layer._replace(key_id=form(b"other"))) is None
+
+# The question has the plain kind, and at most one IV.
+for kind in (coset.SIGN1, coset.MAC0):
+    for form in (0, coset.TAGGED, coset.EITHER):
+        bare = coset.make(kind + (coset.TAGGED if form else 0), b"\xa1\x01\x26", b"", b"payload", bytes(64))
+        assert coset.verify(kind + form, bare, [-7], lambda question: question.kind is kind) == b"payload"
+assert coset.decrypt(coset.ENCRYPT0, sealed, [1], lambda question: question.kind is coset.ENCRYPT0 and b"plain") == b"plain"
+both = coset.make(coset.ENCRYPT0, b"\xa2\x01\x01\x05\x42iv", b"\xa1\x06\x41p", b"ciphertext")
+error = raised(coset.decrypt, coset.ENCRYPT0, both, [1], lambda question: 1 / 0)
+assert type(error) is coset.WrongHeaders and isinstance(error, coset.Refused), error
+assert type(raised(coset.decrypt, coset.ENCRYPT0, both, [3], lambda question: 1 / 0)) is coset.NotAllowed
+
+# An index is for a kind with signers.
+for index in (1, 1 << 40, (1 << 64) - 1, True):
+    for call, more in ((coset.verify, ([-7], lambda question: True, index)), (coset.message, (index,)), (coset.structure, (index,))):
+        assert type(raised(call, coset.SIGN1, critical, *more)) is coset.Misuse, (call, index)
+assert type(raised(coset.message, coset.SIGN1, critical, -1)) is coset.Misuse
+
+
 def countersignatures(kind, message):
     """Returns the countersignatures under label 11 of the unprotected header. It has one by itself, or several in an
     array (RFC 9338, section 2)."""

@@ -1,7 +1,9 @@
-"""Verifies a signed web token (RFC 8392), with the caller's cryptography."""
+"""Verifies a signed message, a COSE_Sign1, with the caller's cryptography."""
 import coset
 
 
-def verified(token, verify):
-    """Returns the payload of a token whose ES256 signature `verify` accepts. `verify` receives a coset.Question."""
-    return coset.verify(coset.SIGN1 + coset.EITHER, token, [-7], verify)
+def verified(message, verify):
+    """Returns the payload of a message whose ES256 signature `verify` accepts. `verify` receives a coset.Question.
+
+    Nothing else is checked, such as `exp`, `aud` or `iss`: for a web token call `coset.verify_token`."""
+    return coset.verify(coset.SIGN1 + coset.EITHER, message, [coset.ES256], verify)

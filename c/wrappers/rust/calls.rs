@@ -221,9 +221,10 @@ fn safe(w: &[&str]) -> Result<String, Error> {
     let detached = (w[6] != "0").then_some(content.as_slice());
     let policy = Policy { algorithms: &algorithms, critical: &known, external_aad: &aad, detached };
     let (k, input) = (kind(w[1]), bytes(w[2]));
+    let plain = kind(&(w[1].parse::<u32>().unwrap() & 0xff).to_string());
     let is_asked = |q: &Question<'_>| {
         let asked = [hex(q.input), hex(q.proof), hex(q.key_id.unwrap_or_default())];
-        q.key_id.is_some() == q.key_id_map.is_some() && asked == [10, 11, 12].map(|i| hex(&bytes(w[i])))
+        q.kind == plain && q.key_id.is_some() == q.key_id_map.is_some() && asked == [10, 11, 12].map(|i| hex(&bytes(w[i])))
     };
     let answer = match k {
         Kind::Encrypt0(form) => coset::decrypt(form, &input, &policy, |q| is_asked(q).then(|| plaintext(q))),
@@ -487,7 +488,8 @@ fn answer(w: &[&str]) -> Result<String, Error> {
             hex(&coset::countersign_structure(k, &input, countersignature(w[4]), &signer, &aad, detached)?)
         }
         "verified" => hex(&verify::verified(&input, |q| {
-            [q.algorithm.to_string(), hex(q.key_id.unwrap_or_default()), hex(q.input), hex(q.proof)] == [w[4], w[5], w[6], w[7]]
+            let asked = [q.algorithm.to_string(), hex(q.key_id.unwrap_or_default()), hex(q.input), hex(q.proof)];
+            q.kind == Kind::Sign1(Form::Plain) && asked == [w[4], w[5], w[6], w[7]]
         })?),
         _ => hex(&made(w)?),
     })

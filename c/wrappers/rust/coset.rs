@@ -229,7 +229,8 @@ pub struct LentMessage<'a> {
 /// The caller's requirements for a message. The default accepts nothing.
 #[derive(Clone, Copy, Debug, Default)]
 pub struct Policy<'a> {
-    /// The algorithms that are allowed.
+    /// The algorithms that are allowed. List only algorithms for the kind of the message: a
+    /// `COSE_Mac0`'s algorithm in a `COSE_Sign1`'s list would be accepted.
     pub algorithms: &'a [i64],
     /// The critical labels that the caller understands, and acts on.
     pub critical: &'a [i64],
@@ -241,6 +242,9 @@ pub struct Policy<'a> {
 /// The question that the caller's function answers.
 #[derive(Clone, Copy, Debug)]
 pub struct Question<'a> {
+    /// The kind of the message, as `Form::Plain`: `Kind::Sign1(Form::Plain)` also for a message
+    /// under its tag.
+    pub kind: Kind,
     /// One of the allowed algorithms.
     pub algorithm: i64,
     /// `None` if the message names no key.
@@ -253,7 +257,7 @@ pub struct Question<'a> {
     /// The signature or the tag. For [`decrypt`] the ciphertext.
     pub proof: &'a [u8],
     /// The initialization vector, label 5, and the partial one, label 6, each if a header has it.
-    /// `None` from [`verify`].
+    /// At most one is there. `None` from [`verify`].
     pub iv: Option<&'a [u8]>,
     pub partial_iv: Option<&'a [u8]>,
     /// The headers that have these two.
@@ -296,7 +300,7 @@ pub struct TokenPolicy<'a> {
     /// token's audience with its own names.
     pub any_audience: bool,
     /// The accepted types (`typ`, RFC 9596), such as `application/cwt`. If there is none, `typ` is
-    /// ignored.
+    /// ignored, also if it is critical.
     pub types: &'a [&'a str],
     /// The numbers of claims that a token must have.
     pub required: &'a [i64],
@@ -454,7 +458,7 @@ pub enum Error {
     /// is added to, have no place for an argument.
     Absent,
     /// A payload or ciphertext is given as detached although the message carries one, or the call
-    /// doesn't take the kind.
+    /// doesn't take the kind. Or an index isn't 0 for a kind without signers.
     Misuse,
     /// The value is there, but isn't a string, or isn't an integer in the range of `i64`. From a
     /// call that returns a place also: a string is in chunks.
@@ -487,7 +491,8 @@ pub enum Error {
     Issuer,
     /// The token is for another audience.
     Audience,
-    /// A label is in both headers of a layer, or a layer has an IV and a Partial IV.
+    /// A label is in both headers of a layer, or a layer has an IV and a Partial IV. From
+    /// [`decrypt`]: the message has both IVs.
     Headers,
     /// The innermost layer has none of the accepted types.
     TokenType,
@@ -714,6 +719,19 @@ mod c {
 }
 
 impl Kind {
+    /// Returns the kind of a message as `Form::Plain`.
+    fn plain(self) -> Kind {
+        match self {
+            Kind::Sign1(_) => Kind::Sign1(Form::Plain),
+            Kind::Sign(_) => Kind::Sign(Form::Plain),
+            Kind::Mac0(_) => Kind::Mac0(Form::Plain),
+            Kind::Mac(_) => Kind::Mac(Form::Plain),
+            Kind::Encrypt0(_) => Kind::Encrypt0(Form::Plain),
+            Kind::Encrypt(_) => Kind::Encrypt(Form::Plain),
+            other => other,
+        }
+    }
+
     fn number(self) -> u32 {
         let message = |number, form| match form {
             Form::Plain => number,
@@ -1004,7 +1022,9 @@ pub fn key_of(set: &[u8], key_id: &[u8]) -> Result<Vec<u8>, Error> {
 /// ciphertext.
 ///
 /// Its payload is the one that the message carries. If the message carries none, it is `detached`.
+/// For a kind without signers, an index other than 0 is `Misuse`.
 pub fn structure(kind: Kind, bytes: &[u8], index: usize, external_aad: &[u8], detached: Option<&[u8]>) -> Result<Vec<u8>, Error> {
+    indexed(kind, index)?;
     let content = detached.unwrap_or_default();
     written(room(&[bytes, external_aad, content]), |out, cap, len| unsafe {
         c::coset_structure(
@@ -1046,6 +1066,11 @@ pub fn countersign_structure(
             external_aad.as_ptr(), external_aad.len(), detached.is_some().into(), content.as_ptr(), content.len(), out, cap, len,
         )
     })
+}
+
+/// Returns `Misuse` for an index other than 0, if the kind has no signers.
+fn indexed(kind: Kind, index: usize) -> Result<(), Error> {
+    if index == 0 || matches!(kind, Kind::Sign(_)) { Ok(()) } else { Err(Error::Misuse) }
 }
 
 fn algorithm(form: u32, number: i64) -> Algorithm {
@@ -1090,9 +1115,10 @@ pub fn sign1(form: Form, bytes: &[u8], external_aad: &[u8], detached: Option<&[u
 
 /// Returns everything that verifying or decrypting a message takes.
 ///
-/// For a message with signers, it is for the signer at `index`. The policy's algorithms are
-/// ignored.
+/// For a message with signers, it is for the signer at `index`. For another kind, an index other
+/// than 0 is `Misuse`. The policy's algorithms are ignored.
 pub fn message(kind: Kind, bytes: &[u8], index: usize, policy: &Policy<'_>) -> Result<Message, Error> {
+    indexed(kind, index)?;
     let (kind, content) = (kind.number(), policy.detached.unwrap_or_default());
     let (aad, known) = (policy.external_aad, policy.critical);
     let mut view = c::Message::default();
@@ -1121,6 +1147,7 @@ pub fn message(kind: Kind, bytes: &[u8], index: usize, policy: &Policy<'_>) -> R
 /// Returns everything that verifying or decrypting a message takes, as [`Message`] does, borrowed
 /// from the message.
 pub fn message_lent<'a>(kind: Kind, bytes: &'a [u8], index: usize, policy: &Policy<'_>) -> Result<LentMessage<'a>, Error> {
+    indexed(kind, index)?;
     let (kind, content) = (kind.number(), policy.detached.unwrap_or_default());
     let (aad, known) = (policy.external_aad, policy.critical);
     let mut view = c::Spans::default();
@@ -1152,7 +1179,7 @@ pub fn message_lent<'a>(kind: Kind, bytes: &'a [u8], index: usize, policy: &Poli
 
 impl LentMessage<'_> {
     /// Returns the question about the message with this proof, if the policy allows the message.
-    fn asked<'a>(&'a self, policy: &Policy<'_>, proof: &'a [u8]) -> Result<Question<'a>, Error> {
+    fn asked<'a>(&'a self, kind: Kind, policy: &Policy<'_>, proof: &'a [u8]) -> Result<Question<'a>, Error> {
         if self.critical == Critical::NotUnderstood {
             return Err(Error::Critical);
         }
@@ -1162,15 +1189,20 @@ impl LentMessage<'_> {
         };
         let key_id = self.key_id_map.map(|_| self.key_id.as_ref());
         let (key_id_map, input) = (self.key_id_map, self.input.as_slice());
-        Ok(Question { algorithm, key_id, key_id_map, input, proof, iv: None, partial_iv: None, iv_map: None, partial_iv_map: None })
+        let kind = kind.plain();
+        Ok(Question { kind, algorithm, key_id, key_id_map, input, proof, iv: None, partial_iv: None, iv_map: None, partial_iv_map: None })
     }
 }
 
 /// Returns the payload of a message with signatures or a MAC, after `verify` said yes.
 ///
 /// `verify` returns true if the proof is a signature or a MAC of the input, by a key that the
-/// caller trusts for that algorithm. For a message with signers, the question is about the signer
-/// at `index`. The caller decides which signers are enough.
+/// caller trusts for that algorithm. Nothing else is checked: for a web token call
+/// [`verify_token`]. The critical labels of the recipients of a `Kind::Mac` aren't looked at.
+///
+/// For a message with signers, the question is about the signer at `index`. The caller decides
+/// which signers are enough. A signature may be in the list twice: count keys, not indices. For
+/// another kind, an index other than 0 is `Misuse`.
 pub fn verify(
     kind: Kind,
     bytes: &[u8],
@@ -1182,7 +1214,7 @@ pub fn verify(
         return Err(Error::Misuse);
     }
     let found = message_lent(kind, bytes, index, policy)?;
-    if !verify(&found.asked(policy, &found.proof)?) {
+    if !verify(&found.asked(kind, policy, &found.proof)?) {
         return Err(Error::Refused);
     }
     Ok(policy.detached.map_or_else(|| found.content.into_owned(), <[u8]>::to_vec))
@@ -1204,8 +1236,7 @@ fn in_either(kind: Kind, bytes: &[u8], label: i64) -> Result<(Option<Vec<u8>>, O
 ///
 /// `decrypt` receives the question, whose proof is the ciphertext, with the IV and the partial IV.
 /// It returns the plaintext, or `None` if the ciphertext isn't authentic by a key that the caller
-/// trusts. A message may have an IV in one header and a partial IV in the other. Refuse it then
-/// (RFC 8152, section 3.1).
+/// trusts. A message with both IVs is refused with `Headers` (RFC 8152, section 3.1).
 pub fn decrypt(
     form: Form,
     bytes: &[u8],
@@ -1224,7 +1255,10 @@ pub fn decrypt(
         (None, None) => return Err(Error::Absent),
     };
     let ((iv, iv_map), (partial_iv, partial_iv_map)) = (in_either(kind, bytes, 5)?, in_either(kind, bytes, 6)?);
-    let asked = found.asked(policy, ciphertext)?;
+    let asked = found.asked(kind, policy, ciphertext)?;
+    if iv_map.is_some() && partial_iv_map.is_some() {
+        return Err(Error::Headers);
+    }
     let question = Question { iv: iv.as_deref(), partial_iv: partial_iv.as_deref(), iv_map, partial_iv_map, ..asked };
     decrypt(&question).ok_or(Error::Refused)
 }

@@ -149,7 +149,7 @@ func withIV(plain, iv []byte, m coset.Map) []byte {
 // safe returns the result of Verify or Decrypt, as calls.c describes it.
 func safe(kind coset.Kind, given []byte, w []string) ([]byte, error) {
 	isAsked := func(q *coset.Question) bool {
-		return bytes.Equal(q.Input, data(w[6])) && bytes.Equal(q.Proof, data(w[7])) && bytes.Equal(q.KeyID, data(w[8]))
+		return q.Kind == kind&0xff && bytes.Equal(q.Input, data(w[6])) && bytes.Equal(q.Proof, data(w[7])) && bytes.Equal(q.KeyID, data(w[8]))
 	}
 	o := coset.Options{ExternalAAD: data(w[1]), Detached: detached(w[2], w[3]), Critical: integers(w[5])}
 	if kind&0xff != coset.Encrypt0 {
@@ -350,7 +350,7 @@ func span(it coset.Span) string {
 // verification returns the payload for the words of `verified`.
 func verification(given []byte, w []string) ([]byte, error) {
 	return verified(given, coset.VerifierFunc(func(q *coset.Question) bool {
-		return strings.Join(w, " ") == fmt.Sprintf("%d %s %s %s", q.Algorithm, spelled(q.KeyID), spelled(q.Input), spelled(q.Proof))
+		return q.Kind == coset.Sign1 && strings.Join(w, " ") == fmt.Sprintf("%d %s %s %s", q.Algorithm, spelled(q.KeyID), spelled(q.Input), spelled(q.Proof))
 	}))
 }
 

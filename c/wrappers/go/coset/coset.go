@@ -493,7 +493,7 @@ func KeyOf(data, keyID []byte) ([]byte, error) {
 // Options has what a structure has besides the message. Detached is the payload or ciphertext of a message that carries
 // none, and nil if it carries one. Critical has the critical labels that the caller understands. Signer is the content of
 // a countersignature's own protected header, or that of a signer. A call returns ErrMisuse for a field that has no meaning for
-// it, unless that is zero.
+// it, unless that is zero. Index has a meaning for a Sign alone.
 type Options struct {
 	Index       int
 	ExternalAAD []byte
@@ -510,15 +510,15 @@ const (
 	withSigner
 )
 
-// has returns true if each field that isn't zero has a meaning for the call.
-func (o Options) has(fields int) bool {
-	return (o.Index == 0 || fields&withIndex != 0) && (o.Detached == nil || fields&withDetached != 0) &&
+// has returns true if each field that isn't zero has a meaning for the call, and for the kind.
+func (o Options) has(kind Kind, fields int) bool {
+	return (o.Index == 0 || fields&withIndex != 0 && kind&0xff == Sign) && (o.Detached == nil || fields&withDetached != 0) &&
 		(o.Critical == nil || fields&withCritical != 0) && (o.Signer == nil || fields&withSigner != 0)
 }
 
 // Structure returns the structure that is signed (by the signer at an index), authenticated, or goes with the ciphertext.
 func Structure(kind Kind, data []byte, o Options) ([]byte, error) {
-	if !o.has(withIndex | withDetached) {
+	if !o.has(kind, withIndex|withDetached) {
 		return nil, ErrMisuse
 	}
 	in, n := at(data)
@@ -542,7 +542,7 @@ func RecipientStructure(holder Kind, data, externalAAD []byte) ([]byte, error) {
 // CountersignStructure returns the structure that a countersignature of a message, a signature or a recipient signs. The
 // label is 7, 9, 11 or 12 (RFC 8152, section 4.5 and appendix A.2; RFC 9338, section 2).
 func CountersignStructure(kind Kind, data []byte, label int64, o Options) ([]byte, error) {
-	if !o.has(withDetached | withSigner) {
+	if !o.has(kind, withDetached|withSigner) {
 		return nil, ErrMisuse
 	}
 	in, n := at(data)
@@ -573,7 +573,7 @@ type Message struct {
 // ReadMessage returns everything that verifying or decrypting a message takes. For a message with signers, it is for the
 // signer at an index.
 func ReadMessage(kind Kind, data []byte, o Options) (*Message, error) {
-	if !o.has(withIndex | withDetached | withCritical) {
+	if !o.has(kind, withIndex|withDetached|withCritical) {
 		return nil, ErrMisuse
 	}
 	in, n := at(data)
@@ -605,11 +605,12 @@ func ReadMessage(kind Kind, data []byte, o Options) (*Message, error) {
 
 // ---- Verifying messages
 
-// A Question is what the caller's function answers about a message. Algorithm is one of the allowed ones. KeyIDMap is 0 if
-// the message names no key. Input is the structure. Proof is the signature or the tag, or the ciphertext. IV and PartialIV are
-// the strings under the labels 5 and 6, and IVMap and PartialIVMap the headers that have them. They are nil and 0 if neither
-// has it, and from Verify.
+// A Question is what the caller's function answers about a message. Kind is the kind of the message, without Tagged or Either.
+// Algorithm is one of the allowed ones. KeyIDMap is 0 if the message names no key. Input is the structure. Proof is the
+// signature or the tag, or the ciphertext. IV and PartialIV are the strings under the labels 5 and 6, and IVMap and
+// PartialIVMap the headers that have them. They are nil and 0 if neither has it, and from Verify. At most one IV is there.
 type Question struct {
+	Kind         Kind
 	Algorithm    int64
 	KeyID        []byte
 	KeyIDMap     Map
@@ -634,8 +635,7 @@ type VerifierFunc func(question *Question) bool
 func (f VerifierFunc) Verify(question *Question) bool { return f(question) }
 
 // A Decrypter returns the plaintext. An error refuses the message, and is returned without the plaintext. Nil refuses it too;
-// an empty plaintext is []byte{}. A message may have an IV in one header and a partial IV in the other. Refuse it then (RFC
-// 8152, section 3.1).
+// an empty plaintext is []byte{}.
 type Decrypter interface {
 	Decrypt(question *Question) ([]byte, error)
 }
@@ -647,21 +647,28 @@ type DecrypterFunc func(question *Question) ([]byte, error)
 func (f DecrypterFunc) Decrypt(question *Question) ([]byte, error) { return f(question) }
 
 // asked returns the question about a message, or an error if the message isn't allowed.
-func asked(found *Message, algorithms []int64, proof []byte) (*Question, error) {
+func asked(kind Kind, found *Message, algorithms []int64, proof []byte) (*Question, error) {
 	if found.Critical == NotUnderstood {
 		return nil, ErrCritical
 	}
 	for _, algorithm := range algorithms {
 		if found.AlgorithmForm == IntForm && found.Algorithm == algorithm {
-			return &Question{Algorithm: algorithm, KeyID: found.KeyID, KeyIDMap: found.KeyIDMap, Input: found.Input, Proof: proof}, nil
+			return &Question{
+				Kind: kind & 0xff, Algorithm: algorithm, KeyID: found.KeyID, KeyIDMap: found.KeyIDMap, Input: found.Input, Proof: proof,
+			}, nil
 		}
 	}
 	return nil, ErrNotAllowed
 }
 
 // Verify returns the payload of a message with signatures or a MAC, after the verifier said yes. The kind is Sign1, Sign,
-// Mac0 or Mac, with Tagged, Either or neither added. For a message with signers, the question is about the signer at an
-// index, and the caller decides which signers are enough.
+// Mac0 or Mac, with Tagged, Either or neither added. Nothing else is checked: for a web token call VerifyToken.
+//
+// List only algorithms for that kind: a Mac0's algorithm in a Sign1's list would be accepted. The critical labels of a Mac's
+// recipients aren't looked at.
+//
+// For a message with signers, the question is about the signer at an index, and the caller decides which signers are enough.
+// A signature may be in the list twice: count keys, not indices. For another kind, an index other than 0 is ErrMisuse.
 func Verify(kind Kind, data []byte, algorithms []int64, verifier Verifier, o Options) ([]byte, error) {
 	switch kind & 0xff {
 	case Sign1, Sign, Mac0, Mac:
@@ -678,7 +685,7 @@ func Verify(kind Kind, data []byte, algorithms []int64, verifier Verifier, o Opt
 	if err != nil {
 		return nil, err
 	}
-	question, err := asked(found, algorithms, found.Proof)
+	question, err := asked(kind, found, algorithms, found.Proof)
 	if err != nil {
 		return nil, err
 	}
@@ -702,18 +709,22 @@ func inEither(kind Kind, data []byte, label int64) ([]byte, Map, error) {
 	return nil, 0, nil
 }
 
-// addIVs adds the IV and the partial IV to the question.
+// addIVs adds the IV and the partial IV to the question. Both together are an error (RFC 8152, section 3.1).
 func (q *Question) addIVs(kind Kind, data []byte) (err error) {
 	if q.IV, q.IVMap, err = inEither(kind, data, 5); err == nil {
 		q.PartialIV, q.PartialIVMap, err = inEither(kind, data, 6)
+	}
+	if err == nil && q.IVMap != 0 && q.PartialIVMap != 0 {
+		err = ErrHeaders
 	}
 	return err
 }
 
 // Decrypt returns the plaintext of an Encrypt0, with Tagged, Either or neither added. The decrypter gets the question, whose
-// proof is the ciphertext, with the IV and the partial IV.
+// proof is the ciphertext, with the IV and the partial IV. A message with both IVs is refused with ErrHeaders (RFC 8152, section
+// 3.1).
 func Decrypt(kind Kind, data []byte, algorithms []int64, decrypter Decrypter, o Options) ([]byte, error) {
-	if kind&0xff != Encrypt0 || decrypter == nil || !o.has(withDetached|withCritical) {
+	if kind&0xff != Encrypt0 || decrypter == nil || !o.has(kind, withDetached|withCritical) {
 		return nil, ErrMisuse
 	}
 	data, ciphertext := copied(data), o.Detached
@@ -724,7 +735,7 @@ func Decrypt(kind Kind, data []byte, algorithms []int64, decrypter Decrypter, o 
 	if err != nil {
 		return nil, err
 	}
-	question, err := asked(found, algorithms, copied(ciphertext))
+	question, err := asked(kind, found, algorithms, copied(ciphertext))
 	if err == nil {
 		err = question.addIVs(kind, data)
 	}
@@ -743,8 +754,8 @@ func Decrypt(kind Kind, data []byte, algorithms []int64, decrypter Decrypter, o 
 
 // ---- Verifying tokens
 
-// A Layer is what the caller's function answers about a layer of a token. Form is Sign1, Mac0 or Encrypt0. KeyID, IV and
-// PartialIV are nil if there is none. IVMap and PartialIVMap are 0. Index is the layer's index, counted from 0, the outermost.
+// A Layer is what the caller's function answers about a layer of a token. Form and Kind are Sign1, Mac0 or Encrypt0. KeyID, IV
+// and PartialIV are nil if there is none. IVMap and PartialIVMap are 0. Index is the layer's index, counted from 0, the outermost.
 type Layer struct {
 	Question
 	Form  Kind
@@ -878,7 +889,7 @@ func waiting(view *C.coset_layer, text []byte) *Layer {
 		return part
 	}
 	layer := Layer{Form: Kind(view.form), Index: int(view.index)}
-	layer.Algorithm, layer.KeyIDMap = int64(view.algorithm), Map(view.key_id_map)
+	layer.Kind, layer.Algorithm, layer.KeyIDMap = layer.Form, int64(view.algorithm), Map(view.key_id_map)
 	layer.Input, layer.Proof, layer.KeyID = next(view.structure_len), next(view.proof_len), next(view.key_id_len)
 	layer.IV, layer.PartialIV = next(view.iv_len), next(view.partial_iv_len)
 	return &layer
@@ -1309,7 +1320,7 @@ func PutAll(kind Kind, data []byte, pairs []Pair) ([]byte, error) {
 // StructureOf does the same as Structure for a message that isn't made yet, from its protected header. The content is the
 // payload; a structure that goes with a ciphertext has none. Signer is the signer's protected header, for Sign alone.
 func StructureOf(kind Kind, header, content []byte, o Options) ([]byte, error) {
-	if !o.has(withSigner) {
+	if !o.has(kind, withSigner) {
 		return nil, ErrMisuse
 	}
 	prot, protLen := at(header)

@@ -177,6 +177,40 @@ func TestAnswersOfDecrypters(t *testing.T) {
 	}
 }
 
+func TestKindsOfQuestions(t *testing.T) {
+	header := must(t)(PutInt(Header, nil, 1, ES256))
+	for _, kind := range []Kind{Sign1, Mac0} {
+		for _, form := range []Kind{0, Tagged, Either} {
+			bare := must(t)(Make(kind+form&Tagged, header, nil, []byte("x"), make([]byte, 64)))
+			payload, err := Verify(kind+form, bare, []int64{ES256}, VerifierFunc(func(q *Question) bool { return q.Kind == kind }), Options{})
+			if err != nil || string(payload) != "x" {
+				t.Errorf("%d+%d: %q, %v", kind, form, payload, err)
+			}
+		}
+	}
+	_, err := VerifyToken(token(t, 1), OpenerFunc(func(layer *Layer) (*Opened, error) {
+		if layer.Kind != layer.Form {
+			t.Errorf("%d and not %d", layer.Kind, layer.Form)
+		}
+		return says(layer)
+	}), policy)
+	if err != nil {
+		t.Error(err)
+	}
+}
+
+func TestBothIVs(t *testing.T) {
+	header := must(t)(PutBytes(Header, must(t)(PutInt(Header, nil, 1, A128GCM)), 5, []byte("iv")))
+	both := must(t)(Make(Encrypt0, header, must(t)(PutBytes(Header, nil, 6, []byte("p"))), []byte("ciphertext"), nil))
+	never := DecrypterFunc(func(*Question) ([]byte, error) { panic("the decrypter is called") })
+	if _, err := Decrypt(Encrypt0, both, []int64{A128GCM}, never, Options{}); err != ErrHeaders {
+		t.Errorf("%v", err)
+	}
+	if _, err := Decrypt(Encrypt0, both, []int64{ES256}, never, Options{}); err != ErrNotAllowed {
+		t.Errorf("%v", err)
+	}
+}
+
 func TestFieldsWithoutMeaning(t *testing.T) {
 	signed, yes := message(t, "x"), VerifierFunc(func(*Question) bool { return true })
 	for name, call := range map[string]func() ([]byte, error){
@@ -186,6 +220,17 @@ func TestFieldsWithoutMeaning(t *testing.T) {
 		"Verify": func() ([]byte, error) {
 			return Verify(Sign1+Either, signed, []int64{ES256}, yes, Options{Signer: []byte{0xa0}})
 		},
+		"Verify with an index": func() ([]byte, error) {
+			return Verify(Sign1+Either, signed, []int64{ES256}, yes, Options{Index: 1})
+		},
+		"Verify with a negative index": func() ([]byte, error) {
+			return Verify(Sign1+Either, signed, []int64{ES256}, yes, Options{Index: -1})
+		},
+		"ReadMessage": func() ([]byte, error) {
+			_, err := ReadMessage(Sign1+Either, signed, Options{Index: 1})
+			return nil, err
+		},
+		"Structure with an index": func() ([]byte, error) { return Structure(Sign1+Either, signed, Options{Index: 1}) },
 	} {
 		if _, err := call(); err != ErrMisuse {
 			t.Errorf("%s: %v", name, err)

@@ -10,7 +10,7 @@ A call takes bytes and returns bytes, a number or None. It raises one of these e
 
 `verify_token` verifies a web token (RFC 8392) with the keys of a `KeyRing`. It raises InvalidToken if the token is
 refused. `verify` and `decrypt` return a message's contents only after the caller's function said yes. They also raise
-NotAllowed, Critical or Refused. The header and docs/C.md say what each call promises.
+NotAllowed, Critical, WrongHeaders or Refused. The header and docs/C.md say what each call promises.
 """
 import ctypes
 import enum
@@ -69,7 +69,7 @@ class Status(enum.IntEnum):
 
 
 _OK, _SHORT, _MEMORY, _ABSENT, _MISUSE, _TYPE, _EMPTY, _NOT_ALLOWED, _CRITICAL = 0, 1, 2, 12, 13, 14, 15, 16, 17
-_LAYER, _MISSING, _UNFIT = 19, 33, 34
+_LAYER, _HEADERS, _MISSING, _UNFIT = 19, 30, 33, 34
 # The statuses against a layer of a token. The others are against the whole token.
 _OF_LAYER = frozenset([*range(3, 13), _NOT_ALLOWED, _CRITICAL, Status.REFUSED, Status.HEADERS])
 _FAULTS = {
@@ -117,7 +117,8 @@ class WrongType(TypeError):
 
 class Misuse(TypeError):
     """A number names no kind, part, map, order or countersignature, or a kind that the call doesn't take. Or a payload
-    or ciphertext is given as detached although the message carries one."""
+    or ciphertext is given as detached although the message carries one. Or an index isn't 0 for a kind without
+    signers."""
 
 
 class Refused(Exception):
@@ -132,15 +133,21 @@ class Critical(Refused):
     """A critical label isn't understood, or isn't protected."""
 
 
-class Question(namedtuple("Question", "algorithm key_id key_id_map input proof iv partial_iv iv_map partial_iv_map", defaults=[None] * 4)):
+class WrongHeaders(Refused):
+    """A message has both an IV and a partial IV (RFC 8152, section 3.1)."""
+
+
+class Question(namedtuple("Question", "algorithm key_id key_id_map input proof iv partial_iv iv_map partial_iv_map kind", defaults=[None] * 5)):
     """The question that the caller's function answers:
+    - `kind` is the kind of the message, without TAGGED or EITHER: SIGN1, SIGN, MAC0, MAC or ENCRYPT0.
     - `algorithm` is one of the allowed ones.
     - `key_id` is the key identifier, or None if the message names no key. `key_id_map` is the header that has it, as
       in Sign1.
     - `input` is the structure that is signed, authenticated, or goes with the ciphertext.
     - `proof` is the signature or the tag, or for `decrypt` the ciphertext.
     - `iv` and `partial_iv` are the initialization vector, label 5, and the partial one, label 6, each None if neither
-      header has it. `iv_map` and `partial_iv_map` are the headers that have them. All are None from `verify`."""
+      header has it. `iv_map` and `partial_iv_map` are the headers that have them. All are None from `verify`. At most
+      one IV isn't None."""
 
     __slots__ = ()
 
@@ -418,6 +425,8 @@ def _raise(status, offset=None):
         raise NotAllowed("the algorithm isn't one that is allowed")
     if status == _CRITICAL:
         raise Critical("a label that must be understood isn't")
+    if status == _HEADERS:
+        raise WrongHeaders("the headers of a layer contradict each other")
     if status != _OK:
         raise Fault(status, offset)
 
@@ -447,6 +456,13 @@ def _int64(number):
     if not -(1 << 63) <= number < 1 << 63:
         raise OverflowError("a number of more than 64 bits")
     return number
+
+
+def _index(kind, number):
+    """Returns the index of a signer. Raises Misuse if it isn't 0 and the kind has no signers."""
+    if number != 0 and _kind(kind) & 0xFF != SIGN:
+        raise Misuse("an index of a signer, for a kind without signers")
+    return _size(number)
 
 
 def _size(number):
@@ -642,10 +658,10 @@ def key_of(data, key_id):
 def structure(kind, data, index=0, external_aad=b"", detached=None):
     """Returns the structure that is signed (by the signer at `index`), authenticated, or goes with the ciphertext. Its
     payload is the one that the message carries. If the message carries none, it is `detached`; else `detached` is
-    None."""
+    None. Raises Misuse for an index other than 0, unless the kind is a SIGN."""
     content = _bytes(b"" if detached is None else detached)
     return _written(
-        _library.coset_structure, _kind(kind), *_bytes(data), _size(index), *_bytes(external_aad), detached is not None, *content
+        _library.coset_structure, _kind(kind), *_bytes(data), _index(kind, index), *_bytes(external_aad), detached is not None, *content
     )
 
 
@@ -684,6 +700,7 @@ def _seen(shape, kind, data, index, critical, external_aad, detached):
     data, data_len = (data, len(data)) if type(data) is bytes else _bytes(data)
     aad, aad_len = (external_aad, len(external_aad)) if type(external_aad) is bytes else _bytes(external_aad)
     content, content_len = (b"", 0) if detached is None else _bytes(detached)
+    critical = tuple(critical)
     known = (ctypes.c_int64 * len(critical))(*map(_int64, critical)) if critical else None
     # The structure has all arguments once, with heads. Texts that have no place in the message may follow it.
     room = max(_USUAL, 2 * data_len + aad_len + content_len + 128)
@@ -721,33 +738,39 @@ def sign1(kind, data, external_aad=b"", detached=None):
 
 def message(kind, data, index=0, critical=(), external_aad=b"", detached=None):
     """Returns everything that verifying or decrypting a message takes: a Message. For a message with signers, it is for
-    the signer at `index`. The payload is the one that the message carries. If the message carries none, it is
-    `detached`; else `detached` is None. `critical` are the critical labels that the caller understands."""
-    return _seen(Message, kind, data, _size(index), critical, external_aad, detached)
+    the signer at `index`; for another kind, an index other than 0 is a Misuse. The payload is the one that the message
+    carries. If the message carries none, it is `detached`; else `detached` is None. `critical` are the critical labels
+    that the caller understands."""
+    return _seen(Message, kind, data, _index(kind, index), critical, external_aad, detached)
 
 
-def _asked(found, algorithms, proof):
+def _asked(kind, found, algorithms, proof):
     """Returns the question about a message with this proof, or raises an error if the message isn't allowed."""
     if found.critical == NOT_UNDERSTOOD:
         raise Critical("a label that must be understood isn't")
     if found.algorithm is None or found.algorithm not in algorithms:
         raise NotAllowed("the algorithm isn't one that is allowed")
-    return Question(found.algorithm, found.key_id if found.key_id_map else None, found.key_id_map, found.input, proof)
+    key_id = found.key_id if found.key_id_map else None
+    return Question(found.algorithm, key_id, found.key_id_map, found.input, proof, kind=Kind(kind & 0xFF))
 
 
 def verify(kind, data, algorithms, verify, index=0, critical=(), external_aad=b"", detached=None):
     """Returns the payload of a message with signatures or a MAC, after `verify` said yes. `kind` is SIGN1, SIGN, MAC0
-    or MAC, with TAGGED, EITHER or neither added.
+    or MAC, with TAGGED, EITHER or neither added. Nothing else is checked: for a web token call `verify_token`.
 
     `verify` returns True if the question's proof is a signature or MAC of its input, by a key that the caller trusts
-    for that algorithm. `algorithms` are those that are allowed. `critical` are the critical labels that the caller
-    understands, and acts on. For a message with signers, the question is about the signer at `index`. The caller
-    decides which signers are enough."""
+    for that algorithm. `algorithms` are those that are allowed. List only algorithms for that kind: a MAC0's algorithm
+    in a SIGN1's list would be accepted. `critical` are the critical labels that the caller understands, and acts on.
+    Those of a MAC's recipients aren't looked at.
+
+    For a message with signers, the question is about the signer at `index`. The caller decides which signers are
+    enough. A signature may be in the list twice: count keys, not indices. For another kind, an index other than 0 is a
+    Misuse."""
     if _kind(kind) & 0xFF not in (SIGN1, SIGN, MAC0, MAC):
         raise Misuse("a kind without a signature or a tag")
     own = None if detached is None else _bytes(detached)[0]
     found = message(kind, data, index, critical, external_aad, own)
-    if verify(_asked(found, algorithms, found.proof)) is not True:
+    if verify(_asked(kind, found, algorithms, found.proof)) is not True:
         raise Refused("the signature or the tag is refused")
     return found.content if own is None else own
 
@@ -775,15 +798,18 @@ def decrypt(kind, data, algorithms, decrypt, critical=(), external_aad=b"", deta
 
     `decrypt` receives the question, whose proof is the ciphertext, with the IV and the partial IV. It returns the
     plaintext as bytes, or None or False if the ciphertext isn't authentic by a key that the caller trusts. Any other
-    answer is a TypeError. A message may have an IV in one header and a partial IV in the other. Refuse it then (RFC
-    8152, section 3.1). The other arguments are those of `verify`."""
+    answer is a TypeError. The other arguments are those of `verify`.
+
+    Raises WrongHeaders if the message has both an IV and a partial IV (RFC 8152, section 3.1)."""
     if _kind(kind) & 0xFF != ENCRYPT0:
         raise Misuse("a kind of another call")
     data, own = _bytes(data)[0], None if detached is None else _bytes(detached)[0]
     found = message(kind, data, 0, critical, external_aad, own)
     ciphertext = part(kind, data, CIPHERTEXT) if own is None else own
     (iv, iv_map), (partial_iv, partial_iv_map) = _in_either(kind, data, 5), _in_either(kind, data, 6)
-    question = _asked(found, algorithms, ciphertext)
+    question = _asked(kind, found, algorithms, ciphertext)
+    if iv_map is not None and partial_iv_map is not None:
+        _raise(_HEADERS)
     plain = _accepted(
         ENCRYPT0, decrypt(question._replace(iv=iv, partial_iv=partial_iv, iv_map=iv_map, partial_iv_map=partial_iv_map))
     )
@@ -959,7 +985,8 @@ def verify_token(data, keys, algorithms, *, audience=(), types=(), required=(), 
       for its form.
     - `audience` has the caller's own names. `aud` must contain one of them. If there is none, a token with `aud` is
       refused. `any_audience` leaves the check to the caller, who then compares the result's `audience`.
-    - `types` are the accepted types (`typ`, RFC 9596), such as "application/cwt". If there is none, `typ` is ignored.
+    - `types` are the accepted types (`typ`, RFC 9596), such as "application/cwt". If there is none, `typ` is ignored,
+      also if it is critical.
     - `required` are the numbers of claims that the token must have.
     - `critical` are the critical labels that the caller understands, and acts on.
     - `leeway` is the number of seconds by which the clocks of issuer and verifier may differ.
@@ -1005,7 +1032,8 @@ def key_fits(key, layer):
     `key` is a KEY. Its `alg` must be the layer's algorithm. Its type, members and operations must be those that the
     algorithm requires. The layer's IV must have the right length, and its key identifier, if any, must be the key's."""
     out, length = ctypes.create_string_buffer(16), ctypes.c_size_t()
-    given = [it for text in (layer.key_id, layer.iv, layer.partial_iv, layer.proof) for it in _bytes(text or b"")]
+    texts = [b"" if text is None else text for text in (layer.key_id, layer.iv, layer.partial_iv, layer.proof)]
+    given = [it for text in texts for it in _bytes(text)]
     status = _library.coset_key_fits(
         *_bytes(key), _number(layer.form), _int64(layer.algorithm), *given, out, len(out), ctypes.byref(length)
     )
