@@ -122,11 +122,11 @@ def structure(context, *parts):
     return head(4, 1 + len(parts)) + head(3, len(context)) + context.encode() + b"".join(map(byte_string, parts))
 
 
-def message(signer, aad=b"", content=CONTENT, kid=KID, more=()):
+def message(signer, aad=b"", content=CONTENT, kid=KID, more=(), outside=()):
     """Returns a COSE_Sign1 or a COSE_Mac0. With the content None it is detached."""
     protected, is_mac = mapped((1, integer(signer.number)), *more), isinstance(signer, Authenticator)
     proof = signer.sign(structure("MAC0" if is_mac else "Signature1", protected, aad, content or CONTENT))
-    unprotected = mapped((4, byte_string(kid))) if kid else mapped()
+    unprotected = mapped(*([(4, byte_string(kid))] if kid else []), *outside)
     held = byte_string(content) if content else b"\xf6"
     return head(6, 17 if is_mac else 18) + head(4, 4) + byte_string(protected) + unprotected + held + byte_string(proof)
 
@@ -233,6 +233,21 @@ def of_edwards(signer):
         ("open", "Signature (EdDSA) not checked: no key fits.", "key 'our key' doesn't fit: it has no alg, or another than the message's")]
 
 
+def of_headers(signer, authenticator):
+    """Yields cases with critical labels in an unprotected header or in a recipient's, and with a label in both headers."""
+    critical = (2, head(4, 1) + head(3, 1) + b"x")
+    open_for = lambda title, name, why: [("open", f"{title} is of key 'our key' ({name}), but {why}.")]
+    crit = "the message has critical labels (crit), and this page processes none"
+    yield "crit, unprotected", message(signer, outside=[critical]), b"", signer.cose().hex(), open_for("Signature", "ES256", crit)
+    both = message(signer, outside=[(1, integer(signer.number))])
+    yield "a label in both headers", both, b"", signer.cose().hex(), open_for("Signature", "ES256", "a label is in both of its headers")
+    protected = mapped((1, integer(authenticator.number)))
+    proof = authenticator.sign(structure("MAC", protected, b"", CONTENT))
+    recipient = head(4, 3) + b"\x40" + mapped((1, integer(-6)), critical, (4, byte_string(KID))) + b"\x40"
+    made = head(6, 97) + head(4, 5) + byte_string(protected) + b"\xa0" + byte_string(CONTENT) + byte_string(proof) + head(4, 1) + recipient
+    yield "crit of a recipient", made, b"", authenticator.cose().hex(), open_for("MAC", "HMAC 256/256", crit)
+
+
 def of_several(first, second):
     """Yields cases with several signatures, the first by ES256, and the second by ES384."""
     both, one = head(4, 2) + first.cose() + second.cose(), "Signature 0 verified by key 'our key' (ES256)."
@@ -252,4 +267,5 @@ def cases():
     yield from misfits(by_name["ES256"])
     yield from unusable(by_name["ES256"])
     yield from of_edwards(by_name["EdDSA"])
+    yield from of_headers(by_name["ES256"], by_name["HMAC 256/256"])
     yield from of_several(by_name["ES256"], by_name["ES384"])
