@@ -15,6 +15,9 @@ except ImportError:
 from cbor import byte_string, encode, head
 
 KID = b"our key"
+UNCHECKED = "The certificate's dates, usage and issuer aren't checked."
+# The private part of the key of RFC 8392, A.2.3, which is that of the page's first sample.
+PUBLISHED = 0x6C1382765AEC5358F117733D281C1C7BDC39884D04A45A1E6C67C858BC206C19
 CONTENT = b"This is the content."
 # An algorithm's name: its number, and its hash.
 ECDSA = {"ES256": (-7, 256), "ES384": (-35, 384), "ES512": (-36, 512)}
@@ -88,10 +91,14 @@ class Signer:
     def pem(self):
         return self.key.public_key().public_bytes(serialization.Encoding.PEM, serialization.PublicFormat.SubjectPublicKeyInfo).decode()
 
-    def certificate(self):
+    def certificate(self, usage=None, is_critical=True):
+        """Returns a certificate in PEM. `usage` says whether its keyUsage, if it has one, contains digitalSignature, or else keyCertSign."""
         name, now = x509.Name([]), datetime.datetime(2026, 1, 1)
         made = x509.CertificateBuilder().subject_name(name).issuer_name(name).public_key(self.key.public_key()).serial_number(1)
         made = made.not_valid_before(now).not_valid_after(now.replace(year=2036))
+        if usage is not None:
+            made = made.add_extension(x509.BasicConstraints(False, None), True)
+            made = made.add_extension(x509.KeyUsage(usage, False, False, False, False, not usage, False, False, False), is_critical)
         return made.sign(self.key, None if self.name == "EdDSA" else hashes.SHA256()).public_bytes(serialization.Encoding.PEM).decode()
 
 
@@ -115,11 +122,11 @@ def structure(context, *parts):
     return head(4, 1 + len(parts)) + head(3, len(context)) + context.encode() + b"".join(map(byte_string, parts))
 
 
-def message(signer, aad=b"", content=CONTENT, kid=KID, more=()):
+def message(signer, aad=b"", content=CONTENT, kid=KID, more=(), outside=()):
     """Returns a COSE_Sign1 or a COSE_Mac0. With the content None it is detached."""
     protected, is_mac = mapped((1, integer(signer.number)), *more), isinstance(signer, Authenticator)
     proof = signer.sign(structure("MAC0" if is_mac else "Signature1", protected, aad, content or CONTENT))
-    unprotected = mapped((4, byte_string(kid))) if kid else mapped()
+    unprotected = mapped(*([(4, byte_string(kid))] if kid else []), *outside)
     held = byte_string(content) if content else b"\xf6"
     return head(6, 17 if is_mac else 18) + head(4, 4) + byte_string(protected) + unprotected + held + byte_string(proof)
 
@@ -161,8 +168,12 @@ def of_algorithm(signer, other):
         yield f"{name} {key[:8]}", made, b"", key, right
     if not is_mac:
         unnamed = [("verified", f"{title} verified by key 0 ({name}).")]
-        for key in (signer.pem(), signer.certificate(), signer.jwk(kid=None, alg=None)):
+        for key in (signer.pem(), signer.jwk(kid=None, alg=None)):
             yield f"{name} {key[:30]}", bare, b"", key, unnamed
+        for key in (signer.certificate(), signer.certificate(True), signer.certificate(False, False)):
+            yield f"{name}, certificate", bare, b"", key, [(*unnamed[0], UNCHECKED)]
+        yield f"{name}, certificate for no signatures", bare, b"", signer.certificate(False), [
+            ("open", f"Signature ({name}) not checked: there is no key to check it with.")]
     yield f"{name}, another key", made, b"", other.cose().hex(), wrong
     yield f"{name}, a bit of the content", changed(made, made.index(CONTENT)), b"", signer.cose().hex(), wrong
     yield f"{name}, a bit of the proof", changed(made, len(made) - 1), b"", signer.cose().hex(), wrong
@@ -174,7 +185,7 @@ def of_algorithm(signer, other):
 def misfits(signer):
     """Yields cases with an ES256 key that doesn't fit, or with a message that isn't checked."""
     made, fails = message(signer), lambda why: [("open", "Signature (ES256) not checked: no key fits.", f"key 'our key' doesn't fit: {why}")]
-    yield "alg", made, b"", signer.cose(number=-35).hex(), fails("its alg isn't the message's algorithm")
+    yield "alg", made, b"", signer.cose(number=-35).hex(), fails("it has no alg, or another than the message's")
     yield "key_ops", made, b"", signer.cose((4, head(4, 1) + integer(1))).hex(), fails("its key_ops don't allow this")
     yield "kid", made, b"", signer.cose(kid=b"other").hex(), [(*fails("")[0][:2], "key 'other' doesn't fit: the message names a key with another kid")]
     yield "no key", made, b"", "", [("open", "Signature (ES256) not checked: there is no key to check it with.")]
@@ -190,6 +201,10 @@ def of_many_keys(by_name, other):
     first, second = by_name["PS256"], by_name["RS256"]
     wanted = [("verified", f"Signature {i} verified by key 0 ({it.name}).") for i, it in enumerate((first, second))]
     yield "keys in PEM", signed_by(first, second, kid=b""), b"", first.pem() + other.pem(), wanted
+    marked = b"\xef\xbb\xbfceo"
+    with_mark = by_name["ES256"].cose(kid=marked).hex()
+    yield "a kid with a byte order mark", message(by_name["ES256"], kid=marked), b"", with_mark, [
+        ("verified", f"Signature verified by key h'{marked.hex()}' (ES256).")]
     quoted = message(by_name["ES256"], kid=b"root' (ES256). Signature 1 verified by key 'ca")
     key = by_name["ES256"].cose(kid=b"root' (ES256). Signature 1 verified by key 'ca")
     spelled = b"root' (ES256). Signature 1 verified by key 'ca".hex()
@@ -210,6 +225,29 @@ def unusable(signer):
     yield "Ed448", message(Signer("EdDSA", -8, key)), b"", other.hex(), said("EdDSA", why)
 
 
+def of_edwards(signer):
+    """Yields cases with an Ed25519 key whose algorithm is that of RFC 9864 in a JWK."""
+    named, key = message(Signer("EdDSA", -19, signer.key)), signer.jwk(alg="Ed25519")
+    yield "alg Ed25519", named, b"", key, [("verified", "Signature verified by key 'our key' (Ed25519).")]
+    yield "alg Ed25519 for EdDSA", message(signer), b"", key, [
+        ("open", "Signature (EdDSA) not checked: no key fits.", "key 'our key' doesn't fit: it has no alg, or another than the message's")]
+
+
+def of_headers(signer, authenticator):
+    """Yields cases with critical labels in an unprotected header or in a recipient's, and with a label in both headers."""
+    critical = (2, head(4, 1) + head(3, 1) + b"x")
+    open_for = lambda title, name, why: [("open", f"{title} is of key 'our key' ({name}), but {why}.")]
+    crit = "the message has critical labels (crit), and this page processes none"
+    yield "crit, unprotected", message(signer, outside=[critical]), b"", signer.cose().hex(), open_for("Signature", "ES256", crit)
+    both = message(signer, outside=[(1, integer(signer.number))])
+    yield "a label in both headers", both, b"", signer.cose().hex(), open_for("Signature", "ES256", "a label is in both of its headers")
+    protected = mapped((1, integer(authenticator.number)))
+    proof = authenticator.sign(structure("MAC", protected, b"", CONTENT))
+    recipient = head(4, 3) + b"\x40" + mapped((1, integer(-6)), critical, (4, byte_string(KID))) + b"\x40"
+    made = head(6, 97) + head(4, 5) + byte_string(protected) + b"\xa0" + byte_string(CONTENT) + byte_string(proof) + head(4, 1) + recipient
+    yield "crit of a recipient", made, b"", authenticator.cose().hex(), open_for("MAC", "HMAC 256/256", crit)
+
+
 def of_several(first, second):
     """Yields cases with several signatures, the first by ES256, and the second by ES384."""
     both, one = head(4, 2) + first.cose() + second.cose(), "Signature 0 verified by key 'our key' (ES256)."
@@ -228,4 +266,6 @@ def cases():
     yield from of_many_keys(by_name, others["RS256"])
     yield from misfits(by_name["ES256"])
     yield from unusable(by_name["ES256"])
+    yield from of_edwards(by_name["EdDSA"])
+    yield from of_headers(by_name["ES256"], by_name["HMAC 256/256"])
     yield from of_several(by_name["ES256"], by_name["ES384"])

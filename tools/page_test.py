@@ -237,8 +237,9 @@ def verify(page, wrong, every):
         some = every[begin : begin + 20]
         given = json.dumps([[text(made), text(aad), key] for _, made, aad, key, _ in some])
         told = page.run(f"(async all => {{ const told = []; for (const it of all) told.push(await verdictsOf(...it)); return told; }})({given})")
-        for (name, _, _, _, wanted), (found, said, colors) in zip(some, told):
-            if found != [list(it) for it in wanted] or not has_right_green(wanted, colors) or (said and "verified" in str(wanted)):
+        for (name, _, _, key, wanted), (found, said, colors) in zip(some, told):
+            noted = [page_keys.UNCHECKED] * ("CERTIFICATE" in key and found[0][0] == "verified")
+            if found != [list(it) for it in wanted] or not has_right_green(wanted, colors) or (said != noted and "verified" in str(wanted)):
                 wrong.append(f"{page.name} verifying {name}: {found} {said} {colors} and not {wanted}")
     return f"signatures and MACs {sum(len(it[4]) for it in every)}"
 

@@ -6,7 +6,7 @@ import time
 import browser
 import common
 import page_keys
-from cbor import byte_string, head
+from cbor import byte_string, encode, head
 
 SHOTS = f"{common.HERE}/out/page"
 SECONDS = 120  # to wait for something
@@ -71,6 +71,8 @@ def keys(page):
 def copies(page):
     """Copies an item, in Chromium, which lets a script do so. Yields what is wrong."""
     page.call("Browser.grantPermissions", permissions=["clipboardReadWrite", "clipboardSanitizedWrite"])
+    if page.run("hasSecret()"):
+        yield "a message is called a key"
     wanted = {"copy-bytes": "43a10126", "copy-notation": "<<\n  {\n    1: -7\n  }\n>>", "link": page.run("location.href.split('#')[0]") + "#" + SIGNED}
     for name, text in wanted.items():
         page.run(f'mark(2), at("{name}").click()')
@@ -139,6 +141,16 @@ def times(page):
         yield f"times in the browser's zone: {here}"
     if not by_clock or before:
         yield f"times are judged by the clock: {by_clock}, at a moment before: {before}"
+    ways = {"visible": 'document.dispatchEvent(new Event("visibilitychange"))'} | ({"a minute old": "0"} if isinstance(page, browser.Browser) else {})
+    for how, script in ways.items():
+        show(page, 'globalThis.now = Date.now, Date.now = () => 1444050000000; showSample(0)')
+        early = page.run('fold(3, true), mark(2), at("status").textContent')
+        page.run(f"Date.now = globalThis.now, {script}, null")
+        if "Expired" in early or not wait(page, 'at("status").textContent.includes("Expired")'):
+            yield f"a page that is {how} doesn't judge times again: {early}"
+        page.run("globalThis.showing")
+        if not wait(page, f'folded.has(3) && {MARKED}.startsWith("row-2")'):
+            yield "rows aren't folded and marked after times were judged again"
 
 
 def counts(page):
@@ -148,7 +160,9 @@ def counts(page):
     one, other = page_keys.Signer("ES256", -7, page_keys.private("ES256"), 256), page_keys.Signer("ES384", -35, page_keys.private("ES384"), 384)
     inner = head(5, 1) + head(3, 1) + b"a" + byte_string(page_keys.message(other))
     claims = page_keys.mapped((10, byte_string(bytes(8))), (266, inner))
-    for made, wanted in ((page_keys.message(one), ""), (page_keys.signed_by(one, other), "1 of 2 signatures not checked."),
+    chunks = other.sign(page_keys.structure("Signature1", page_keys.mapped((1, encode(("int", -35)))), b"", page_keys.message(one)))
+    chunked = bytes.fromhex("d28444a1013822a0") + b"\x5f" + byte_string(page_keys.message(one)) + b"\xff" + byte_string(chunks)
+    for made, wanted in ((chunked, "Signature not checked."), (page_keys.message(one), ""), (page_keys.signed_by(one, other), "1 of 2 signatures not checked."),
                          (page_keys.message(one, content=claims), "1 of 2 signatures not checked."), (page_keys.message(other), "Signature not checked.")):
         key = one.cose().hex()
         show(page, f"at('kind').value = 'auto'; at('aad').value = ''; at('key').value = '{key}'; type('{made.hex()}')")
@@ -156,6 +170,76 @@ def counts(page):
         if wanted not in said or ("not checked" in said) != bool(wanted):
             yield f"the summary of {made.hex()} with key {key}: {said}"
     page.run('at("key").value = ""')
+
+
+def leaves(page):
+    """Types and drops a token that anybody can sign by the published key of the first sample. Yields what is wrong."""
+    if not page_keys.HAS_CIPHERS:
+        return
+    key = page_keys.ec.derive_private_key(page_keys.PUBLISHED, page_keys.ec.SECP256R1())
+    made = page_keys.message(page_keys.Signer("ES256", -7, key, 256), kid=b"").hex()
+    ways = {"typed": f"at('input').value = '{made}'; at('input').oninput()", "dropped": f"await open([new File([bytesOfHex('{made}')], 'token')])"}
+    for how, script in ways.items():
+        show(page, "showSample(0)")
+        show(page, script)
+        found = page.run('[at("key").value, at("sample").value, ...[...at("verdicts").children].map(it => it.className)]')
+        if found != ["", "", "open"]:
+            yield f"a token is {how} over a sample: {found}"
+        show(page, "showSample(0); at('key').value = 'a1'; showAgain()")
+        show(page, script)
+        if page.run('at("key").value') != "a1":
+            yield f"a key is gone that was typed before a token is {how}"
+    page.run('at("key").value = ""')
+
+
+def doubts(page):
+    """Gives the page messages that a key made. They aren't verified if the module has a word on their headers, or if the rows show no
+    message. Yields what is wrong."""
+    if not page_keys.HAS_CIPHERS:
+        return
+    signer = page_keys.Signer("ES256", -7, page_keys.private("ES256"), 256)
+    made, key = page_keys.message(signer), signer.cose().hex()
+    page.install("""globalThis.plainCall = call; call = async (...asked) => { const told = await plainCall(...asked);
+      if (asked[0] === "seals") told.text = encoder.encode(decoder.decode(told.text).split("\\n").map(it => it.startsWith("S\\t")
+        ? [...it.split("\\t").slice(0, 6), ...globalThis.headers].join("\\t") : it).join("\\n")); return told; };""")
+    critical, both = "the message has critical labels (crit), and this page processes none", "a label is in both of its headers"
+    words = {"": "", "-": "", "critical": critical, "both": both, "critical,both": f"{critical}, and {both}"}
+    for word, why in words.items():
+        page.run(f"globalThis.headers = {json.dumps([word] if word else [])}")
+        show(page, f"clearFields(); at('key').value = '{key}'; type('{made.hex()}')")
+        found = page.run('[...at("verdicts").children].map(it => [it.className, it.textContent])')
+        wanted = ["open", f"Signature is of key 'our key' (ES256), but {why}."] if why else ["verified", "Signature verified by key 'our key' (ES256)."]
+        if found != [wanted]:
+            yield f"the module's word '{word}': {found} and not {wanted}"
+    page.run("void (call = plainCall)")
+    show(page, f"clearFields(); at('key').value = '{key}'; type('{(head(6, 61) + made[1:]).hex()}')")
+    found = page.run('[...at("verdicts").children].map(it => it.className)')
+    if page.run("messageFrom(0)") < 0 and "verified" in found:
+        yield f"a signature is verified, and no message is shown: {found}"
+    page.run("globalThis.plainMessage = messageFrom, messageFrom = () => -1, null")
+    show(page, f"type('{made.hex()}')")
+    found = page.run('[...at("verdicts").children].map(it => it.textContent)')
+    page.run("void (messageFrom = plainMessage)")
+    if found != ["Signature is of key 'our key' (ES256), but the rows show no message."]:
+        yield f"no message is shown: {found}"
+    page.run('at("key").value = ""')
+
+
+def secrets(page):
+    """Shows keys, of which a link may contain only the public ones. Yields what is wrong."""
+    part, number = byte_string(bytes(32)), lambda it: encode(("int", it))
+    symmetric, private = page_keys.mapped((1, number(4)), (-1, part)), page_keys.mapped((-4, part), (-2, part), (1, number(2)))
+    public, rsa = page_keys.mapped((1, number(2)), (-2, part), (-3, part)), page_keys.mapped((1, number(3)), (-1, part), (-3, part))
+    wide, claims = bytes.fromhex("bf190001190004380041aaff"), page_keys.mapped((8, page_keys.mapped((1, private))))
+    for made in (symmetric, private, rsa, wide, head(4, 1) + symmetric, claims):
+        for kind in ("auto", "value"):
+            show(page, f"clearFields(); at('kind').value = '{kind}'; type('{made.hex()}')")
+            page.run('at("link").click()')
+            if not page.run('at("read").textContent').startswith("no link: it would contain a private or symmetric key"):
+                yield f"a link of {made.hex()} as {kind} has a secret"
+    show(page, f"clearFields(); type('{public.hex()}')")
+    if page.run("hasSecret()"):
+        yield "there is no link of a public key"
 
 
 def refused_requests(page):
@@ -168,7 +252,7 @@ def refused_requests(page):
 
 def used(page):
     """Returns what is wrong with the page in use."""
-    parts = (mark, keys, *([copies] if isinstance(page, browser.Browser) else []), give, links, times, counts, refused_requests)
+    parts = (mark, keys, *([copies] if isinstance(page, browser.Browser) else []), give, links, leaves, doubts, secrets, times, counts, refused_requests)
     return [f"{page.name}: {it}" for part in parts for it in part(page)]
 
 

@@ -2,7 +2,7 @@
 // Elements, bytes and hexadecimal.
 const NO_BYTES = new Uint8Array(0);
 const CHARACTERS = 2000;  // the most characters of a text or of digits that one place shows
-const decoder = new TextDecoder(), encoder = new TextEncoder();
+const decoder = new TextDecoder("utf-8", { ignoreBOM: true }), encoder = new TextEncoder();
 
 function at(id) {
   return document.getElementById(id);

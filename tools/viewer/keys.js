@@ -2,7 +2,7 @@
 const KEY_LABELS = { kty: 1, kid: 2, alg: 3, key_ops: 4 };
 const KEY_TYPES = { OKP: 1, EC: 2, RSA: 3, oct: 4 };
 const CURVES = { "P-256": 1, "P-384": 2, "P-521": 3, X25519: 4, X448: 5, Ed25519: 6, Ed448: 7, secp256k1: 8 };
-const ALGORITHMS = { ES256: -7, ES384: -35, ES512: -36, EdDSA: -8, Ed25519: -8, PS256: -37, PS384: -38, PS512: -39, RS256: -257, RS384: -258,
+const ALGORITHMS = { ES256: -7, ES384: -35, ES512: -36, EdDSA: -8, Ed25519: -19, PS256: -37, PS384: -38, PS512: -39, RS256: -257, RS384: -258,
   RS512: -259, HS256: 5, HS384: 6, HS512: 7, ES256K: -47 };
 const ALGORITHM_OF_CURVE = { "P-256": "ES256", "P-384": "ES384", "P-521": "ES512", Ed25519: "EdDSA" };
 const OPERATIONS = { sign: 1, verify: 2, encrypt: 3, decrypt: 4, wrapKey: 5, unwrapKey: 6, deriveKey: 7, deriveBits: 8 };
@@ -11,6 +11,8 @@ const MEMBERS = { OKP: [[-2, "x"]], EC: [[-2, "x"], [-3, "y"]], RSA: [[-1, "n"],
 const EDWARDS = "06032b6570", NIST = { "06082a8648ce3d030107": "P-256", "06052b81040022": "P-384", "06052b81040023": "P-521" };
 const PEM = /-----BEGIN ((?:[A-Z0-9]+ )*(?:KEY|CERTIFICATE|REQUEST|PARAMETERS))-----([^-]*)-----END/g;
 const RSA = "06092a864886f70d0101";  // object identifiers of keys
+const USAGE = "0603551d0f0101ff";  // the object identifier of keyUsage, and that it is critical
+const UNCHECKED = "The certificate's dates, usage and issuer aren't checked.";
 
 function headOf(major, n) {
   const width = n < 24 ? 0 : n < 256 ? 1 : n < 65536 ? 2 : 4, first = 32 * major + (width ? 23 + [1, 2, 4].indexOf(width) + 1 : n);
@@ -88,9 +90,14 @@ function elementsOf(der) {
   return found;
 }
 
-// Returns the SubjectPublicKeyInfo of a certificate: the seventh element, or the sixth if there is no version.
+// Returns the SubjectPublicKeyInfo of a certificate: the seventh element, or the sixth if there is no version. Of the extensions, only a
+// critical keyUsage is read: the first bit of its octets is digitalSignature (RFC 5280, section 4.2.1.3).
 function keyOfCertificate(der) {
-  const elements = elementsOf(elementsOf(elementsOf(der)[0].content)[0].content);
+  const elements = elementsOf(elementsOf(elementsOf(der)[0].content)[0].content), extensions = elements.find(it => it.tag === 0xa3);
+  for (const { content } of extensions ? elementsOf(elementsOf(extensions.content)[0].content) : []) {
+    const digits = hexOf(content);
+    if (digits.startsWith(USAGE) && !/^04..03....[89a-f]/.test(digits.slice(USAGE.length))) throw new Error("the certificate's key is not for signatures");
+  }
   return elements[elements[0].tag === 0xa0 ? 6 : 5].whole;
 }
 
@@ -139,7 +146,7 @@ function keysOfJwks(jwks, rsa) {
 }
 
 // Reads the key field. Returns a function from the RSA algorithms of the message to the bytes of a COSE_Key or a COSE_KeySet, with
-// sentences on keys that aren't read. Returns null if the field is empty.
+// sentences on keys that aren't read, and the places of certificates. Returns null if the field is empty.
 async function keysGiven() {
   const text = at("key").value.trim();
   if (text === "") return null;
@@ -148,7 +155,7 @@ async function keysGiven() {
     const blocks = [...text.matchAll(PEM)].filter(it => !it[1].includes("COSE"));
     if (!blocks.length) return (bytes => () => ({ bytes, problems: [] }))(await bytesOfText(text));
     const jwks = await Promise.all(blocks.map(jwkOfPem));
-    return rsa => keysOfJwks(jwks, rsa);
+    return rsa => ({ ...keysOfJwks(jwks, rsa), certificates: [...blocks.keys()].filter(i => blocks[i][1] === "CERTIFICATE") });
   } catch (error) {
     return () => ({ bytes: null, problems: [error.message || String(error)] });
   }

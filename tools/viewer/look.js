@@ -5,8 +5,12 @@ const KINDS = {
   keyset: "COSE_KeySet", claims: "claims of a web token", kdf: "COSE_KDF_Context",
 };
 const LINK = 4000;  // the most bytes of an input that a link contains
+const MINUTE = 60000;
+// For each key type (kty): the labels of private and symmetric parts.
+const SECRETS = { 1: /^-4(?!\d)/, 2: /^-4(?!\d)/, 3: /^-([3-9]|1[0-2])(?!\d)/, 4: /^-1(?!\d)/, 7: /^-2(?!\d)/ };
 
 let file = null, waiting = null;  // a file that was dropped or opened: its name and its bytes; the last call of `show`
+let sampleKey = "";  // the key of the sample that is shown
 
 // Returns the moment by which times are judged, in seconds since 1970, or NaN.
 function moment() {
@@ -97,6 +101,19 @@ function showAgain() {
   globalThis.showing = show();
 }
 
+// Judges times again by the browser's clock. If the answer differs, shows it with the same rows folded and marked.
+async function judgeAgain() {
+  if (!isReady || isEmpty() || !at("clock").checked) return;
+  const before = waiting, { text } = await call("look", ...given()), was = [...folded.keys()], marked = current;
+  if (before !== waiting || decoder.decode(text) === decoder.decode(rows.bytes)) return;
+  showAgain();
+  const mine = waiting;
+  await globalThis.showing;
+  if (mine !== waiting) return;
+  for (const i of was) fold(i, true);
+  if (marked >= 0) mark(marked);
+}
+
 // ---- Copying
 
 async function copied(from, text) {
@@ -117,9 +134,20 @@ async function copyAll(event) {
   copied(event.target, decoder.decode(text));
 }
 
+// Returns true if a row is a COSE_Key with a private or symmetric part.
+function hasSecret() {
+  for (let i = 0; i < rows.count; i++) {
+    if (!/\{(_\d?)?$/.test(row(i).text)) continue;
+    const pairs = elementsAt(i).map(it => row(it).text), type = pairs.map(it => /^1(?:_\d)?: (\d+)/.exec(it)?.[1]).find(Boolean);
+    if (pairs.some(it => SECRETS[type]?.test(it))) return true;
+  }
+  return false;
+}
+
 function copyLink(event) {
   const digits = digitsOf(0, rows.count);
   if (digits.length > 2 * LINK) return at("read").textContent = `no link: it would contain more than ${LINK} bytes`;
+  if (hasSecret()) return at("read").textContent = "no link: it would contain a private or symmetric key";
   copied(event.target, `${location.href.split("#")[0]}#${digits}`);
 }
 
@@ -140,7 +168,7 @@ async function open(files) {
   }
   at("input").value = "";
   at("file").value = "";
-  at("sample").value = "";
+  leaveSample();
   const others = files.length > 1 ? `; of ${files.length} files, the first is shown` : "";
   at("dropped").replaceChildren(element("bdi", name), `, ${file.bytes.length.toLocaleString("en")} bytes${others}`);
   showAgain();
@@ -150,8 +178,15 @@ function type(text) {
   file = null;
   at("dropped").textContent = "";
   if (text !== undefined) at("input").value = text;
-  else at("sample").value = "";
+  else leaveSample();
   showAgain();
+}
+
+// Leaves the sample for another input. Its key goes too, unless the user changed it: private parts of these keys are published.
+function leaveSample() {
+  at("sample").value = "";
+  if (at("key").value.trim() === sampleKey.trim()) at("key").value = "";
+  sampleKey = "";
 }
 
 // Shows a sample with its key.
@@ -160,12 +195,14 @@ function showSample(i) {
   clearFields();
   at("sample").value = i;
   at("key").value = key;
+  sampleKey = at("key").value;
   type(input);
 }
 
 // Clears what the input doesn't have: the sample, the kind, the key, external_aad and the moment.
 function clearFields() {
   for (const id of ["sample", "key", "aad", "moment"]) at(id).value = "";
+  sampleKey = "";
   at("kind").value = "auto";
   at("clock").checked = true;
 }
@@ -211,6 +248,8 @@ function listen() {
   at("fault").onclick = () => (go(firstRefused()), at("rows").focus());
   listenToTree();
   globalThis.onhashchange = showLinked;
+  setInterval(judgeAgain, MINUTE);
+  document.onvisibilitychange = judgeAgain;
   document.ondragover = draggedOver;
   document.ondragleave = () => document.body.classList.remove("over");
   document.ondrop = dropped;

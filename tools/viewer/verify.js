@@ -9,7 +9,7 @@ const CHECKS = {
   4: ["HMAC 256/64", "HMAC", 256, 8], 5: ["HMAC 256/256", "HMAC", 256, 32], 6: ["HMAC 384/384", "HMAC", 384, 48], 7: ["HMAC 512/512", "HMAC", 512, 64],
 };
 const REASONS = {
-  algorithm: "no key fits, because the message's algorithm isn't in the table", alg: "its alg isn't the message's algorithm",
+  algorithm: "no key fits, because the message's algorithm isn't in the table", alg: "it has no alg, or another than the message's",
   kty: "its kty isn't one for the algorithm", crv: "its crv isn't one for the algorithm", length: "a member has a length that the algorithm doesn't allow",
   key_ops: "its key_ops don't allow this", kid: "the message names a key with another kid",
 };
@@ -23,8 +23,8 @@ function sealsIn(text, places) {
   for (const line of text.split("\n")) {
     const [sort, ...fields] = line.split("\t");
     if (sort === "S") {
-      const [name, form, algorithm, structure, proof] = fields;
-      seals.push({ name, form, algorithm, structure, proof, keys: [] });
+      const [name, form, algorithm, structure, proof, headers] = fields;
+      seals.push({ name, form, algorithm, structure, proof, headers: headers || "-", keys: [] });
     } else if (sort === "K") {
       const [index, kid, verdict, kty, crv, ...members] = fields;
       seals[seals.length - 1].keys.push({ index: placeOf(index), kid, verdict, kty, crv, ...Object.fromEntries(members.map(it => it.split("="))) });
@@ -106,20 +106,28 @@ async function tried(seal, key) {
   }
 }
 
-// Returns the state of a signature by its keys, and the sentences on it.
-async function verdictOf(seal) {
+// Returns why a signature isn't verified although a key made it. The word on its headers is the module's.
+async function doubtsOf(seal) {
+  const found = [], isCrit = /critical/.test(seal.headers) || await isCritical(seal);
+  if (isCrit) found.push("the message has critical labels (crit), and this page processes none");
+  if (seal.headers !== "-" && seal.headers !== "critical") found.push("a label is in both of its headers");
+  if (!seal.name.startsWith("layer ") && messageFrom(0) < 0) found.push("the rows show no message");
+  return found.join(", and ");
+}
+
+// Returns the state of a signature by its keys, and the sentences on it. `certificates` has the indices of keys from certificates.
+async function verdictOf(seal, certificates) {
   const title = titleOf(seal), name = CHECKS[seal.algorithm]?.[0], open = said => ({ seal, state: "open", said });
   if (seal.structure === "-") return open([`${title} not checked: its content is detached, or isn't known here.`]);
   if (!name) return open([`${title} not checked: this page doesn't check algorithm ${seal.algorithm}.`]);
   const misfits = seal.keys.filter(it => it.verdict !== "fits").map(it => `${nameOfKey(it)} doesn't fit: ${REASONS[it.verdict] ?? it.verdict}`);
   const tries = await Promise.all(seal.keys.filter(it => it.verdict === "fits").map(it => tried(seal, it)));
   const right = tries.find(it => it.isRight), wrong = tries.filter(it => it.isRight === false), problems = tries.filter(it => it.problem).map(it => it.problem);
-  if (right && await isCritical(seal)) {
-    const but = `${title} is of ${nameOfKey(right.key)} (${name}), but the message has critical labels (crit), and this page processes none.`;
-    return { ...open([but]), isChecked: true };
-  }
+  const doubts = right ? await doubtsOf(seal) : "";
+  if (doubts) return { ...open([`${title} is of ${nameOfKey(right.key)} (${name}), but ${doubts}.`]), isChecked: true };
   const how = at("aad").value.trim() === "" ? name : `${name}, with the given external_aad`;
-  if (right) return { seal, state: "verified", said: [`${title} verified by ${nameOfKey(right.key)} (${how}).`] };
+  const more = certificates.includes(right?.key.index) ? [UNCHECKED] : [];
+  if (right) return { seal, state: "verified", said: [`${title} verified by ${nameOfKey(right.key)} (${how}).`, ...more] };
   const names = wrong.map(it => nameOfKey(it.key)).join(", ");
   if (wrong.length) return { seal, state: "wrong", said: [`${title} does not verify with ${names} (${name}).`, ...problems] };
   if (!seal.keys.length) return open([`${title} (${name}) not checked: there is no key to check it with.`]);
@@ -226,10 +234,10 @@ function sortOf(name) {
 // Returns the summary with the numbers of signatures and MACs that no key checked. It counts all in the input, and the module lists
 // those of the outermost message and of messages that are its payload.
 function uncheckedSummary(summary) {
-  const checked = verdicts.filter(it => it.seal && (it.state !== "open" || it.isChecked)).map(it => sortOf(it.seal.name));
   return summary.replace(/ (\d+ )?((?:counter)?signature|mac)s? not checked\./gi, (sentence, number, sort) => {
-    const all = Number(number ?? 1), left = all - checked.filter(it => it === sort.toLowerCase()).length;
-    return left === all ? sentence : left > 0 ? ` ${left} of ${all} ${sort}s not checked.` : "";
+    const all = Number(number ?? 1), listed = verdicts.filter(it => it.seal && sortOf(it.seal.name) === sort.toLowerCase());
+    const open = listed.filter(it => it.state === "open" && !it.isChecked).length, left = Math.max(all - listed.length, 0) + open;
+    return left >= all ? sentence : left > 0 ? ` ${left} of ${all} ${sort}s not checked.` : "";
   });
 }
 
@@ -238,10 +246,11 @@ async function judged(asked) {
   if (at("aad").getAttribute("aria-invalid") === "true") throw new Error("external_aad isn't hexadecimal");
   const given = await keysGiven(), bare = await sealsOf(asked, NO_BYTES);
   const rsa = [...new Set(bare.seals.map(it => CHECKS[it.algorithm]?.[0]).filter(it => /^[PR]S/.test(it)))];
-  const { bytes, problems, places } = given ? given(rsa) : { bytes: null, problems: [] };
+  const { bytes, problems, places, certificates = [] } = given ? given(rsa) : { bytes: null, problems: [] };
   const found = bytes ? await sealsOf(asked, bytes, places) : bare;
   const more = found.isCut ? [{ state: "open", said: ["Further signatures are not checked."] }] : [];
-  return { told: [...await Promise.all(found.seals.map(verdictOf)), ...more], problems: [...problems, ...(bytes ? found.unread : [])] };
+  const told = await Promise.all(found.seals.map(it => verdictOf(it, certificates)));
+  return { told: [...told, ...more], problems: [...problems, ...(bytes ? found.unread : []), ...(certificates.length ? [UNCHECKED] : [])] };
 }
 
 // Says what is known of each signature, and colours its rows. `isCurrent` returns false once another input is asked for.
