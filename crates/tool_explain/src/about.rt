@@ -1,9 +1,10 @@
 //! The facts that a summary tells, as the walk finds them.
 
-use crate::frame::{Container, Frame};
+use crate::frame::{Container, Frame, Standing};
 use crate::head::tag;
-use crate::moment::moment;
+use crate::moment::{is_early, is_over, moment};
 use crate::role::{Message, Role, Word, title};
+use coset::CoseError;
 use coset::cbor::head::{Head, MajorType};
 use coset::cwt::Timestamp;
 use std::alloc::{AllocError, Global};
@@ -21,6 +22,9 @@ pub(crate) struct Seals {
     pub(crate) countersignatures: usize,
     pub(crate) macs: usize,
     pub(crate) ciphertexts: usize,
+    /// The messages with a list of signatures, and those of them that have any.
+    pub(crate) lists: usize,
+    pub(crate) filled_lists: usize,
 }
 
 /// The facts that a summary tells.
@@ -41,11 +45,19 @@ pub(crate) struct About {
     pub(crate) is_detached: bool,
     /// The claims of which the times are below: the number of input bytes after the map's head.
     claims: Option<usize>,
+    /// Whether these are claims of a header.
+    is_of_header: bool,
     pub(crate) expiry: Option<Timestamp>,
     pub(crate) start: Option<Timestamp>,
     pub(crate) issued: Option<Timestamp>,
     /// Whether other claims have expired.
     pub(crate) others_expired: bool,
+    /// Whether other claims aren't valid yet.
+    pub(crate) others_early: bool,
+    /// Why the payload isn't read as claims, if it should be.
+    pub(crate) unread: Option<String>,
+    /// Why other claims aren't read, if there are such.
+    pub(crate) others_unread: Option<String>,
 }
 
 impl About {
@@ -62,13 +74,19 @@ impl About {
                 countersignatures: 0,
                 macs: 0,
                 ciphertexts: 0,
+                lists: 0,
+                filled_lists: 0,
             },
             is_detached: false,
             claims: None,
+            is_of_header: false,
             expiry: None,
             start: None,
             issued: None,
             others_expired: false,
+            others_early: false,
+            unread: None,
+            others_unread: None,
         }
     }
 
@@ -151,6 +169,9 @@ impl About {
         if role == Role::Signature && head.major_type == MajorType::Array {
             if frame.role == Role::Signatures {
                 seals.signatures = seals.signatures.saturating_add(1);
+                if frame.index == 0 {
+                    seals.filled_lists = seals.filled_lists.saturating_add(1);
+                }
             } else {
                 seals.countersignatures = seals.countersignatures.saturating_add(1);
             }
@@ -165,6 +186,9 @@ impl About {
             (Role::Message(Message::Sign1, _), 3) => {
                 seals.signatures = seals.signatures.saturating_add(1);
             }
+            (Role::Message(Message::Sign, _), 3) => {
+                seals.lists = seals.lists.saturating_add(1);
+            }
             (Role::Message(Message::Mac0 | Message::Mac, _), 3) => {
                 seals.macs = seals.macs.saturating_add(1);
             }
@@ -177,16 +201,47 @@ impl About {
         self.is_detached = self.is_detached || is_content && head.is_null();
     }
 
-    /// Takes a time of claims. The first claims with a time give the times of the summary.
+    /// Takes why a payload or other claims aren't read. Their times, and those of headers around
+    /// them, say nothing then. Claims that anyone can add don't count.
+    ///
+    /// # Errors
+    /// `AllocError` if an allocation fails.
+    pub(crate) fn see_unread(
+        &mut self,
+        alloc: Global,
+        frame: &Frame,
+        role: Role,
+        error: &CoseError,
+    ) -> Result<(), AllocError> {
+        match (frame.standing, role) {
+            (Standing::Added | Standing::Unread, _) => {}
+            (Standing::Own, Role::Payload(_)) => {
+                self.unread = Some(format!(in alloc; "{error}")?);
+            }
+            _ => self.others_unread = Some(format!(in alloc; "{error}")?),
+        }
+        Ok(())
+    }
+
+    /// Takes a time of claims. The first claims with a time give the times of the summary, but those
+    /// of a payload precede those of a header. Times that anyone can add don't count.
     fn see_time(&mut self, frame: &Frame, role: Role, head: &Head, now: Option<i64>) {
         if !matches!(role, Role::Expiry | Role::Start | Role::Time) {
+            return;
+        }
+        if matches!(frame.standing, Standing::Added | Standing::Unread) {
             return;
         }
         let Some(timestamp) = moment(head) else {
             return;
         };
+        if self.is_of_header && frame.standing == Standing::Own {
+            self.replace_times(now);
+            self.claims = None;
+        }
         if self.claims.is_none() {
             self.claims = Some(frame.id);
+            self.is_of_header = frame.standing == Standing::Header;
         }
         let is_first = self.claims == Some(frame.id);
         match role {
@@ -194,10 +249,23 @@ impl About {
             Role::Start if is_first => self.start = Some(timestamp),
             Role::Time if is_first => self.issued = Some(timestamp),
             Role::Expiry => {
-                let is_over = matches!(now, Some(now) if !timestamp.is_after(now));
-                self.others_expired = self.others_expired || is_over;
+                self.others_expired = self.others_expired || is_over(&timestamp, now);
+            }
+            Role::Start => {
+                self.others_early = self.others_early || is_early(&timestamp, now);
             }
             _ => {}
         }
+    }
+
+    /// Makes the times so far those of other claims.
+    fn replace_times(&mut self, now: Option<i64>) {
+        if let Some(expiry) = self.expiry.take() {
+            self.others_expired = self.others_expired || is_over(&expiry, now);
+        }
+        if let Some(start) = self.start.take() {
+            self.others_early = self.others_early || is_early(&start, now);
+        }
+        self.issued = None;
     }
 }

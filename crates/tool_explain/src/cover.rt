@@ -11,7 +11,7 @@ pub enum Cover {
     Plain,
     /// A signature covers the part.
     Signed,
-    /// The part is a header of a message or a signature, and no signature covers it.
+    /// The part is a header of a message or a signature, or a payload, and no signature covers it.
     NotSigned,
     /// A MAC covers the part.
     Authenticated,
@@ -48,6 +48,7 @@ pub(crate) fn of_element(frame: &Frame) -> Option<Cover> {
         return None;
     }
     match (frame.role, frame.index) {
+        (Role::Message(Message::Sign, _), 0..=2) if frame.is_unsigned => Some(Cover::NotSigned),
         (Role::Message(Message::Sign1 | Message::Sign, _), 0 | 2) | (Role::Signature, 0) => {
             Some(Cover::Signed)
         }

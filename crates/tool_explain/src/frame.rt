@@ -27,6 +27,39 @@ pub(crate) enum Container {
     Chunks(MajorType),
 }
 
+/// Whose facts a container of the input has.
+#[derive(Clone, Copy, Debug, PartialEq, Eq)]
+pub(crate) enum Standing {
+    /// Those of the input, or of its payload.
+    Own,
+    /// Those of a protected header of the message.
+    Header,
+    /// Those of a submodule.
+    Nested,
+    /// Those of an unprotected header, a signature or a recipient, which anyone can add.
+    Added,
+    /// Those of claims that the library doesn't read.
+    Unread,
+}
+
+/// Returns whose facts a container with this role has, in a container with this standing.
+fn standing_in(outer: Standing, role: Role) -> Standing {
+    match (outer, role) {
+        (Standing::Unread, _) => Standing::Unread,
+        (
+            _,
+            Role::Header(Bucket::Unprotected | Bucket::OfRecipient)
+            | Role::Signature
+            | Role::Signatures
+            | Role::Recipient
+            | Role::Recipients,
+        ) => Standing::Added,
+        (Standing::Own, Role::Header(Bucket::Protected)) => Standing::Header,
+        (Standing::Own, Role::Submodules) => Standing::Nested,
+        _ => outer,
+    }
+}
+
 /// An open container, and the position in it.
 #[derive(Clone, Copy, Debug)]
 pub(crate) struct Frame {
@@ -61,6 +94,10 @@ pub(crate) struct Frame {
     pub(crate) openings: u32,
     /// How a signature, a MAC or a ciphertext covers the container.
     pub(crate) cover: Cover,
+    /// Whose facts the container has.
+    pub(crate) standing: Standing,
+    /// Whether the container is a `COSE_Sign` without signatures.
+    pub(crate) is_unsigned: bool,
 }
 
 impl Frame {
@@ -84,6 +121,8 @@ impl Frame {
             layers: LAYERS,
             openings,
             cover: Cover::Plain,
+            standing: Standing::Own,
+            is_unsigned: false,
         }
     }
 
@@ -113,12 +152,26 @@ impl Frame {
             layers: self.layers,
             openings: self.openings,
             cover: of_next(self),
+            standing: standing_in(self.standing, part.role),
+            is_unsigned: false,
         }
     }
 
     /// Returns this frame of a key's map, with the type of the key.
     pub(crate) fn with_key_type(mut self, key_type: Option<i64>) -> Frame {
         self.key_type = key_type;
+        self
+    }
+
+    /// Returns this frame of a message with a list of signatures, and whether the list is empty.
+    pub(crate) fn with_signatures(mut self, is_unsigned: bool) -> Frame {
+        self.is_unsigned = is_unsigned;
+        self
+    }
+
+    /// Returns this frame of claims that the library doesn't read.
+    pub(crate) fn unread(mut self) -> Frame {
+        self.standing = Standing::Unread;
         self
     }
 
@@ -142,6 +195,8 @@ impl Frame {
             layers: self.layers,
             openings: self.openings,
             cover: of_next(self),
+            standing: standing_in(self.standing, part.role),
+            is_unsigned: false,
         }
     }
 

@@ -23,7 +23,8 @@ pub enum Kind {
     /// section 6). Without such a tag, a CBOR item.
     Auto,
     /// A web token with claims as its payload (RFC 8392, section 7). The tag chooses the message,
-    /// with or without tag 61.
+    /// with or without tag 61. Without a message's tag, it is a CBOR item. `refusal` doesn't judge
+    /// the payload.
     Cwt,
     /// A CBOR item (RFC 8949, section 3).
     Value,

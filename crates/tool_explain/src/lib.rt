@@ -34,6 +34,7 @@ pub use cover::Cover;
 pub use faults::Fault;
 pub use guess::fitting;
 pub use kind::Kind;
+pub use moment::push_date;
 pub use print::{Style, annotated, notation, push_comment, styled};
 pub use quotes::{Quoted, Quotes, shortened, shortened_note};
 pub use structures::{commented, structure, structure_notes};

@@ -40,6 +40,22 @@ fn seconds_of(timestamp: &Timestamp) -> Option<i64> {
     }
 }
 
+/// Returns true if the time is an infinity or NaN, and no moment.
+pub(crate) fn is_no_moment(timestamp: &Timestamp) -> bool {
+    seconds_of(timestamp).is_none()
+}
+
+/// Returns true if an expiration time has come at `now`. An infinity or NaN has always come.
+pub(crate) fn is_over(expiry: &Timestamp, now: Option<i64>) -> bool {
+    matches!(now, Some(now) if is_no_moment(expiry) || !expiry.is_after(now))
+}
+
+/// Returns true if a time before which claims aren't valid is after `now`. An infinity or NaN always
+/// is.
+pub(crate) fn is_early(start: &Timestamp, now: Option<i64>) -> bool {
+    matches!(now, Some(now) if is_no_moment(start) || start.is_after(now))
+}
+
 /// Returns a distance in the largest unit of which it has at least two.
 fn in_units(seconds: u64) -> (u64, &'static str) {
     for (length, name) in UNITS {
@@ -77,7 +93,7 @@ pub(crate) fn push_distance(
 ///
 /// # Errors
 /// `AllocError` if an allocation fails.
-pub(crate) fn push_date(
+pub fn push_date(
     alloc: Global,
     text: &mut String,
     timestamp: &Timestamp,

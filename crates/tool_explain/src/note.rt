@@ -3,7 +3,7 @@
 use crate::cover::of_element;
 use crate::frame::Frame;
 use crate::head::{integer, is_shortest};
-use crate::moment::{moment, push_distance};
+use crate::moment::{is_no_moment, moment, push_distance};
 use crate::role::{Bucket, Part, Role, is_private, is_registered, name_of, title};
 use coset::cbor::head::{Head, MajorType};
 use coset::cwt::Timestamp;
@@ -57,6 +57,9 @@ impl Notes<'_> {
             return Ok(());
         };
         push_distance(self.text, timestamp, now)?;
+        if is_no_moment(timestamp) {
+            return self.add(no_moment(frame, role));
+        }
         self.add(judgement(frame, role, timestamp.is_after(now)))
     }
 }
@@ -68,6 +71,16 @@ fn judgement(frame: &Frame, role: Role, is_later: bool) -> &'static str {
         Role::Expiry if !is_later => "expired",
         Role::Start if is_later => "not valid yet",
         Role::Time if is_later && frame.role == Role::Claims => "issued in the future",
+        _ => "",
+    }
+}
+
+/// Returns what an infinity or NaN in the place of a time of a token says. The text may be empty.
+fn no_moment(frame: &Frame, role: Role) -> &'static str {
+    match role {
+        Role::Expiry => "no moment, expired",
+        Role::Start => "no moment, not valid",
+        Role::Time if frame.role == Role::Claims => "no moment",
         _ => "",
     }
 }

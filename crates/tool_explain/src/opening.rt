@@ -1,10 +1,10 @@
 //! The frames that items with parts open, and the text that opens them in diagnostic notation.
 
-use crate::frame::{Container, Frame, begins_break, content};
+use crate::frame::{Container, Frame, Standing, begins_break, content};
 use crate::guess::has_registered_claim;
 use crate::head::{argument, behind, tag};
 use crate::kind::Kind;
-use crate::role::{Part, Role, under_tag};
+use crate::role::{Message, Part, Role, under_tag};
 use crate::text::{told_width, width_mark};
 use coset::CoseError;
 use coset::cbor::de::Pull;
@@ -59,6 +59,25 @@ fn opened_map(opened: Frame, bytes: &[u8]) -> Frame {
     }
 }
 
+/// Returns true if a message with a list of signatures is at the front of the bytes, and the list is
+/// empty. Returns `None` if it has no list.
+fn has_no_signatures(bytes: &[u8]) -> Option<bool> {
+    let (message, _) = Pull::new(bytes).ok()?;
+    let mut elements = message.items()?.skip(3);
+    let mut signatures = elements.next()?.items()?;
+    Some(signatures.next().is_none())
+}
+
+/// Returns the frame of an array. For a message with a list of signatures, it says whether the list
+/// is empty.
+fn opened_array(opened: Frame, bytes: &[u8]) -> Frame {
+    if matches!(opened.role, Role::Message(Message::Sign, _)) {
+        opened.with_signatures(has_no_signatures(bytes) == Some(true))
+    } else {
+        opened
+    }
+}
+
 /// Returns the frame that the item at the front of the bytes opens, or `None` if it has no parts to
 /// show.
 ///
@@ -85,7 +104,8 @@ pub(crate) fn opening(
     Ok(match head.major_type {
         MajorType::Array if announced != Some(0) => {
             let part = opened_part(part, head, rest);
-            Some(frame.nested(Container::Array, part, announced, rest.len()))
+            let opened = frame.nested(Container::Array, part, announced, rest.len());
+            Some(opened_array(opened, bytes))
         }
         MajorType::Map if announced != Some(0) => {
             let part = opened_part(part, head, rest);
@@ -209,6 +229,57 @@ fn holds_claims(alloc: Global, bytes: &[u8]) -> Result<bool, AllocError> {
         None | Some(CoseError::UnregisteredIanaNonPrivateValue) => Ok(true),
         Some(CoseError::OutOfMemory) => Err(AllocError),
         Some(_) => Ok(false),
+    }
+}
+
+/// Returns why a payload isn't read as claims, or `None` if it is, or if it doesn't look like claims.
+/// `must` says whether it must be claims.
+fn payload_refusal(
+    alloc: Global,
+    must: bool,
+    content: &[u8],
+) -> Result<Option<CoseError>, AllocError> {
+    if begins_with_message(content) && (!must || is_of(alloc, Kind::Auto, content)?) {
+        return Ok(None);
+    }
+    if !must && (!has_registered_claim(content) || is_of(alloc, Kind::Key, content)?) {
+        return Ok(None);
+    }
+    unless_memory(Kind::Claims.refusal(alloc, content))
+}
+
+/// Returns the error, unless an allocation failed.
+fn unless_memory(refusal: Option<CoseError>) -> Result<Option<CoseError>, AllocError> {
+    match refusal {
+        Some(CoseError::OutOfMemory) => Err(AllocError),
+        other => Ok(other),
+    }
+}
+
+/// Returns why the item at the front of the bytes isn't read as claims, if it is a payload or a map
+/// that looks like claims. Returns `None` for another item, and for claims that are read.
+///
+/// # Errors
+/// `AllocError` if an allocation fails.
+pub(crate) fn claims_refusal(
+    alloc: Global,
+    frame: &Frame,
+    part: &Part,
+    head: &Head,
+    bytes: &[u8],
+) -> Result<Option<CoseError>, AllocError> {
+    match (part.role, head.major_type) {
+        (Role::Payload(must), MajorType::Bytes) if !head.is_indefinite() => {
+            let content = content(head, behind(head, bytes));
+            payload_refusal(alloc, must, content)
+        }
+        (Role::Claims, MajorType::Map) if frame.standing != Standing::Unread => {
+            match Pull::new(bytes) {
+                Ok((claims, _)) => unless_memory(Kind::Claims.refusal(alloc, claims.slice())),
+                Err(_) => Ok(None),
+            }
+        }
+        _ => Ok(None),
     }
 }
 

@@ -4,7 +4,7 @@ use crate::about::{About, Seals};
 use crate::apart::Explained;
 use crate::cover::Cover;
 use crate::kind::Kind;
-use crate::moment::{push_date, push_distance};
+use crate::moment::{is_early, is_no_moment, is_over, push_date, push_distance};
 use crate::role::{Role, title};
 use coset::cbor::head::MajorType;
 use coset::cwt::Timestamp;
@@ -140,9 +140,14 @@ fn push_seals(text: &mut String, about: &About) -> Result<(), AllocError> {
         countersignatures,
         macs,
         ciphertexts,
+        lists,
+        filled_lists,
     } = about.seals;
     if about.is_detached {
         text.push_str(" Content detached.")?;
+    }
+    if filled_lists < lists {
+        text.push_str(" No signatures: nothing is signed.")?;
     }
     push_unchecked(text, signatures, "Signature", "signatures")?;
     push_unchecked(
@@ -158,7 +163,7 @@ fn push_seals(text: &mut String, about: &About) -> Result<(), AllocError> {
     Ok(())
 }
 
-/// Adds a sentence about a moment.
+/// Adds a sentence about a moment. For an infinity or NaN, adds that it is none.
 fn push_moment(
     alloc: Global,
     text: &mut String,
@@ -167,6 +172,13 @@ fn push_moment(
     now: i64,
 ) -> Result<(), AllocError> {
     text.push_str(words)?;
+    match timestamp {
+        Timestamp::FractionalSeconds(seconds) if is_no_moment(timestamp) => {
+            let seconds = seconds.to_f64();
+            return write!(text, ": no moment ({seconds}).");
+        }
+        _ => text.push(' ')?,
+    }
     push_date(alloc, text, timestamp)?;
     push_distance(text, timestamp, now)?;
     text.push('.')
@@ -175,27 +187,72 @@ fn push_moment(
 /// Adds the claims' times, judged by `now` (RFC 8392, sections 3.1.4 to 3.1.6).
 fn push_times(alloc: Global, text: &mut String, about: &About, now: i64) -> Result<(), AllocError> {
     if let Some(expiry) = &about.expiry {
-        let words = if expiry.is_after(now) {
-            " Expires "
+        let words = if is_over(expiry, Some(now)) {
+            " Expired"
         } else {
-            " Expired "
+            " Expires"
         };
         push_moment(alloc, text, words, expiry, now)?;
     }
     match &about.start {
-        Some(start) if start.is_after(now) => {
-            push_moment(alloc, text, " Not valid before ", start, now)?;
+        Some(start) if is_early(start, Some(now)) => {
+            push_moment(alloc, text, " Not valid before", start, now)?;
         }
         _ => {}
     }
     match &about.issued {
-        Some(issued) if issued.is_after(now) => {
-            push_moment(alloc, text, " Issued in the future, ", issued, now)?;
+        Some(issued) if is_early(issued, Some(now)) => {
+            let words = if is_no_moment(issued) {
+                " Issued"
+            } else {
+                " Issued in the future,"
+            };
+            push_moment(alloc, text, words, issued, now)?;
         }
         _ => {}
     }
+    Ok(())
+}
+
+/// Adds that claims weren't read, so that their times aren't judged.
+fn push_unread(text: &mut String, about: &About) -> Result<(), AllocError> {
+    if let Some(error) = &about.unread {
+        let error = error.as_str();
+        write!(
+            text,
+            " Its payload isn't read as claims ({error}), and its times aren't judged."
+        )?;
+    }
+    if let Some(error) = &about.others_unread {
+        let error = error.as_str();
+        write!(
+            text,
+            " Nested claims aren't read ({error}), and their times aren't judged."
+        )?;
+    }
+    Ok(())
+}
+
+/// Adds what is known of claims: their times, if a payload was read as claims or needn't be, and
+/// those of nested claims.
+fn push_claims(
+    alloc: Global,
+    text: &mut String,
+    about: &About,
+    now: Option<i64>,
+) -> Result<(), AllocError> {
+    push_unread(text, about)?;
+    let Some(now) = now else {
+        return Ok(());
+    };
+    if about.unread.is_none() {
+        push_times(alloc, text, about, now)?;
+    }
     if about.others_expired {
         text.push_str(" Nested claims expired.")?;
+    }
+    if about.others_early {
+        text.push_str(" Nested claims not valid yet.")?;
     }
     Ok(())
 }
@@ -238,9 +295,7 @@ impl Explained<'_> {
         }
         text.push_str("well-formed.")?;
         push_seals(&mut text, about)?;
-        if let Some(now) = now {
-            push_times(alloc, &mut text, about, now)?;
-        }
+        push_claims(alloc, &mut text, about, now)?;
         Ok(text)
     }
 }

@@ -11,7 +11,7 @@ use crate::faults::Fault;
 use crate::frame::{Container, Frame, content};
 use crate::head::head_fault;
 use crate::hunt::Hunt;
-use crate::opening::{opened_part, opening, push_opening};
+use crate::opening::{claims_refusal, opened_part, opening, push_opening};
 use crate::paths::path;
 use crate::role::Role;
 use crate::text::{push_leaf, width_mark};
@@ -347,10 +347,18 @@ impl<'a, 'e> Walk<'a, 'e> {
         if part.role == Role::AuthenticatorData {
             authenticator::push(alloc, &mut self.column.note, content(head, rest))?;
         }
-        self.about
-            .see(&frame, opened_part(part, head, rest).role, head, now)?;
+        let read = opened_part(part, head, rest);
+        self.about.see(&frame, read.role, head, now)?;
+        let unread = claims_refusal(alloc, &frame, &read, head, bytes)?;
+        if let Some(error) = &unread {
+            self.about.see_unread(alloc, &frame, read.role, error)?;
+        }
         let is_sought = self.hunt.is_in(alloc, &part, content(head, rest))?;
         let opened = opening(alloc, &frame, part, head, bytes, is_sought)?;
+        let opened = match opened {
+            Some(opened) if unread.is_some() => Some(opened.unread()),
+            other => other,
+        };
         let mut passed = frame;
         passed.pass(head, bytes.len());
         passed.take_word(head, content(head, rest));

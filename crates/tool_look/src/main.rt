@@ -20,9 +20,10 @@ use tool_view::{END, FRONT, Form, To, UNANSWERED, look, respell};
 const USAGE: &str = "usage: tool_look [OPTION..] [KIND] [FILE]..
 A file, or standard input if no file is named, contains raw bytes, hexadecimal, base64, diagnostic
 notation, or bytes in another spelling. crates/tool_look/README.md lists the spellings.
-KIND is auto (what its tag says, otherwise what it can be), cwt (a web token, with claims as its
-payload), value, sign1, sign, mac, mac0, encrypt, encrypt0, countersignature, key, keyset, claims
-or kdf.
+KIND is auto (what its tag says, otherwise what it can be), cwt (a web token), value, sign1, sign,
+mac, mac0, encrypt, encrypt0, countersignature, key, keyset, claims or kdf. For cwt, status 0 says
+that the input is a message by its tag, or CBOR without such a tag. The summary says whether the
+library reads the payload as claims.
 --to=hex, --to=binary or --to=base64 writes only the bytes. --edn writes only diagnostic notation.
 --where writes only the offset of the fault, the path there and the fault, or accepted. --html
 writes a page, and --json a line of JSON for each file. --from=edn reads the input only as

@@ -4,6 +4,7 @@ ghost use Rattle.std.specs.Prelude.{IfOk, IfSome};
 ghost use Rattle.std.specs.List.{All};
 ghost use Rattle.tool_seals.specs.Seals.{IsCountersignature};
 
+use crate::remarks::Remarks;
 use crate::seal::{Part, Seal};
 use crate::seals::{Asked, MOST};
 use coset::{
@@ -109,6 +110,7 @@ fn first_at(asked: &Asked<'_>, target: &Target<'_>, index: usize) -> Result<Opti
         recipient: None,
         proof: Vec::from_slice(asked.alloc, &signed.signature)?,
         structure: structure(asked, target, &signed.protected)?,
+        outside: Remarks::none(),
     }))
 }
 
@@ -128,6 +130,7 @@ fn second_at(asked: &Asked<'_>, target: &Target<'_>, index: usize) -> Result<Opt
         recipient: None,
         proof: Vec::from_slice(asked.alloc, &signed.signature)?,
         structure: structure_v2(asked, target, &signed.protected)?,
+        outside: Remarks::none(),
     }))
 }
 
@@ -144,6 +147,7 @@ fn third(asked: &Asked<'_>, target: &Target<'_>, signature: &[u8]) -> Result<Sea
         recipient: None,
         proof: Vec::from_slice(asked.alloc, signature)?,
         structure: structure_abbreviated(asked, target)?,
+        outside: Remarks::none(),
     })
 }
 

@@ -7,7 +7,7 @@
 //!
 //! ```text
 //! X <INDEX> <ERROR>
-//! S <NAME> <FORM> <ALGORITHM> <STRUCTURE> <PROOF>
+//! S <NAME> <FORM> <ALGORITHM> <STRUCTURE> <PROOF> <REMARKS>
 //! K <INDEX> <KID> <VERDICT> <KTY> <CRV> <MEMBER>..
 //! E <NAME> <ALGORITHM>
 //! .. more
@@ -32,6 +32,11 @@
 //!   is also `-` for an abbreviated countersignature of a message without a signature or MAC of
 //!   its own.
 //! - `PROOF` is the signature or the MAC.
+//! - `REMARKS` is `critical` if a header of the layer or of a recipient lists critical labels, and
+//!   `both` if a label is in both headers of the layer (RFC 9052, sections 3.1 and 3). The headers
+//!   of the message count for a signature of a `COSE_Sign`. It is `critical,both` for both, and `-`
+//!   for neither. The library's verifier of web tokens refuses a layer with such a label twice, and
+//!   critical labels that it doesn't know.
 //! - `VERDICT` is `fits` or the reason against the key: `algorithm`, `alg`, `kty`, `crv`, `length`,
 //!   `key_ops` or `kid`. See [`Verdict`].
 //! - `KTY` and `CRV` are a number or a text.
@@ -44,12 +49,14 @@ mod countersigned;
 mod keys;
 mod message;
 mod own;
+mod remarks;
 mod seal;
 mod seals;
 mod text;
 mod verdict;
 
 pub use keys::{Keys, keys_from_slice};
+pub use remarks::Remarks;
 pub use seal::{Part, Seal};
 pub use seals::{Seals, seals_of};
 pub use text::described;

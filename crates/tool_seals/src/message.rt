@@ -190,8 +190,8 @@ pub(crate) fn read_tagged(alloc: Global, bytes: &[u8]) -> Result<Message>
 }
 
 /// Reads the outermost message: of the form `form`, if it is given, plain or under its tag. Else it
-/// is of the form that its tag names, with or without tag 61, or without a tag of the first form
-/// that fits.
+/// is of the form that its tag names, with or without tag 61. Without any tag, it is of the first
+/// form that fits. The content of tag 61 must have a tag (RFC 8392, section 6).
 ///
 /// # Errors
 /// - `OutOfMemory` if an allocation fails.
@@ -203,7 +203,7 @@ pub(crate) fn read_outermost(alloc: Global, form: Option<Form>, bytes: &[u8]) ->
         Some(form) => read_as(alloc, form, bytes),
         None => {
             let inner = without_cwt_tag(bytes);
-            if tag_at_front(inner).is_some() {
+            if tag_at_front(bytes).is_some() {
                 read_tagged(alloc, inner)
             } else {
                 read_tried(alloc, inner)

@@ -14,6 +14,7 @@ ghost use Rattle.tool_seals.specs.declared.message.Message.TheVariants as messag
 ghost use Rattle.tool_seals.specs.declared.seal.Part.TheVariants as part;
 
 use crate::message::Message;
+use crate::remarks::Remarks;
 use crate::seal::{Part, Seal};
 use crate::seals::{Asked, MOST};
 use coset::{
@@ -48,6 +49,7 @@ fn of_sign1(asked: &Asked<'_>, message: &CoseSign1) -> Result<Seal>
         recipient: None,
         proof: Vec::from_slice(asked.alloc, &message.signature)?,
         structure: signed_bytes(asked, message)?,
+        outside: Remarks::none(),
     })
 }
 
@@ -65,6 +67,7 @@ fn of_mac0(asked: &Asked<'_>, message: &CoseMac0) -> Result<Seal>
         recipient: None,
         proof: Vec::from_slice(asked.alloc, &message.tag)?,
         structure: message.tbm(asked.alloc, asked.external_aad)?,
+        outside: Remarks::none(),
     })
 }
 
@@ -93,6 +96,7 @@ fn of_mac(asked: &Asked<'_>, message: &CoseMac) -> Result<Seal>
         recipient: only_header(&message.recipients)?,
         proof: Vec::from_slice(asked.alloc, &message.tag)?,
         structure: message.tbm(asked.alloc, asked.external_aad)?,
+        outside: Remarks::of_recipients(&message.recipients),
     })
 }
 
@@ -133,6 +137,7 @@ fn of_signer(asked: &Asked<'_>, message: &CoseSign, index: usize) -> Result<Opti
         recipient: None,
         proof: Vec::from_slice(asked.alloc, &signed.signature)?,
         structure: signer_bytes(asked, message, signed)?,
+        outside: Remarks::of(asked.alloc, &message.protected.header, &message.unprotected)?,
     }))
 }
 
@@ -169,6 +174,7 @@ fn ciphertext(
         recipient: None,
         proof: Vec::new(asked.alloc),
         structure: None,
+        outside: Remarks::none(),
     })
 }
 

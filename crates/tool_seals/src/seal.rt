@@ -4,8 +4,10 @@ ghost use Rattle.std.specs.Prelude.{◌≡◌};
 ghost use Rattle.cwt_keys.specs.Sealed.{seal_view};
 ghost use Rattle.tool_seals.specs.Seals.{bytes_or_none, parts_of, structure_of};
 
+use crate::remarks::Remarks;
 use coset::{Header, ProtectedHeader};
 use cwt_keys::{Form, Sealed};
+use std::alloc::{AllocError, Global};
 
 /// The part of a message that a seal is.
 #[derive(Clone, Copy, Debug, PartialEq, Eq)]
@@ -46,6 +48,21 @@ pub struct Seal {
     /// The bytes that the signature or the MAC covers, or `None` if the payload is detached or the
     /// library makes no such structure. `None` for a ciphertext.
     pub structure: Option<Vec<u8>>,
+    /// What headers outside the seal's own two have: those of the message around a signature of a
+    /// `COSE_Sign`, and those of recipients.
+    pub outside: Remarks,
+}
+
+impl Seal {
+    /// Returns what the headers of the seal's layer have, and those of recipients and of a message
+    /// around it.
+    ///
+    /// # Errors
+    /// `AllocError` if an allocation fails.
+    pub fn remarks(&self, alloc: Global) -> Result<Remarks, AllocError> {
+        let own = Remarks::of(alloc, &self.protected.header, &self.unprotected)?;
+        Ok(own.or(self.outside))
+    }
 }
 
 impl Seal {

@@ -139,7 +139,7 @@ fn inner_seals(
 /// those in its payload. Returns `None` if the bytes aren't a message.
 ///
 /// The message is of the form `form`, plain or under its tag. Without a form, its tag names it. Tag
-/// 61 may be around that tag (RFC 8392, section 6). A message without a tag is of the first form
+/// 61 may be around that tag (RFC 8392, section 6). A message without any tag is of the first form
 /// that fits: `COSE_Sign1`, `COSE_Mac0`, `COSE_Encrypt0`, and then those with lists.
 ///
 /// A payload that is a message under its tag is the next layer. There are at most four layers.

@@ -79,7 +79,7 @@ fn push_ciphertext(text: &mut String, seal: &Seal) -> Result<(), AllocError> {
 }
 
 /// Adds the line of a signature or MAC.
-fn push_seal(text: &mut String, seal: &Seal, form: &str) -> Result<(), AllocError> {
+fn push_seal(alloc: Global, text: &mut String, seal: &Seal, form: &str) -> Result<(), AllocError> {
     text.push_str("S\t")?;
     push_name(text, seal)?;
     write!(text, "\t{form}\t")?;
@@ -91,6 +91,8 @@ fn push_seal(text: &mut String, seal: &Seal, form: &str) -> Result<(), AllocErro
     }
     text.push('\t')?;
     push_bytes(text, &seal.proof)?;
+    text.push('\t')?;
+    text.push_str(seal.remarks(alloc)?.words())?;
     text.push('\n')
 }
 
@@ -221,7 +223,7 @@ fn push_judged(
         Form::Mac0 | Form::Mac => "mac",
         Form::Encrypt0 | Form::Encrypt => return push_ciphertext(text, seal),
     };
-    push_seal(text, seal, form)?;
+    push_seal(alloc, text, seal, form)?;
     push_keys(alloc, text, seal, keys)
 }
 

@@ -2,7 +2,7 @@
 
 use crate::framed::Spelling;
 use crate::part::{behind_word, is_space, without_end, without_front};
-use crate::source::{Found, digits};
+use crate::source::{Found, digits, has_whole_escapes};
 
 /// The words that may precede an array or a literal, in the order in which they may stand.
 const WORDS: [&[u8]; 12] = [
@@ -134,6 +134,10 @@ pub(crate) fn code(text: &[u8]) -> Option<Found> {
     let (content, rest) = inner.split_at(length.min(inner.len()));
     let (_, trailer) = rest.split_at(rest.len().min(1));
     if !is_trailer(trailer) {
+        return None;
+    }
+    let is_quoted = !matches!(spelling, Some(Spelling::Array | Spelling::Literal));
+    if is_quoted && !has_whole_escapes(content) {
         return None;
     }
     let start = text.len().saturating_sub(inner.len());

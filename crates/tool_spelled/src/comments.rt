@@ -1,10 +1,11 @@
 //! Comments between bytes: from `#`, `;` or `//` to the end of a line, and from `/*` to `*/`.
 
-ghost use Rattle.std.specs.Prelude.{◌≡◌, IfErr, IfOk};
+ghost use Rattle.std.specs.Prelude.{◌≡◌, IfErr, IfOk, IfSome};
 ghost use Rattle.tool_spelled.specs.Comments.{begins_with, next_place, seen, without_comments};
 ghost use Rattle.tool_spelled.specs.Pieces.{ArePieces};
 ghost use Rattle.tool_spelled.specs.Spelled.{IsWithin};
 ghost use Rattle.tool_spelled.specs.declared.comments.Place.TheVariants.{Outside};
+ghost use Rattle.tool_spelled.specs.declared.pieces.Format.TheVariants.{Array};
 
 use crate::pieces::{self, Format};
 use crate::read::{Misspelled, Why};
@@ -120,5 +121,40 @@ pub(crate) fn bytes(
     match without_comments(alloc, text)? {
         Ok(pieces) => pieces::bytes(alloc, format, &pieces),
         Err(misspelled) => Ok(Err(misspelled)),
+    }
+}
+
+/// Returns where the first `;` outside comments is. In an array it begins no comment: Rust repeats
+/// an element by it.
+fn semicolon(text: &[u8]) -> Option<Misspelled>
+    ensures { IfSome result (IsWithin text.now) }
+{
+    let mut place = Place::Outside;
+    for (offset, byte) in text.iter().enumerate() {
+        if place == Place::Outside && *byte == b';' {
+            return Some(Misspelled(offset.min(text.len()), Why::Digit));
+        }
+        let (_, rest) = text.split_at(offset.saturating_add(1).min(text.len()));
+        place = next_place(place, *byte, rest);
+    }
+    None
+}
+
+/// Returns the numbers of an array in source code as [`bytes`] does. A `;` outside comments is a
+/// fault.
+///
+/// # Errors
+/// `AllocError` if an allocation fails.
+pub(crate) fn elements(
+    alloc: Global,
+    text: &[u8],
+) -> Result<Result<Vec<u8>, Misspelled>, AllocError>
+    ensures spelled { IfOk result (λ r. IfOk r (λ bytes.
+        ArePieces Array (without_comments Outside text.now) bytes.items)) }
+    ensures within { IfOk result (λ r. IfErr r (IsWithin text.now)) }
+{
+    match semicolon(text) {
+        Some(misspelled) => Ok(Err(misspelled)),
+        None => bytes(alloc, Format::Array, text),
     }
 }

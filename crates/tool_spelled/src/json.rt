@@ -1,7 +1,7 @@
 //! Finds the only string value in a JSON object (RFC 8259).
 
 use crate::part::is_space;
-use crate::source::{Found, digits};
+use crate::source::{Found, digits, has_whole_escapes};
 
 /// The reading of an object so far.
 #[derive(Clone, Copy)]
@@ -91,6 +91,9 @@ pub(crate) fn json(text: &[u8]) -> Option<Found> {
     }
     let (front, _) = text.split_at(end.min(text.len()));
     let (_, inner) = front.split_at(start.min(front.len()));
+    if !has_whole_escapes(inner) {
+        return None;
+    }
     Some(Found {
         spelling: digits(inner),
         start,

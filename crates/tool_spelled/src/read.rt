@@ -78,7 +78,7 @@ impl Text<'_> {
             Spelling::Hexadecimal => pieces::bytes(alloc, Format::Hexadecimal, self.text),
             Spelling::Base64 => base64::bytes(alloc, self.text),
             Spelling::Commented => comments::bytes(alloc, Format::Hexadecimal, self.text),
-            Spelling::Array => comments::bytes(alloc, Format::Array, self.text),
+            Spelling::Array => comments::elements(alloc, self.text),
             Spelling::Literal => literal::bytes(alloc, self.text),
             Spelling::Dump => dump::bytes(alloc, self.text),
             Spelling::Percent => pieces::bytes(alloc, Format::Percent, self.text),

@@ -25,6 +25,17 @@ pub(crate) fn digits(text: &[u8]) -> Spelling {
     }
 }
 
+/// Returns true if `\x` stands before each byte of the text, or nowhere. Otherwise the digits
+/// without it are characters in most languages.
+pub(crate) fn has_whole_escapes(text: &[u8]) -> bool {
+    let is_escape = |piece: &[u8]| match piece {
+        [b'\\', b'x', high, low] => high.is_ascii_hexdigit() && low.is_ascii_hexdigit(),
+        _ => false,
+    };
+    let has_escape = position(text, b"\\x").is_some() || position(text, b"\\X").is_some();
+    !has_escape || text.chunks(4).all(is_escape)
+}
+
 /// Returns the offset of a word in the text.
 fn position(text: &[u8], word: &[u8]) -> Option<usize> {
     text.windows(word.len().max(1))

@@ -13,6 +13,8 @@ pub(crate) struct Told<'a> {
     pub(crate) summary: &'a str,
     /// The name of the kind by which it was judged.
     pub(crate) kind: &'a str,
+    /// The moment for which times were judged.
+    pub(crate) now: Option<i64>,
     pub(crate) status: u8,
 }
 
@@ -117,6 +119,10 @@ pub(crate) fn object(
     push_member(&mut json, ", ", "read", told.read_as)?;
     push_member(&mut json, ", ", "summary", told.summary)?;
     push_member(&mut json, ", ", "kind", told.kind)?;
+    match told.now {
+        Some(now) => write!(json, ", \"now\": {now}")?,
+        None => json.push_str(", \"now\": null")?,
+    }
     let status = told.status;
     write!(json, ", \"status\": {status}, \"fault\": ")?;
     push_fault(alloc, &mut json, refusal)?;

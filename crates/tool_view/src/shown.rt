@@ -12,10 +12,11 @@ use crate::read::{Reading, read_bytes};
 use crate::rows::rows;
 use crate::sequence::{items, mark, push_item};
 use coset::CoseError;
+use coset::cwt::Timestamp;
 use std::alloc::{AllocError, Global};
 use tool_explain::{
-    Kind, Line, Style, commented, explain, explain_whole, fault, fitting, notation, shortened_note,
-    structure_notes, styled,
+    Kind, Line, Style, commented, explain, explain_whole, fault, fitting, notation, push_date,
+    shortened_note, structure_notes, styled,
 };
 
 /// The status of an input that has its kind.
@@ -147,8 +148,8 @@ fn annotated_text(alloc: Global, asked: &Asked, answer: &Answer<'_>) -> Result<S
 /// were refused.
 fn json_of(
     alloc: Global,
-    kind: Kind,
-    bytes: &[u8],
+    asked: &Asked,
+    (kind, bytes): (Kind, &[u8]),
     answer: &Answer<'_>,
     (name, said): (&str, &str),
     status: u8,
@@ -159,9 +160,20 @@ fn json_of(
         read_as: said,
         summary: answer.summary.as_str(),
         kind: kind.name(),
+        now: asked.now,
         status,
     };
     object(alloc, told, &answer.lines, &answer.notes, refusal.as_ref())
+}
+
+/// Adds the moment for which times were judged.
+fn push_judged_at(alloc: Global, text: &mut String, now: Option<i64>) -> Result<(), AllocError> {
+    let Some(now) = now else {
+        return Ok(());
+    };
+    text.push_str(" Judged at ")?;
+    push_date(alloc, text, &Timestamp::WholeSeconds(now))?;
+    text.push('.')
 }
 
 /// Returns the answer in the form that `asked` has. Adds the summary to `said`.
@@ -177,9 +189,17 @@ fn answer_text(
     let summary = answer.summary.as_str();
     let text = match asked.form {
         Form::Rows => rows(alloc, said.as_str(), summary, &answer.lines, &answer.notes)?,
-        Form::Json => json_of(alloc, kind, bytes, answer, (name, said.as_str()), status)?,
+        Form::Json => json_of(
+            alloc,
+            asked,
+            (kind, bytes),
+            answer,
+            (name, said.as_str()),
+            status,
+        )?,
         Form::Page => {
-            let said = format!(in alloc; "{said}. {summary}")?;
+            let mut said = format!(in alloc; "{said}. {summary}")?;
+            push_judged_at(alloc, &mut said, asked.now)?;
             section(
                 alloc,
                 name,
@@ -386,12 +406,13 @@ fn look_at(
 }
 
 /// Returns the object of an input that spells no bytes.
-fn unread(alloc: Global, name: &str, said: &str) -> Result<String, AllocError> {
+fn unread(alloc: Global, asked: &Asked, name: &str, said: &str) -> Result<String, AllocError> {
     let told = Told {
         name,
         read_as: said,
         summary: "",
         kind: "",
+        now: asked.now,
         status: REFUSED,
     };
     object(alloc, told, &[], &[], None)
@@ -414,7 +435,7 @@ pub fn look(alloc: Global, asked: &Asked, input: &[u8], name: &str) -> Result<Sh
             let text = match asked.form {
                 Form::Page => section(alloc, name, said.as_str(), &[], &[], false)?,
                 Form::Rows => rows(alloc, said.as_str(), "", &[], &[])?,
-                Form::Json => unread(alloc, name, said.as_str())?,
+                Form::Json => unread(alloc, asked, name, said.as_str())?,
                 _ => String::new(alloc),
             };
             Ok(Shown {
