@@ -21,8 +21,7 @@ enum {
 typedef struct coset_policy {
   const int64_t *algorithms; /* the algorithms that are allowed */
   size_t algorithms_len;
-  const int64_t *critical; /* the critical labels that the caller understands, and acts on. It isn't checked that the
-                              protected header has each label that crit names (docs/C.md, 'A verifier') */
+  const int64_t *critical; /* the critical labels that the caller understands, and acts on */
   size_t critical_len;
   const uint8_t *external_aad;
   size_t external_aad_len;

@@ -84,7 +84,8 @@ def tested(given, folder, _, wrong):
 
 def every_call(check):
     """Returns the calls that are made in each language, and all calls from C."""
-    calls = [*rows.calls(check), *examples.calls(check), *messages.sealed_calls(), *items.calls(), *tokens.calls()]
+    of_messages = [*messages.sealed_calls(), *messages.critical_calls(check)]
+    calls = [*rows.calls(check), *examples.calls(check), *of_messages, *items.calls(), *tokens.calls()]
     of_tokens = [*tokens.calls_from_c(check), *openers.calls(), *shapes.calls()]
     return calls, [*calls, *of_tokens, *misuses.calls(), *depths.calls(calls)]
 
