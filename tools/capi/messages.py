@@ -134,10 +134,10 @@ CRITICAL_LABELS = (
     # The header has the parameter, also if crit names its label twice, or names more labels.
     ([-70000], [-70000], [], True), ([-70000] * 2, [-70000], [], True), ([-70000, 4], [4, -70000], [], True),
     ([-70000], [-70000], [4], True),
-    # "absence is a fatal error"
+    # A parameter is absent, which is a fatal error.
     ([-70000], [], [], False), ([-70000] * 300, [], [], False), ([-70000], [-70001], [], False),
     ([-70000, 4], [-70000], [], False), ([4, -70000], [-70000], [], False),
-    # The parameter isn't in the protected header.
+    # A parameter is in the unprotected header only.
     ([-70000], [], [-70000], False), ([-70000, 4], [-70000], [4], False),
     # crit names itself, or the algorithm.
     ([2], [], [], True), ([1], [], [], True), ([2, -70000], [], [], False),

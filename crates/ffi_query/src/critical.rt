@@ -69,13 +69,7 @@ fn is_listed(labels: &Value, wanted: i64) -> bool
 ///
 /// # Errors
 /// `OutOfMemory` if an allocation fails.
-fn is_absent(
-    alloc: Global,
-    kind: Kind,
-    item: Pull<'_>,
-    labels: &Value,
-    label: i64,
-) -> Result<bool>
+fn is_absent(alloc: Global, kind: Kind, item: Pull<'_>, labels: &Value, label: i64) -> Result<bool>
     ensures absent { IfOk result (IsAbsent kind (pull_item item.entry) (value_item labels.now)
         label) }
     ensures memory { IfErr result (λ e. e ≡ OutOfMemory) }
