@@ -146,8 +146,9 @@ enum {
 /* The state of crit, label 2: labels that must be understood. COSET_NONE if there are none. */
 enum {
   COSET_UNDERSTOOD = 1,    /* only the protected header has crit, and the caller understands each label in it;
-                              whether the header has these labels isn't checked */
-  COSET_NOT_UNDERSTOOD = 2 /* the unprotected header has crit, or the caller doesn't understand a label */
+                              the same header has a parameter under each */
+  COSET_NOT_UNDERSTOOD = 2 /* the unprotected header has crit, the caller doesn't understand a label in crit, or the
+                              protected header has no parameter under it */
 };
 
 /* Orders of labels, by their encodings. */

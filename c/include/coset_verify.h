@@ -22,8 +22,7 @@ typedef struct coset_policy {
   const int64_t *algorithms; /* the algorithms that are allowed. List only algorithms for the kind of the message: a
                                 COSE_Mac0's algorithm in a COSE_Sign1's list would be accepted */
   size_t algorithms_len;
-  const int64_t *critical; /* the critical labels that the caller understands, and acts on. It isn't checked that the
-                              protected header has each label that crit names (docs/C.md, 'A verifier') */
+  const int64_t *critical; /* the critical labels that the caller understands, and acts on */
   size_t critical_len;
   const uint8_t *external_aad;
   size_t external_aad_len;

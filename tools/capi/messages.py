@@ -4,7 +4,8 @@ A call is a tuple, here and in the other files. It has the call's name, the kind
 right status and result."""
 import itertools
 
-from capi.kinds import ABSENT, CRITICAL, EITHER, HEADERS, MISUSE, NOT_ALLOWED, OK, PARTS, REFUSED, TAGS, bytes_at, headers_of
+from capi.kinds import (ABSENT, CRITICAL, EITHER, HEADERS, MISUSE, NOT_ALLOWED, OK, PARTS, REFUSED, TAGS, bytes_at, headers_of,
+                        number_of)
 from cbor import encode
 
 CONTEXTS = {"sign1": b"Signature1", "sign": b"Signature", "mac0": b"MAC0", "mac": b"MAC", "encrypt0": b"Encrypt0",
@@ -17,12 +18,13 @@ class Told(bytes):
 
 
 def critical_told(headers, known):
-    """Returns 0 if the headers have no crit (RFC 8152, section 3.1), 1 if crit is protected and names only known labels,
-    otherwise 2."""
+    """Returns 0 if the headers have no crit (RFC 8152, section 3.1). Returns 1 if crit is protected and names only known
+    labels, each of which the protected header has. Otherwise returns 2."""
     named = [header.get(("int", 2)) for header in headers]
     if named == [None, None]:
         return 0
-    return 1 if named[1] is None and all(label[0] == "int" and label[1] in known for label in named[0][1]) else 2
+    met = named[1] is None and all(label[0] == "int" and label[1] in known and label in headers[0] for label in named[0][1])
+    return 1 if met else 2
 
 
 def message_told(kind, item, index, tagged, aad, detached, known):
@@ -74,7 +76,9 @@ def with_flags(kind, data, item, tagged, told):
 
 def message_calls(kind, number, data, item, tagged):
     """Yields the calls of `coset_message` for a message."""
-    named = [label[1] for h in headers_of(kind, item) for label in h.get(("int", 2), (0, []))[1] if label[0] == "int"]
+    bearers = [(kind, item), *(("signature", it) for it in (item[1][3][1] if kind == "sign" else []))]
+    headers = [header for bearer in bearers for header in headers_of(*bearer)]
+    named = [label[1] for header in headers for label in header.get(("int", 2), (0, []))[1] if label[0] == "int"]
     signers = range(len(item[1][3][1]) + 1) if kind == "sign" else (0,)
     for index, detached, known in itertools.product(signers, DETACHED, ([], [*named, -70000, 4])):
         status, told = message_told(kind, item, index, tagged, b"aad", detached, known)
@@ -160,6 +164,61 @@ def indexed(call, words):
 def index_calls():
     """Yields the calls of coset_verify.h with an index other than 0, for kinds without signers. Each would be accepted with 0."""
     yield from indexed("safe", [b"", 0, b"", "-7", "-"])
+
+
+# Headers with labels that the caller understands, all but the text (RFC 8152, section 3.1): the labels in crit, the labels of
+# the other protected parameters, those of the unprotected ones, and whether crit is understood.
+CRITICAL_LABELS = (
+    # The header has the parameter, also if crit names its label twice, or names more labels.
+    ([-70000], [-70000], [], True), ([-70000] * 2, [-70000], [], True), ([-70000, 4], [4, -70000], [], True),
+    ([-70000], [-70000], [4], True),
+    # A parameter is absent, which is a fatal error.
+    ([-70000], [], [], False), ([-70000] * 300, [], [], False), ([-70000], [-70001], [], False),
+    ([-70000, 4], [-70000], [], False), ([4, -70000], [-70000], [], False),
+    # A parameter is in the unprotected header only.
+    ([-70000], [], [-70000], False), ([-70000, 4], [-70000], [4], False),
+    # crit names itself, or the algorithm.
+    ([2], [], [], True), ([1], [], [], True), ([2, -70000], [], [], False),
+    # The header has a parameter under a label that the caller doesn't understand.
+    ([b"z"], [b"z"], [], False), ([-70000, b"z"], [-70000, b"z"], [], False),
+)
+
+
+def label_of(label):
+    """Returns the item of a label."""
+    return (3, label) if isinstance(label, bytes) else ("int", label)
+
+
+def header_of(labels, critical=()):
+    """Returns the map of a header with an algorithm, critical labels if there are any, and a byte string under each label."""
+    crit = [("int", 2), ("array", [*map(label_of, critical)])] if critical else []
+    return ("map", [("int", 1), ("int", -7), *crit, *(it for label in labels for it in (label_of(label), (2, b"it")))])
+
+
+def critical_messages(critical, protected, unprotected):
+    """Yields messages with such headers, each with its kind. A COSE_Sign has them as its own headers, or as its signer's."""
+    there = [(2, encode(header_of(protected, critical))), ("map", header_of(unprotected)[1][2:])]
+    plain, content, proof = [(2, encode(header_of([]))), ("map", [])], (2, b"content"), (2, b"proof")
+    yield "sign1", [*there, content, proof]
+    yield "mac0", [*there, content, proof]
+    yield "encrypt0", [*there, content]
+    yield "sign", [*there, content, ("array", [("array", [*plain, proof])])]
+    yield "sign", [*plain, content, ("array", [("array", [*there, proof])])]
+    # The other layer has the labels in crit as parameters.
+    has_all = [(2, encode(header_of([label for label in dict.fromkeys(critical) if label not in (1, 2)]))), ("map", [])]
+    yield "sign", [*there, content, ("array", [("array", [*has_all, proof])])]
+    yield "sign", [*has_all, content, ("array", [("array", [*there, proof])])]
+
+
+def critical_calls(check):
+    """Yields the calls for messages with critical labels. Before, the results are compared with the table."""
+    for *labels, is_understood in CRITICAL_LABELS:
+        known = [label for label in labels[0] if isinstance(label, int)]
+        for kind, parts in critical_messages(*labels):
+            item = ("array", parts)
+            told = message_told(kind, item, 0, False, b"", None, known)[1]
+            check(told.view[3] == (1 if is_understood else 2), f"{kind} with the critical labels {labels}")
+            yield from message_calls(kind, number_of(kind), encode(item), item, False)
 
 
 def calls(kind, number, data, item, tagged):

@@ -84,7 +84,7 @@ def tested(given, folder, _, wrong):
 
 def every_call(check):
     """Returns the calls that are made in each language, and all calls from C."""
-    of_messages = [*messages.sealed_calls(), *messages.mac_calls(), *messages.index_calls()]
+    of_messages = [*messages.sealed_calls(), *messages.mac_calls(), *messages.index_calls(), *messages.critical_calls(check)]
     calls = [*rows.calls(check), *examples.calls(check), *of_messages, *items.calls(), *tokens.calls()]
     of_tokens = [*tokens.calls_from_c(check), *openers.calls(), *shapes.calls()]
     return calls, [*calls, *of_tokens, *misuses.calls(), *examples.wrong_signers(), *depths.calls(calls)]

@@ -181,10 +181,11 @@ pub struct Sign1 {
 #[derive(Clone, Copy, Debug, PartialEq, Eq)]
 pub enum Critical {
     Absent,
-    /// Only the protected header has `crit`, and the caller understands each label in it. Whether
-    /// the header has these labels isn't checked.
+    /// Only the protected header has `crit`, and the caller understands each label in it. The same
+    /// header has a parameter under each.
     Understood,
-    /// The unprotected header has `crit`, or the caller doesn't understand a label.
+    /// The unprotected header has `crit`, the caller doesn't understand a label in `crit`, or the
+    /// protected header has no parameter under it.
     NotUnderstood,
 }
 

@@ -9,7 +9,7 @@ use Rattle.ffi_query.specs.declared.kind.Kind as kinds
 use Rattle.ffi_query.specs.declared.kind.Kind.TheVariants.{Sign, Signature}
 use Rattle.ffi_query.specs.declared.label.Map as maps
 use Rattle.ffi_query.specs.declared.label.Map.TheVariants as of
-use Rattle.ffi_query.specs.Labels.{IsUnder}
+use Rattle.ffi_query.specs.Labels.{IsUnder, is_label}
 
 abbrev pub crit_label : LabelView
 crit_label = number (pos 2)
@@ -33,6 +33,44 @@ abbrev pub are_known : List ℤ → Item → Bool
 are_known ns (array vs) = each_known ns vs
 are_known ns v = false
 
+-- The integer n is one of the labels.
+abbrev pub is_listed : ℤ → Items → Bool
+is_listed n no_items = false
+is_listed n (item v vs) = if is_label (number n) v then true else is_listed n vs
+
+-- The item is an array, and the integer n is one of its elements.
+abbrev pub lists : Item → ℤ → Bool
+lists (array vs) n = is_listed n vs
+lists v n = false
+
+-- The protected header of the item v has a parameter under the label n.
+abbrev pub HasParameter : kinds.Kind → Item → ℤ → Type 0
+HasParameter k v n = (w : Item) × IsUnder k of.Protected (number n) v w
+
+-- The protected header of v has a parameter under each integer in the labels w.
+abbrev pub HasEach : kinds.Kind → Item → Item → Type 0
+HasEach k v w = (n : ℤ) → lists w n ≡ true → HasParameter k v n
+
+-- The protected header of v has no parameter under one integer in the labels w.
+abbrev pub LacksOne : kinds.Kind → Item → Item → Type 0
+LacksOne k v w = (n : ℤ) × (lists w n ≡ true) × (HasParameter k v n → ⊥)
+
+-- The bool says whether n is one of the labels w, although the protected header of v has no parameter under it.
+abbrev pub IsAbsent : kinds.Kind → Item → Item → ℤ → Bool → Type 0
+IsAbsent k v w n true = (lists w n ≡ true) × (HasParameter k v n → ⊥)
+IsAbsent k v w n false = lists w n ≡ true → HasParameter k v n
+
+-- True says that the protected header of v has a parameter under each integer that is in both ns and w. False says that
+-- it lacks one of the labels w.
+abbrev pub ArePresent : kinds.Kind → Item → List ℤ → Item → Bool → Type 0
+ArePresent k v ns w true = (n : ℤ) → is_among ns (Some n) ≡ true → lists w n ≡ true → HasParameter k v n
+ArePresent k v ns w false = LacksOne k v w
+
+-- The bool says whether each of the labels w is an integer in ns, and the protected header of v has a parameter under it.
+abbrev pub AreUnderstood : kinds.Kind → Item → List ℤ → Item → Bool → Type 0
+AreUnderstood k v ns w true = (are_known ns w ≡ true) × HasEach k v w
+AreUnderstood k v ns w false = (are_known ns w ≡ false) ⊎ LacksOne k v w
+
 -- That header of the item v has a value under crit.
 abbrev pub HasCritical : kinds.Kind → maps.Map → Item → Type 0
 HasCritical k m v = (w : Item) × IsUnder k m crit_label v w
@@ -42,14 +80,15 @@ abbrev pub IsCritical : kinds.Kind → Item → Bool → Type 0
 IsCritical k v true = HasCritical k of.Protected v ⊎ HasCritical k of.Unprotected v
 IsCritical k v false = (HasCritical k of.Protected v → ⊥) × (HasCritical k of.Unprotected v → ⊥)
 
--- The protected header has crit, and the bool says whether all labels in it are known.
-abbrev pub NamesKnown : kinds.Kind → List ℤ → Item → Bool → Type 0
-NamesKnown k ns v b = (w : Item) × IsUnder k of.Protected crit_label v w × (are_known ns w ≡ b)
+-- The protected header has crit, and the bool says whether all labels in it are understood.
+abbrev pub NamesLabels : kinds.Kind → List ℤ → Item → Bool → Type 0
+NamesLabels k ns v b = (w : Item) × IsUnder k of.Protected crit_label v w × AreUnderstood k v ns w b
 
--- The bool says whether all critical labels of the item v are integers in ns, and only the protected header names them.
+-- The bool says whether all critical labels of the item v are integers in ns, only the protected header names them, and
+-- it has a parameter under each.
 abbrev pub IsUnderstood : kinds.Kind → List ℤ → Item → Bool → Type 0
-IsUnderstood k ns v true = (HasCritical k of.Unprotected v → ⊥) × ((HasCritical k of.Protected v → ⊥) ⊎ NamesKnown k ns v true)
-IsUnderstood k ns v false = HasCritical k of.Unprotected v ⊎ NamesKnown k ns v false
+IsUnderstood k ns v true = (HasCritical k of.Unprotected v → ⊥) × ((HasCritical k of.Protected v → ⊥) ⊎ NamesLabels k ns v true)
+IsUnderstood k ns v false = HasCritical k of.Unprotected v ⊎ NamesLabels k ns v false
 
 -- `has` says whether the item v has critical labels, and `understood` whether all of them are understood.
 abbrev pub IsCriticalIn : kinds.Kind → List ℤ → Item → Bool → Bool → Type 0

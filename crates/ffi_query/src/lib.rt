@@ -8,9 +8,10 @@
 //! caller's memory. The memory is unchanged if the result doesn't fit, or if there is none. So
 //! programs in other languages can make these calls (`ffi_c`), and have nothing to free.
 //!
-//! A call passes over its input a fixed number of times. It first decodes the input as the kind
-//! that the caller names, so other input is refused for its own fault. Then it looks up the
-//! requested part in the bytes themselves.
+//! A call passes over its input a fixed number of times. For critical labels, it passes over the
+//! protected header once more for each label that the caller understands. It first decodes the
+//! input as the kind that the caller names, so other input is refused for its own fault. Then it
+//! looks up the requested part in the bytes themselves.
 #![tactic(auto)]
 
 mod borrowed;

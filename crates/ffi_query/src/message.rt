@@ -78,7 +78,7 @@ fn put_view(lent: &Borrowed<'_>, out: &mut [u8]) -> Result<MessageView, Refusal>
 ///
 /// The message only names its key and its algorithm. Use a key that you trust, and an algorithm
 /// that you allow for it. `known` are the critical labels that you understand. Refuse a message
-/// that names others.
+/// if `is_understood` is false.
 ///
 /// # Errors
 /// - `Short` with the total length of the four texts, if `out` is too small.

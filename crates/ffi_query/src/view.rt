@@ -59,7 +59,7 @@ pub struct MessageView {
     /// of recipients and countersignatures don't.
     pub has_critical: bool,
     /// Whether the caller understands all critical labels, and only protected headers name them.
-    /// True if there are none. Whether the headers have these labels isn't checked.
+    /// The header that names a label must also have a parameter under it. True if there are none.
     pub is_understood: bool,
     /// Whether the message is under its tag.
     pub is_tagged: bool,
