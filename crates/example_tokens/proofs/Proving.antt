@@ -1,6 +1,6 @@
 -- The results of a proof of possession, from the parts of a message up to the token.
 use Rattle.std.specs.Prelude.{IsErrAnd}
-use Rattle.std.proofs.Common.{◌≡◌, ◌≤◌, ℕ, List, [], length, Option, Some, None, false, Result, Ok, Err, inr, subst, sym}
+use Rattle.std.proofs.Common.{◌≡◌, ℕ, List, [], Option, Some, None, false, Result, Ok, Err, inr, subst, sym}
 use Rattle.coset.specs.Calls.{IsStructure}
 use Rattle.coset.specs.CoseKey.{CoseKey}
 use Rattle.coset.specs.Keys.{KeyView}
@@ -10,7 +10,7 @@ use Rattle.cwt_confirm.specs.declared.confirmed.Confirmation.{Confirmation}
 use Rattle.cwt_confirm.specs.declared.confirmed.Confirmation.TheVariants.{Key, EncryptedKey, KeyId}
 use Rattle.cwt_ring.specs.Ring.{CiphersView}
 use Rattle.cwt_verify.specs.Verify.{TokenView}
-use Rattle.example_tokens.specs.Possession.{IsConfirmed, IsMessage, ProvesPossession, ReadsProofKey, VerifiesConfirmed, VerifiesMessage, VerifiesProof}
+use Rattle.example_tokens.specs.Possession.{IsConfirmed, IsMessage, ProvesPossession, ReadsProofKey, VerifiesConfirmed, VerifiesMessage, VerifiesProof, is_short}
 use Rattle.example_tokens.specs.Possession.{VerifiesSealed, is_critical, key_of, seal_of}
 use Rattle.example_tokens.specs.declared.possession.NotPossessed.{NotPossessed}
 use Rattle.example_tokens.specs.declared.possession.NotPossessed.TheVariants as refusal
@@ -69,7 +69,7 @@ unconfirmed c t challenge b (refusal.Signature e) h = absurd h
 -- The result by the confirmed key is that for a challenge of at least 8 bytes.
 pub of_long :
     {E : Type 0} (c : CiphersView E) (t : TokenView) (challenge b : List ℕ) (r : Result (Unit {0}) (NotPossessed E))
-    → 8 ≤ length challenge → VerifiesConfirmed c t challenge b r → ProvesPossession c t challenge b r
+    → is_short challenge ≡ false → VerifiesConfirmed c t challenge b r → ProvesPossession c t challenge b r
 of_long c t challenge b (Ok x) is h = (is, h)
 of_long c t challenge b (Err refusal.ShortChallenge) is h = absurd h.2.3.2
 of_long c t challenge b (Err (refusal.Confirmation e)) is h = (is, h)

@@ -1,5 +1,5 @@
 -- Proofs that the sender of a token possesses the key that the token confirms (RFC 8747, section 3.5).
-use Rattle.std.specs.Prelude.{◌≡◌, ◌≢◌, ◌⊎◌, ◌==◌, ◌||◌, ◌<◌, ◌≤◌, not, ℕ, List, [], length, Option, Some, None, Bool, true, false, Result, Ok, Err}
+use Rattle.std.specs.Prelude.{◌≡◌, ◌≢◌, ◌⊎◌, ◌==◌, ◌||◌, not, nat_lt, ℕ, List, [], length, Option, Some, None, Bool, true, false, Result, Ok, Err}
 use Rattle.std.specs.Option.{IsSomeAnd}
 use Rattle.coset.specs.Calls.{IsStructure}
 use Rattle.coset.specs.CoseKey.{CoseKey}
@@ -109,7 +109,10 @@ VerifiesConfirmed c t challenge b r = (k : KeyView) × IsConfirmed t k × Verifi
 
 -- ---- the challenge
 
--- A challenge has at least 8 bytes, as has the nonce of an attestation token (RFC 9711, section 4.1).
+-- A challenge of fewer than 8 bytes is short, as is such a nonce of an attestation token (RFC 9711, section 4.1).
+abbrev pub is_short : List ℕ → Bool
+is_short challenge = nat_lt (length challenge) 8
+
 abbrev pub ProvesPossession : {E : Type 0} → CiphersView E → TokenView → List ℕ → List ℕ → Result (Unit {0}) (NotPossessed E) → Type 0
-ProvesPossession c t challenge b (Err refusal.ShortChallenge) = length challenge < 8
-ProvesPossession c t challenge b r = (8 ≤ length challenge) × VerifiesConfirmed c t challenge b r
+ProvesPossession c t challenge b (Err refusal.ShortChallenge) = is_short challenge ≡ true
+ProvesPossession c t challenge b r = (is_short challenge ≡ false) × VerifiesConfirmed c t challenge b r

@@ -5,7 +5,7 @@ ghost use Rattle.coset.specs.Keys.{key_view};
 ghost use Rattle.coset.specs.Sign1.{sign1_view};
 ghost use Rattle.cwt_keys.specs.Sealed.{seal_view};
 ghost use Rattle.cwt_verify.specs.Verify.{token_view};
-ghost use Rattle.example_tokens.specs.Possession.{ProvesPossession, ReadsProofKey, VerifiesConfirmed, VerifiesMessage, VerifiesProof, VerifiesSealed, for_proofs, is_critical, key_of};
+ghost use Rattle.example_tokens.specs.Possession.{ProvesPossession, ReadsProofKey, VerifiesConfirmed, VerifiesMessage, VerifiesProof, VerifiesSealed, for_proofs, is_critical, is_short, key_of};
 
 use coset::iana::Algorithm;
 use coset::{CoseError, CoseKey, CoseSign1, RegisteredLabelWithPrivate, TaggedCborSerializable};
@@ -37,6 +37,13 @@ pub enum NotPossessed<E> {
     NotFitting,
     /// The ciphers refused the signature with the confirmed key.
     Signature(E),
+}
+
+/// Returns true if a challenge has fewer than 8 bytes.
+fn is_short(challenge: &[u8]) -> bool
+    ensures { result ≡ is_short challenge.now }
+{
+    challenge.len() < SHORTEST
 }
 
 /// Returns the key for proofs. If it names no algorithm, it is for ES256 alone, because senders and
@@ -207,7 +214,7 @@ pub fn check_possession<C: Ciphers>(
     ensures { ProvesPossession (C.view ciphers.now) (token_view token.now) challenge.now proof.now
         result }
 {
-    if challenge.len() < SHORTEST {
+    if is_short(challenge) {
         return Err(NotPossessed::ShortChallenge);
     }
     verify_confirmed(alloc, token, ciphers, challenge, proof)
