@@ -3,6 +3,7 @@ use Rattle.std.specs.Prelude.{◌==◌, ◌&&◌, if◌then◌else◌, ℕ, List
 use Rattle.std.specs.Cmp.Lexicographic.{pointwise}
 use Rattle.std.specs.List.{list_all, list_any}
 use Rattle.coset_value.specs.Item.{Item, bytes, array, item}
+use Rattle.coset_label.specs.LabelData as label
 use Rattle.coset_label.specs.LabelData.{RegisteredLabelView, as_label}
 use Rattle.coset_claims.specs.Claims.{same_label}
 use Rattle.coset_core.specs.Headers.{HeaderView, ProtectedView, fields_in}
@@ -18,7 +19,7 @@ is_one_of labels l = list_any (λ m. same_label m l) labels
 
 -- The label is one of these, and a parameter of the header that isn't a field.
 abbrev pub is_met : List RegisteredLabelView → HeaderView → RegisteredLabelView → Bool
-is_met labels h l = is_one_of labels l && list_any (λ e. same_label e.0 (as_label l)) (fields_in h).rest
+is_met labels h l = is_one_of labels l && list_any (λ e. label.same_label e.0 (as_label l)) (fields_in h).rest
 
 -- Each critical label is one of these and in the protected header `h`, and the unprotected header `u` lists none (RFC 8152,
 -- section 3.1).

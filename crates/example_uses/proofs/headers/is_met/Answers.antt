@@ -2,9 +2,8 @@ use Rattle.std.proofs.Common.{◌≡◌, ◌∙◌, ◌&&◌, Bool, true, ap, ma
 use Rattle.std.specs.List.{list_any}
 use Rattle.std.proofs.lemmas.Iterator.{YieldsList-from_slice}
 use Rattle.std.proofs.lemmas.Iterator.Search.{any_from_yields_List}
-use Rattle.coset_label.specs.LabelData.{as_label}
+use Rattle.coset_label.specs.LabelData.{as_label, same_label}
 use Rattle.coset_label.specs.Views.{entry_view}
-use Rattle.coset_claims.specs.Claims.{same_label}
 use Rattle.coset_core.specs.Fields.{FieldsView}
 use Rattle.coset_core.specs.Headers.{fields_in}
 use Rattle.coset_core.specs.Views.{critical_view, header_view}
