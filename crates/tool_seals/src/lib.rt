@@ -35,7 +35,8 @@
 //! - `REMARKS` is `critical` if a header of the layer or of a recipient lists critical labels, and
 //!   `both` if a label is in both headers of the layer (RFC 9052, sections 3.1 and 3). The headers
 //!   of the message count for a signature of a `COSE_Sign`. It is `critical,both` for both, and `-`
-//!   for neither.
+//!   for neither. The library's verifier of web tokens refuses a layer with such a label twice, and
+//!   critical labels that it doesn't know.
 //! - `VERDICT` is `fits` or the reason against the key: `algorithm`, `alg`, `kty`, `crv`, `length`,
 //!   `key_ops` or `kid`. See [`Verdict`].
 //! - `KTY` and `CRV` are a number or a text.
