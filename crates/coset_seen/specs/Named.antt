@@ -67,22 +67,6 @@ pub record BeginsPlain (count : ℕ) (b : List ℕ) (n : Named) (s : List ℕ) :
   pub named : AreNamed pairs n
   pub placed : IfSome n.key_id (IsAhead b)
 
--- The bytes b begin with a map that is a plain header and names n, and s follows it.
-pub record BeginsHeader (b : List ℕ) (n : Named) (s : List ℕ) : Type 0 where
-  pub pairs : Pairs
-  pub begins : Begins (dict pairs) s b
-  pub are_plain : ArePlain (negsuc 0) pairs
-  pub named : AreNamed pairs n
-  pub placed : IfSome n.key_id (IsAhead b)
-
--- The bytes b are one plain header, which names n.
-pub record IsHeader (b : List ℕ) (n : Named) : Type 0 where
-  pub pairs : Pairs
-  pub is_item : IsItem b (dict pairs)
-  pub are_plain : ArePlain (negsuc 0) pairs
-  pub named : AreNamed pairs n
-  pub placed : IfSome n.key_id (IsAhead b)
-
 -- The bytes describe a header, within any number of layers.
 abbrev pub DescribesHeader : List ℕ → Type 0
 DescribesHeader b = (k : ℕ) → (x : HeaderView) × Describes (layered_header k) b x

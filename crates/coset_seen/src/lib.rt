@@ -13,11 +13,12 @@ mod elements;
 mod forward;
 mod header;
 mod kind;
+mod labels;
 pub mod laws;
 mod message;
 mod structure;
 
-pub use header::is_plain_header;
 pub use kind::Kind;
-pub use message::{KeyId, Part, Seen, see};
+pub use labels::is_plain_header;
+pub use message::{KeyId, Layout, Part, Seen, layout_of, see};
 pub use structure::{StructureError, put_texts};

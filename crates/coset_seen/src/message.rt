@@ -1,14 +1,19 @@
 //! Messages, seen in the bytes that encode them.
 
 ghost use Rattle.std.specs.Option.{option_copied};
-ghost use Rattle.std.specs.Prelude.{◌≡◌, ◌<◌, ◌^◌, ℕ, List, IfSome, length};
+ghost use Rattle.std.specs.Prelude.{◌≡◌, ◌<◌, ◌^◌, ℕ, List, IfSome, IsTrue, length};
 ghost use Rattle.coset_seen.specs.Begins.{IsAhead};
-ghost use Rattle.coset_seen.specs.Seen.{FindsKeyId, GivesContent, IsContentOf, IsPart, IsSeen, LiesIn, MakesStructure, PutsStructure};
+ghost use Rattle.coset_seen.specs.Layout.{IsDescribed, IsLayout};
+ghost use Rattle.coset_seen.specs.Seen.{FindsKeyId, GivesContent, IsContentOf, IsPart, IsSeen, IsTakenFrom, LiesIn, MakesStructure, PutsStructure};
+ghost use Rattle.coset_seen.specs.declared.kind.Kind.{Kind};
 
 use crate::elements::{Elements, elements_of};
 use crate::forward::Ahead;
 use crate::kind::Kind;
 use crate::structure::{StructureError, put_structure, structure_of};
+use coset::cbor::de::Pull;
+use coset::laws::one_item;
+use coset::{FromPull, Header, ProtectedHeader};
 use std::alloc::Global;
 
 /// Bytes of a message, and their place in the input of [`see`].
@@ -83,16 +88,16 @@ fn within<'a>(outer: Part<'_>, inner: Part<'a>) -> Part<'a>
 
 /// Returns the key identifier of a message.
 fn key_id_of<'a>(elements: Elements<'a>, protected: Part<'a>, input: &[u8]) -> Option<KeyId<'a>>
-    ensures { FindsKeyId input.now protected.entry elements.entry.first.key_id
-        elements.entry.second.key_id result }
+    ensures { FindsKeyId input.now protected.entry elements.entry.first.named.key_id
+        elements.entry.second.named.key_id result }
 {
-    if let Some(found) = elements.first.key_id {
+    if let Some(found) = elements.first.named.key_id {
         return Some(KeyId {
             part: within(protected, part_of(found, protected.bytes)),
             is_protected: true,
         });
     }
-    match elements.second.key_id {
+    match elements.second.named.key_id {
         Some(found) => Some(KeyId {
             part: part_of(found, input),
             is_protected: false,
@@ -108,6 +113,27 @@ fn content_of<'a>(elements: Elements<'a>, input: &[u8]) -> Option<Part<'a>>
     match elements.content {
         Some(found) => Some(part_of(found, input)),
         None => None,
+    }
+}
+
+/// Returns the parts of a message.
+fn taken_from<'a>(
+    kind: Kind,
+    is_tagged: bool,
+    elements: Elements<'a>,
+    input: &'a [u8],
+) -> Seen<'a>
+    ensures { IsTakenFrom kind input.now is_tagged elements.entry result }
+{
+    let protected = part_of(elements.protected, input);
+    Seen {
+        kind,
+        is_tagged,
+        protected,
+        algorithm: elements.first.named.algorithm,
+        key_id: key_id_of(elements, protected, input),
+        content: content_of(elements, input),
+        proof: part_of(elements.proof, input),
     }
 }
 
@@ -134,17 +160,78 @@ pub fn see(kind: Kind, input: &[u8]) -> Option<Seen<'_>>
     // The items that the bytes encode.
     ensures lies { IfSome result (LiesIn kind input.now) }
 {
+    if kind.has_recipients() {
+        return None;
+    }
     let (is_tagged, elements) = elements_of(kind, input)?;
-    let protected = part_of(elements.protected, input);
-    Some(Seen {
-        kind,
-        is_tagged,
-        protected,
-        algorithm: elements.first.algorithm,
-        key_id: key_id_of(elements, protected, input),
-        content: content_of(elements, input),
-        proof: part_of(elements.proof, input),
+    if !elements.is_plain {
+        return None;
+    }
+    Some(taken_from(kind, is_tagged, elements, input))
+}
+
+/// The parts of a message, whatever its headers are. They may be invalid.
+#[derive(Clone, Copy)]
+pub struct Layout<'a> {
+    /// The parts. If the algorithm isn't an integer in the range of `i64`, it is `None` here.
+    pub seen: Seen<'a>,
+    /// Whether the protected header's algorithm isn't an integer in the range of `i64`. If the
+    /// header is valid, the algorithm is then a text.
+    pub has_text: bool,
+    /// Whether one of the headers has `crit`.
+    pub is_critical: bool,
+    front: &'a [u8],
+    is_first_plain: bool,
+    is_second_plain: bool,
+}
+
+/// Finds the parts of a message of this kind, with or without its tag, in the bytes that encode it.
+/// Allocates nothing.
+///
+/// The headers and the recipients aren't checked: [`Layout::is_valid`] checks the headers, and the
+/// facade decodes recipients. Verifies and decrypts nothing.
+///
+/// `None` doesn't mean that the message is invalid. It is returned unless the message is the whole
+/// input, and the protected header, the content, the signature or tag, and the key identifiers are
+/// byte strings of definite length (RFC 8949, section 3.2.3).
+pub fn layout_of(kind: Kind, input: &[u8]) -> Option<Layout<'_>>
+    ensures { IfSome result (IsLayout kind input.now) }
+{
+    let (is_tagged, elements) = elements_of(kind, input)?;
+    Some(Layout {
+        seen: taken_from(kind, is_tagged, elements, input),
+        has_text: elements.first.has_text,
+        is_critical: elements.first.is_critical || elements.second.is_critical,
+        front: elements.front,
+        is_first_plain: elements.first.is_plain,
+        is_second_plain: elements.second.is_plain,
     })
+}
+
+impl Layout<'_> {
+    /// Returns true if both headers are valid and the message has no recipients. The bytes then
+    /// describe the message. Headers that aren't plain are decoded by the facade.
+    ///
+    /// False may also mean that an allocation failed.
+    pub fn is_valid(&self, alloc: Global) -> bool
+        ensures { (k : Kind) (b : List ℕ) → IsLayout k b self.now → IsTrue result
+            → IsDescribed k b self.now.seen }
+    {
+        one_item();
+        if self.seen.kind.has_recipients() {
+            return false;
+        }
+        let Ok((protected, rest)) = Pull::new(self.front) else {
+            return false;
+        };
+        if !self.is_first_plain && ProtectedHeader::from_pull_bstr(alloc, protected).is_err() {
+            return false;
+        }
+        let Ok((unprotected, _)) = Pull::new(rest) else {
+            return false;
+        };
+        self.is_second_plain || Header::from_pull(alloc, unprotected).is_ok()
+    }
 }
 
 impl Seen<'_> {

@@ -123,25 +123,6 @@ pub(crate) fn elements_located(array: Located<'_>) -> Option<Elements<'_>>
     }
 }
 
-/// Returns the first of the remaining elements, and the elements after it.
-pub(crate) fn next_located(elements: Elements<'_>) -> Option<(Located<'_>, Elements<'_>)>
-    ensures element { MatchOption result (elements_left elements.entry ≡ no_items)
-        (λ x. elements_left elements.entry ≡ item (located_item x.0) (elements_left x.1)) }
-    ensures place { (b : List ℕ) → AreElementsIn b elements.entry
-        → IfSome result (λ x. IsLocated b x.0 × AreElementsIn b x.1) }
-{
-    let Elements { members, rest } = elements;
-    let mut members = members;
-    match members.next() {
-        Some(member) => {
-            let found = Located { item: member, rest };
-            let rest = after(rest, member.slice().len());
-            Some((found, Elements { members, rest }))
-        }
-        None => None,
-    }
-}
-
 /// Returns the remaining element at `index`.
 fn nth_located(elements: Elements<'_>, index: usize) -> Option<Located<'_>>
     ensures element { option_map located_item result ≡ nth index (elements_left elements.entry) }

@@ -1,22 +1,22 @@
-//! Messages with plain headers, found in one walk and without allocating (`coset_seen`).
+//! Messages without a list of signatures, found in one walk (`coset_seen`).
 
 ghost use Rattle.std.specs.Option.{option_copied};
-ghost use Rattle.std.specs.Prelude.{◌≡◌, [], IfSome};
+ghost use Rattle.std.specs.Prelude.{◌≡◌, [], IfSome, IsTrue, true};
 ghost use Rattle.ffi_query.specs.Borrowed.{AreTexts};
+ghost use Rattle.ffi_query.specs.Kinds.{IsOf};
 ghost use Rattle.ffi_query.specs.Located.{IsTextIn};
 ghost use Rattle.ffi_query.specs.declared.kind.Kind.{Kind};
-ghost use Rattle.ffi_query.specs.Seen.{IsSeenOf, algorithm_of, both_given, key_id_bytes, key_id_place, kind_in, or_nothing, seen_item, signed_of};
+ghost use Rattle.ffi_query.specs.Seen.{IsAllowed, IsLaidOf, IsSeenOf, algorithm_of, both_given, key_id_bytes, key_id_place, kind_in, or_nothing, seen_item, signed_of};
 ghost use Rattle.coset_seen.specs.Seen.{IsPart, bytes_of};
 
 use crate::borrowed::{KeyId, Texts};
-use crate::fits::is_in_form;
-use crate::kind::{Form, Kind};
+use crate::kind::{Form, Kind, check_by_decoding};
 use crate::located::{Text, after};
 use crate::view::{Algorithm, KeyIdPlace};
 use coset::laws::one_item;
-use coset_seen::{Part, Seen, see};
+use coset_seen::{Layout, Part, layout_of};
 
-/// Returns the kind of a message without recipients and without a list of signatures, and its form.
+/// Returns the kind of a message without a list of signatures, and its form.
 fn kind_in(kind: Kind) -> Option<(coset_seen::Kind, Form)>
     ensures { result ≡ kind_in kind }
 {
@@ -24,20 +24,69 @@ fn kind_in(kind: Kind) -> Option<(coset_seen::Kind, Form)>
         Kind::Sign1(form) => Some((coset_seen::Kind::Sign1, form)),
         Kind::Mac0(form) => Some((coset_seen::Kind::Mac0, form)),
         Kind::Encrypt0(form) => Some((coset_seen::Kind::Encrypt0, form)),
+        Kind::Mac(form) => Some((coset_seen::Kind::Mac, form)),
+        Kind::Encrypt(form) => Some((coset_seen::Kind::Encrypt, form)),
         _ => None,
     }
 }
 
-/// Returns the message of this kind that the bytes encode, if both its headers are plain.
-pub(crate) fn seen_of(kind: Kind, bytes: &[u8]) -> Option<Seen<'_>>
-    ensures { IfSome result (IsSeenOf kind bytes.now) }
+/// Returns true if the form allows a message that is or isn't under its tag, as `is_tagged` says.
+fn is_in_form(form: Form, is_tagged: bool) -> bool
+    ensures { result ≡ true → IsAllowed form is_tagged }
+{
+    match form {
+        Form::Plain => !is_tagged,
+        Form::Tagged => is_tagged,
+        Form::Either => true,
+    }
+}
+
+/// Returns the message of this kind that the bytes may encode. Its headers and its recipients may
+/// be invalid.
+fn laid_of(kind: Kind, bytes: &[u8]) -> Option<Layout<'_>>
+    ensures { IfSome result (IsLaidOf kind bytes.now) }
 {
     let (seen_kind, form) = kind_in(kind)?;
-    let seen = see(seen_kind, bytes)?;
-    if !is_in_form(form, seen.is_tagged) {
+    let layout = layout_of(seen_kind, bytes)?;
+    if !is_in_form(form, layout.seen.is_tagged) {
         return None;
     }
-    Some(seen)
+    Some(layout)
+}
+
+/// Returns true if the bytes are a message of this kind, without a list of signatures or
+/// recipients, and its strings have definite lengths. Only headers that aren't plain are decoded.
+pub(crate) fn is_message(alloc: Global, kind: Kind, bytes: &[u8]) -> bool
+    ensures { IsTrue result → IsOf kind bytes.now }
+{
+    match laid_of(kind, bytes) {
+        Some(layout) => layout.is_valid(alloc),
+        None => false,
+    }
+}
+
+/// Returns true if the laid out message is valid. A message with recipients is decoded.
+fn is_valid(alloc: Global, kind: Kind, layout: &Layout<'_>, bytes: &[u8]) -> bool
+    ensures { IsLaidOf kind bytes.now layout.now → IsTrue result → IsOf kind bytes.now }
+{
+    match kind {
+        Kind::Mac(_) | Kind::Encrypt(_) => check_by_decoding(alloc, kind, bytes).is_ok(),
+        _ => layout.is_valid(alloc),
+    }
+}
+
+/// Returns the message of this kind that the bytes encode, if it has no `crit`.
+pub(crate) fn message_of(alloc: Global, kind: Kind, bytes: &[u8]) -> Option<Layout<'_>>
+    ensures { IfSome result (IsSeenOf kind bytes.now) }
+{
+    let layout = laid_of(kind, bytes)?;
+    if layout.is_critical {
+        return None;
+    }
+    if !is_valid(alloc, kind, &layout, bytes) {
+        return None;
+    }
+    Some(layout)
 }
 
 /// Returns the part as a text of the input.
@@ -51,13 +100,14 @@ fn text_of<'a>(part: Part<'a>, input: &'a [u8]) -> Text<'a>
     }
 }
 
-/// Returns the algorithm of this number, or `Absent` if there is none.
-fn algorithm_of(number: Option<i64>) -> Algorithm
-    ensures { result ≡ algorithm_of number }
+/// Returns the algorithm of this number. If there is none, it is a text or absent.
+fn algorithm_of(number: Option<i64>, has_text: bool) -> Algorithm
+    ensures { result ≡ algorithm_of number has_text }
 {
-    match number {
-        Some(number) => Algorithm::Number(number),
-        None => Algorithm::Absent,
+    match (number, has_text) {
+        (Some(number), _) => Algorithm::Number(number),
+        (None, true) => Algorithm::Text,
+        (None, false) => Algorithm::Absent,
     }
 }
 
@@ -129,22 +179,23 @@ pub(crate) fn has_both(found: Option<Part<'_>>, detached: Option<&[u8]>) -> bool
     }
 }
 
-/// Returns the texts of a message with plain headers.
+/// Returns the texts of a message.
 pub(crate) fn texts_of_seen<'a>(
-    seen: Seen<'a>,
+    layout: Layout<'a>,
     input: &'a [u8],
     detached: Option<&'a [u8]>,
 ) -> Texts<'a>
-    ensures texts { (k : Kind) (h : IsSeenOf k input.now seen.entry)
+    ensures texts { (k : Kind) (h : IsSeenOf k input.now layout.entry)
         → AreTexts k (option_copied detached.entry) input.now (seen_item h) result }
-    ensures protected { result.protected.now ≡ seen.entry.protected.bytes.now }
+    ensures protected { result.protected.now ≡ layout.entry.seen.protected.bytes.now }
     ensures signed { option_copied result.signed
-        ≡ signed_of (bytes_of seen.entry.content) (option_copied detached.entry) }
+        ≡ signed_of (bytes_of layout.entry.seen.content) (option_copied detached.entry) }
 {
     one_item();
+    let seen = layout.seen;
     Texts {
         protected: seen.protected.bytes,
-        algorithm: algorithm_of(seen.algorithm),
+        algorithm: algorithm_of(seen.algorithm, layout.has_text),
         proof: text_of(seen.proof, input),
         content: content_of(seen.content, input),
         key_id: key_id_of(seen.key_id, input),

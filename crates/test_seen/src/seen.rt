@@ -16,6 +16,8 @@ pub fn kind(name: &str) -> Result<Kind> {
         "sign1" => Ok(Kind::Sign1),
         "mac0" => Ok(Kind::Mac0),
         "encrypt0" => Ok(Kind::Encrypt0),
+        "mac" => Ok(Kind::Mac),
+        "encrypt" => Ok(Kind::Encrypt),
         _ => Err(CoseError::UnexpectedItem("word", "kind")),
     }
 }
@@ -31,6 +33,8 @@ fn name(kind: Kind) -> &'static str {
         Kind::Sign1 => "sign1",
         Kind::Mac0 => "mac0",
         Kind::Encrypt0 => "encrypt0",
+        Kind::Mac => "mac",
+        Kind::Encrypt => "encrypt",
     }
 }
 
