@@ -67,9 +67,9 @@ message_items k p us c t w = item (bytes p) (item (dict us) (item (content_item 
 abbrev pub items_of : kinds.Kind → Elements → Pairs → Item → Items
 items_of k e us w = message_items k e.protected.bytes.now us (content_of e.content) e.proof.bytes.now w
 
--- The bytes b begin with the first two elements: the byte string p and a map.
-abbrev pub BeginsHeaders : List ℕ → Pairs → List ℕ → Type 0
-BeginsHeaders p us b = (r : List ℕ) × (s : List ℕ) × Begins (bytes p) r b × Begins (dict us) s r
+-- The bytes b begin with the byte string p, and the bytes d with a map.
+abbrev pub BeginsHeaders : List ℕ → Pairs → List ℕ → List ℕ → Type 0
+BeginsHeaders p us b d = ((r : List ℕ) × Begins (bytes p) r b) × ((s : List ℕ) × Begins (dict us) s d)
 
 -- The elements e of a message of kind k, in the bytes b. The pairs are those of its unprotected header.
 pub record AreElements (k : kinds.Kind) (b : List ℕ) (ps : Pairs) (e : Elements) : Type 0 where
@@ -77,7 +77,7 @@ pub record AreElements (k : kinds.Kind) (b : List ℕ) (ps : Pairs) (e : Element
   pub second : Has ps e.second
   pub plain : e.is_plain ≡ true → (e.first.is_plain ≡ true) × (e.second.is_plain ≡ true)
   pub is_proof : IsProof k e.proof.bytes.now
-  pub front : BeginsHeaders e.protected.bytes.now ps e.front.now
+  pub front : BeginsHeaders e.protected.bytes.now ps e.front.now e.protected.behind.now
   pub protected_in : IsAhead b e.protected
   pub key_id_in : IfSome e.second.named.key_id (IsAhead b)
   pub content_in : IfSome e.content (IsAhead b)

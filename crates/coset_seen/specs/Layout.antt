@@ -29,7 +29,7 @@ pub record IsLayout (k : kinds.Kind) (b : List ℕ) (x : Layout) : Type 0 where
   pub first_plain : x.is_first_plain ≡ true → ArePlain (negsuc 0) first
   pub second_plain : x.is_second_plain ≡ true → ArePlain (negsuc 0) second
   pub is_proof : IsProof k x.seen.proof.bytes.now
-  pub front : BeginsHeaders x.seen.protected.bytes.now second x.front.now
+  pub fronts : BeginsHeaders x.seen.protected.bytes.now second x.fronts.0.now x.fronts.1.now
   pub protected_in : IsPart b x.seen.protected
   pub key_id_in : IfSome x.seen.key_id (λ i. IsPart b i.part)
   pub content_in : IfSome x.seen.content (IsPart b)

@@ -1,6 +1,6 @@
 //! The elements of a message, read forward.
 
-ghost use Rattle.std.specs.Prelude.{◌≡◌, ℕ, List, IfSome, true};
+ghost use Rattle.std.specs.Prelude.{◌≡◌, [], IfSome, true};
 ghost use Rattle.coset.specs.Grammar.{IsHeaded};
 ghost use Rattle.coset_seen.specs.Begins.{IsAhead};
 ghost use Rattle.coset_seen.specs.Elements.{BeginsContent, BeginsElements, BeginsMessage, BeginsProof, IsContent, IsCounted, IsMessage, IsUntagged};
@@ -87,6 +87,7 @@ fn proof_at(kind: Kind, input: &[u8]) -> Option<(Ahead<'_>, &[u8])>
 
 /// Returns the elements of a message, which begin at the front, and the bytes after them.
 /// `is_definite` says whether their array has a definite length.
+#[inline(always)]
 fn elements_at(kind: Kind, is_definite: bool, input: &[u8]) -> Option<(Elements<'_>, &[u8])>
     ensures { IfSome result (λ x. BeginsElements kind input.now x.0 x.1.now) }
 {
@@ -118,6 +119,7 @@ fn is_counted(count: Option<u64>, kind: Kind) -> bool
 }
 
 /// Returns the elements of the message at the front.
+#[inline(always)]
 pub(crate) fn message_at(kind: Kind, input: &[u8]) -> Option<Elements<'_>>
     ensures { IfSome result (BeginsMessage kind input.now) }
 {
@@ -143,6 +145,7 @@ fn untagged(number: u64, input: &[u8]) -> (bool, &[u8])
 
 /// Returns the elements of the message that the input encodes, and whether it is under its tag. The
 /// headers may be invalid.
+#[inline(always)]
 pub(crate) fn elements_of(kind: Kind, input: &[u8]) -> Option<(bool, Elements<'_>)>
     ensures { IfSome result (λ x. IsMessage kind input.now x.0 x.1) }
 {

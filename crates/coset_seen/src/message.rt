@@ -2,6 +2,8 @@
 
 ghost use Rattle.std.specs.Option.{option_copied};
 ghost use Rattle.std.specs.Prelude.{◌≡◌, ◌<◌, ◌^◌, ℕ, List, IfSome, IsTrue, length};
+ghost use Rattle.coset.specs.Headers.{HeaderView, ProtectedView, header, protected};
+ghost use Rattle.coset.specs.Item.{bytes, dict};
 ghost use Rattle.coset_seen.specs.Begins.{IsAhead};
 ghost use Rattle.coset_seen.specs.Layout.{IsDescribed, IsLayout};
 ghost use Rattle.coset_seen.specs.Seen.{FindsKeyId, GivesContent, IsContentOf, IsPart, IsSeen, IsTakenFrom, LiesIn, MakesStructure, PutsStructure};
@@ -87,6 +89,7 @@ fn within<'a>(outer: Part<'_>, inner: Part<'a>) -> Part<'a>
 }
 
 /// Returns the key identifier of a message.
+#[inline(always)]
 fn key_id_of<'a>(elements: Elements<'a>, protected: Part<'a>, input: &[u8]) -> Option<KeyId<'a>>
     ensures { FindsKeyId input.now protected.entry elements.entry.first.named.key_id
         elements.entry.second.named.key_id result }
@@ -107,6 +110,7 @@ fn key_id_of<'a>(elements: Elements<'a>, protected: Part<'a>, input: &[u8]) -> O
 }
 
 /// Returns the content of a message.
+#[inline(always)]
 fn content_of<'a>(elements: Elements<'a>, input: &[u8]) -> Option<Part<'a>>
     ensures { IsContentOf input.now elements.entry.content result }
 {
@@ -117,6 +121,7 @@ fn content_of<'a>(elements: Elements<'a>, input: &[u8]) -> Option<Part<'a>>
 }
 
 /// Returns the parts of a message.
+#[inline(always)]
 fn taken_from<'a>(
     kind: Kind,
     is_tagged: bool,
@@ -180,7 +185,9 @@ pub struct Layout<'a> {
     pub has_text: bool,
     /// Whether one of the headers has `crit`.
     pub is_critical: bool,
-    front: &'a [u8],
+    /// The bytes from the protected header's byte string on, and those from the unprotected header
+    /// on.
+    fronts: (&'a [u8], &'a [u8]),
     is_first_plain: bool,
     is_second_plain: bool,
 }
@@ -194,6 +201,7 @@ pub struct Layout<'a> {
 /// `None` doesn't mean that the message is invalid. It is returned unless the message is the whole
 /// input, and the protected header, the content, the signature or tag, and the key identifiers are
 /// byte strings of definite length (RFC 8949, section 3.2.3).
+#[inline(always)]
 pub fn layout_of(kind: Kind, input: &[u8]) -> Option<Layout<'_>>
     ensures { IfSome result (IsLayout kind input.now) }
 {
@@ -202,13 +210,43 @@ pub fn layout_of(kind: Kind, input: &[u8]) -> Option<Layout<'_>>
         seen: taken_from(kind, is_tagged, elements, input),
         has_text: elements.first.has_text,
         is_critical: elements.first.is_critical || elements.second.is_critical,
-        front: elements.front,
+        fronts: (elements.front, elements.protected.behind),
         is_first_plain: elements.first.is_plain,
         is_second_plain: elements.second.is_plain,
     })
 }
 
 impl Layout<'_> {
+    /// Returns true if the protected header is valid.
+    fn is_first_valid(&self, alloc: Global) -> bool
+        ensures { (k : Kind) (b : List ℕ) (x : IsLayout k b self.now) → IsTrue result
+            → (p : ProtectedView) × protected.describes (bytes self.now.seen.protected.bytes.now) p }
+    {
+        one_item();
+        if self.is_first_plain {
+            return true;
+        }
+        match Pull::new(self.fronts.0) {
+            Ok((protected, _)) => ProtectedHeader::from_pull_bstr(alloc, protected).is_ok(),
+            Err(_) => false,
+        }
+    }
+
+    /// Returns true if the unprotected header is valid.
+    fn is_second_valid(&self, alloc: Global) -> bool
+        ensures { (k : Kind) (b : List ℕ) (x : IsLayout k b self.now) → IsTrue result
+            → (u : HeaderView) × header.describes (dict x.second) u }
+    {
+        one_item();
+        if self.is_second_plain {
+            return true;
+        }
+        match Pull::new(self.fronts.1) {
+            Ok((unprotected, _)) => Header::from_pull(alloc, unprotected).is_ok(),
+            Err(_) => false,
+        }
+    }
+
     /// Returns true if both headers are valid and the message has no recipients. The bytes then
     /// describe the message. Headers that aren't plain are decoded by the facade.
     ///
@@ -217,20 +255,13 @@ impl Layout<'_> {
         ensures { (k : Kind) (b : List ℕ) → IsLayout k b self.now → IsTrue result
             → IsDescribed k b self.now.seen }
     {
-        one_item();
         if self.seen.kind.has_recipients() {
             return false;
         }
-        let Ok((protected, rest)) = Pull::new(self.front) else {
-            return false;
-        };
-        if !self.is_first_plain && ProtectedHeader::from_pull_bstr(alloc, protected).is_err() {
-            return false;
+        if self.is_first_valid(alloc) {
+            return self.is_second_valid(alloc);
         }
-        let Ok((unprotected, _)) = Pull::new(rest) else {
-            return false;
-        };
-        self.is_second_plain || Header::from_pull(alloc, unprotected).is_ok()
+        false
     }
 }
 

@@ -4,11 +4,9 @@ pub mod Valued
 pub mod Viewed
 pub mod Known
 pub mod Locating
-pub mod Fitting
-pub mod Finding
-pub mod Naming
-pub mod Lending
+pub pub mod Finding
+pub pub mod Lending
 pub mod Spanning
 pub mod Placing
 pub mod Missing
-pub mod PlainMessages
+pub mod Laid

@@ -2,7 +2,6 @@
 use Rattle.std.specs.Prelude.{◌≡◌, ◌++◌, ◌-◌, ◌+◌, ℕ, ℤ, List, length, Option, Some, None, Bool, true, false, Result, Ok, Err, if◌then◌else◌}
 use Rattle.coset.specs.Item.{Item}
 use Rattle.ffi_query.specs.declared.kind.Kind as kinds
-use Rattle.ffi_query.specs.declared.borrowed.Borrowed as declared
 use Rattle.ffi_query.specs.declared.borrowed.Texts.{Texts}
 use Rattle.ffi_query.specs.declared.located.Text.{Text}
 use Rattle.coset.specs.CoseError.TheVariants as memory
@@ -43,14 +42,6 @@ pub record IsMessageSpans (k : kinds.Kind) (i : ℕ) (aad : List ℕ) (d : Optio
   pub content : IsStart b t m.content view.content
   pub key_id : IsStart b t m.key_id view.key_id
   pub len : m.len ≡ length t
-
--- The places of texts that are in the input.
-pub record AreBorrowedSpans (b : List ℕ) (x : declared.Borrowed) (m : MessageSpans) : Type 0 where
-  pub view : m.view ≡ x.view
-  pub proof : (m.proof.is_input ≡ true) × (IsTextIn b x.proof → IsAt b m.proof.at x.proof.bytes.now)
-  pub content : (m.content.is_input ≡ true) × (IsTextIn b x.content → IsAt b m.content.at x.content.bytes.now)
-  pub key_id : (m.key_id.is_input ≡ true) × (IsTextIn b x.key_id → IsAt b m.key_id.at x.key_id.bytes.now)
-  pub len : m.len ≡ x.view.structure_len
 
 -- The text s of the input b is at that place.
 abbrev pub IsBorrowedStart : List ℕ → Start → Text → Type 0

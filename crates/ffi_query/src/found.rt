@@ -64,6 +64,20 @@ fn check_item(alloc: Global, kind: Kind, bytes: &[u8]) -> Result<()>
     }
 }
 
+/// Checks that bytes, which are one item, are of this kind. The content of a message that
+/// `is_message` finds isn't copied.
+///
+/// # Errors
+/// The errors of [`check`].
+fn check_message_or_item(alloc: Global, kind: Kind, bytes: &[u8]) -> Result<()>
+    ensures { (w : Item) → IsItem bytes.now w → Checks kind bytes.now result }
+{
+    if is_message(alloc, kind, bytes) {
+        return Ok(());
+    }
+    check_item(alloc, kind, bytes)
+}
+
 /// Finds the item of this kind that the bytes encode, by decoding it whole. A [`Kind::Any`] isn't
 /// decoded.
 ///
@@ -86,11 +100,9 @@ pub(crate) fn find_decoded(alloc: Global, kind: Kind, bytes: &[u8]) -> Result<Fo
 pub(crate) fn find_item(alloc: Global, kind: Kind, bytes: &[u8]) -> Result<Found<'_>>
     ensures { MatchResult result (IsFound kind bytes.now) (λ e. IsRefused kind bytes.now e) }
 {
-    if is_message(alloc, kind, bytes) {
-        let item = whole_item(bytes)?;
-        return Ok(found_in(kind, item, bytes));
-    }
-    find_decoded(alloc, kind, bytes)
+    let item = whole_of(alloc, kind, bytes)?;
+    check_message_or_item(alloc, kind, bytes)?;
+    Ok(found_in(kind, item, bytes))
 }
 
 /// Checks that the bytes are an item of this kind.

@@ -15,6 +15,7 @@ use crate::located::{Text, after};
 use crate::view::{Algorithm, KeyIdPlace};
 use coset::laws::one_item;
 use coset_seen::{Layout, Part, layout_of};
+use std::alloc::Global;
 
 /// Returns the kind of a message without a list of signatures, and its form.
 fn kind_in(kind: Kind) -> Option<(coset_seen::Kind, Form)>
@@ -31,6 +32,7 @@ fn kind_in(kind: Kind) -> Option<(coset_seen::Kind, Form)>
 }
 
 /// Returns true if the form allows a message that is or isn't under its tag, as `is_tagged` says.
+#[inline(always)]
 fn is_in_form(form: Form, is_tagged: bool) -> bool
     ensures { result ≡ true → IsAllowed form is_tagged }
 {
@@ -43,6 +45,7 @@ fn is_in_form(form: Form, is_tagged: bool) -> bool
 
 /// Returns the message of this kind that the bytes may encode. Its headers and its recipients may
 /// be invalid.
+#[inline(always)]
 fn laid_of(kind: Kind, bytes: &[u8]) -> Option<Layout<'_>>
     ensures { IfSome result (IsLaidOf kind bytes.now) }
 {
@@ -66,6 +69,7 @@ pub(crate) fn is_message(alloc: Global, kind: Kind, bytes: &[u8]) -> bool
 }
 
 /// Returns true if the laid out message is valid. A message with recipients is decoded.
+#[inline(always)]
 fn is_valid(alloc: Global, kind: Kind, layout: &Layout<'_>, bytes: &[u8]) -> bool
     ensures { IsLaidOf kind bytes.now layout.now → IsTrue result → IsOf kind bytes.now }
 {
@@ -76,6 +80,7 @@ fn is_valid(alloc: Global, kind: Kind, layout: &Layout<'_>, bytes: &[u8]) -> boo
 }
 
 /// Returns the message of this kind that the bytes encode, if it has no `crit`.
+#[inline(always)]
 pub(crate) fn message_of(alloc: Global, kind: Kind, bytes: &[u8]) -> Option<Layout<'_>>
     ensures { IfSome result (IsSeenOf kind bytes.now) }
 {
@@ -180,6 +185,7 @@ pub(crate) fn has_both(found: Option<Part<'_>>, detached: Option<&[u8]>) -> bool
 }
 
 /// Returns the texts of a message.
+#[inline(always)]
 pub(crate) fn texts_of_seen<'a>(
     layout: Layout<'a>,
     input: &'a [u8],

@@ -5,7 +5,7 @@ ghost use Rattle.std.specs.Prelude.{◌≡◌, ◌<◌, ◌+◌, ◌^◌, ◌++�
 ghost use Rattle.std.specs.Option.{option_copied};
 ghost use Rattle.ffi_query.specs.Results.{ReturnsWith, PutsTexts};
 ghost use Rattle.ffi_query.specs.Located.{IsTextIn};
-ghost use Rattle.ffi_query.specs.Spans.{AreBorrowedSpans, AreUnsizedSpans, IsAt, IsMessageSpans, copied, copied_spans, refusal_of, with_structure, written_at};
+ghost use Rattle.ffi_query.specs.Spans.{AreUnsizedSpans, IsAt, IsMessageSpans, copied, copied_spans, refusal_of, with_structure, written_at};
 ghost use Rattle.ffi_query.specs.declared.spans.MessageSpans.{MessageSpans};
 ghost use Rattle.ffi_query.specs.View.{HasNoView};
 

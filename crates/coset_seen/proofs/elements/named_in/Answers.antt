@@ -1,5 +1,5 @@
 use Rattle.std.proofs.Common.{◌∙◌, ap, length, nat_eq, sym, true≢false}
-use Rattle.coset_seen.proofs.Seeing.{content_of_header}
+use Rattle.coset_seen.proofs.Messages.{content_of_header}
 use Rattle.coset_seen.proofs.elements.named_in.Goals as goal
 
 pub returns : goal.returns

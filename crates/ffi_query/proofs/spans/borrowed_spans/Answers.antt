@@ -6,9 +6,9 @@ use Rattle.ffi_query.specs.Results.{IsEncodingOf}
 use Rattle.ffi_query.specs.Seen.{seen_item, signed_of}
 use Rattle.ffi_query.specs.Spans.{IsMessageSpans, with_structure}
 use Rattle.ffi_query.specs.View.{HasNoView}
-use Rattle.ffi_query.proofs.PlainMessages.{item_of, once_of, structure_of_plain, tells_of}
+use Rattle.ffi_query.proofs.Laid.{item_of, once_of, structure_of_seen, tells_of}
 use Rattle.ffi_query.proofs.Spanning.{plain_refused, plain_spans_are}
-use Rattle.ffi_query.proofs.spans.plain_spans.Goals as goal
+use Rattle.ffi_query.proofs.spans.borrowed_spans.Goals as goal
 
 pub returns-in-Ok : goal.returns-in-Ok
 returns-in-Ok c =
@@ -17,20 +17,21 @@ returns-in-Ok c =
     let b = c.args.bytes.now in
     let aad = c.args.external_aad.now in
     let d = option_copied c.args.detached in
-    let s = c.in_ok-seen.seen in
-    let h = c.in_ok-seen.ensures in
+    let y = c.in_ok-layout.layout in
+    let s = y.seen in
+    let h = c.in_ok-layout.ensures in
     let x = c.texts_of_seen-texts.result in
     let texts = c.texts_of_seen-texts.ensures in
-    let found = structure_of_plain k b s h aad c.args.out.now c.put_structure.new.out d _ (rw c.in-Ok.is at c.put_structure.ensures)
+    let found = structure_of_seen k b y h aad c.args.out.now c.put_structure.new.out d _ (rw c.in-Ok.is at c.put_structure.ensures)
     ((λ e. absurd (cc)), (λ e. absurd (cc))) in
     let t = found.0 in
     let encoded = subst (λ o. IsEncodingOf (structure_by k aad x.protected.now o) t) (sym texts.signed)
     (subst (λ p. IsEncodingOf (structure_by k aad p (signed_of (bytes_of s.content) d)) t) (sym texts.protected) found.1) in
     let are = plain_spans_are k i aad d ns b t (seen_item h) x s.is_tagged c.in_ok-len.len c.unsized_spans-spans.result (texts.texts k h)
-    c.unsized_spans-spans.ensures c.in_ok-len.ensures encoded (tells_of c.one_item.ensures k b s h)
-    (once_of k b s h d (sym c.has_both.ensures ∙ c.if-has_both.false)) in (
+    c.unsized_spans-spans.ensures c.in_ok-len.ensures encoded (tells_of k b y h c.one_item.ensures)
+    (once_of k b y h d (sym c.has_both.ensures ∙ c.if-has_both.false)) in (
       seen_item h,
-      item_of k b s h,
+      item_of k b y h,
       (
         t,
         subst (λ m. IsMessageSpans k i aad d ns b (seen_item h) m t) (sym c.with_structure.ensures)
@@ -46,10 +47,11 @@ returns-in_ok-refusal-in-Err c =
     let b = c.args.bytes.now in
     let aad = c.args.external_aad.now in
     let d = option_copied c.args.detached in
-    let s = c.in_ok-seen.seen in
-    let h = c.in_ok-seen.ensures in
+    let y = c.in_ok-layout.layout in
+    let s = y.seen in
+    let h = c.in_ok-layout.ensures in
     let texts = c.texts_of_seen-texts.ensures in
-    plain_refused k i aad d ns b s h c.texts_of_seen-texts.result c.in_ok-len.len c.unsized_spans-spans.result c.args.out.now c.put_structure.new.out
+    plain_refused k i aad d ns b y h c.texts_of_seen-texts.result c.in_ok-len.len c.unsized_spans-spans.result c.args.out.now c.put_structure.new.out
     (HasNoView k i aad d ns) c.in-Err.error c.in_ok-refusal-in-Err.refusal (texts.texts k h) texts.protected texts.signed c.unsized_spans-spans.ensures
-    c.in_ok-len.ensures (tells_of c.one_item.ensures k b s h) (once_of k b s h d (sym c.has_both.ensures ∙ c.if-has_both.false))
+    c.in_ok-len.ensures (tells_of k b y h c.one_item.ensures) (once_of k b y h d (sym c.has_both.ensures ∙ c.if-has_both.false))
     (rw c.in-Err.is at c.put_structure.ensures) (sym c.in_ok-refusal-in-Err.ensures)
