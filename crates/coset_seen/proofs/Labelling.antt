@@ -4,7 +4,7 @@ use Rattle.std.proofs.Common.{Bor, refl, sym, ap, subst, inl, inr, arith, FitsSi
 use Rattle.std.specs.Int.{w64}
 use Rattle.std.specs.Ordering.{int_eq}
 use Rattle.std.specs.Option.{option_or}
-use Rattle.std.specs.Prelude.{IfSome, option_map}
+use Rattle.std.specs.Prelude.{IfSome, MatchOption, option_map}
 use Rattle.std.proofs.lemmas.Bool.Decides.{Decides-int_eq}
 use Rattle.std.proofs.lemmas.List.{append_assoc}
 use Rattle.coset.specs.Grammar.{ArePairEncodings, EnclosesContent, IsHead}
@@ -18,7 +18,7 @@ use Rattle.coset_seen.specs.declared.header.Named.{Named}
 use Rattle.coset_seen.specs.declared.labels.Header.{Header}
 use Rattle.coset_seen.specs.Begins.{Closes, IsAhead, Opens}
 use Rattle.coset_seen.specs.Labels.{BeginsHeader, BeginsPairs, EndsWith, GoesOn, Has, IsNoNumber, IsNumber, NamesAlgorithm, Takes, TakesAlgorithm, TakesKeyId, TakesNone, is_key}
-use Rattle.coset_seen.specs.Labels.{key_id_item, value_if}
+use Rattle.coset_seen.specs.Labels.{TakesNumber, is_text, key_id_item, names_algorithm, value_if}
 use Rattle.coset_seen.specs.Named.{AreNamed, BeginsPlain, is_same, value_of}
 use Rattle.coset_seen.specs.Plain.{ArePlain, IsPlainValue}
 use Rattle.coset_seen.proofs.Fronts.{ahead_in}
@@ -188,12 +188,45 @@ takes_other b k v h one two four = record {
   is_plain = refl;
 }
 
--- The algorithm, if there was none.
+-- The first algorithm is kept.
+pub algorithm_kept : (h : Header) (v : Item) → names_algorithm h.named.algorithm h.has_text ≡ true → TakesAlgorithm h v h
+algorithm_kept h v is = record {
+  algorithm = λ o n. go o h.named.algorithm h.has_text is n;
+  key_id = refl;
+  is_critical = refl;
+  is_plain = refl;
+}
+  where
+    there : (o : Option Item) (w : Item) → o ≡ Some w → option_or o (Some v) ≡ Some w
+    there None w e = absurd (none_is e)
+    there (Some u) w e = e
+
+    go : (o : Option Item) (a : Option ℤ) (t : Bool) → names_algorithm a t ≡ true → NamesAlgorithm o a t → NamesAlgorithm (option_or o (Some v)) a t
+    go o (Some n) t e h = (h.0, there o h.0 h.1, h.2)
+    go o None true e h = (h.0, there o h.0 h.1, h.2)
+    go o None false e h = absurd (true≢false (sym e))
+
+-- The first algorithm is taken.
 pub algorithm_taken :
-    (h : Header) (v : Item) (a : Option ℤ) (t : Bool) → h.named.algorithm ≡ None → h.has_text ≡ false
-    → ((o : Option Item) → NamesAlgorithm o None false → NamesAlgorithm (option_or o (Some v)) a t)
-    → (o : Option Item) → NamesAlgorithm o h.named.algorithm h.has_text → NamesAlgorithm (option_or o (Some v)) a t
-algorithm_taken h v a t none no_text f o n = f o (subst (NamesAlgorithm o None) no_text (subst (λ y. NamesAlgorithm o y h.has_text) none n))
+    (h x : Header) (v : Item) (a : Option ℤ) → names_algorithm h.named.algorithm h.has_text ≡ false → MatchOption a (IsNoNumber v) (IsNumber v)
+    → TakesNumber h a x → TakesAlgorithm h v x
+algorithm_taken h x v a none is it = record {
+  algorithm = λ o n. subst (λ y. NamesAlgorithm (option_or o (Some v)) y x.has_text) (sym it.algorithm)
+      (subst (NamesAlgorithm (option_or o (Some v)) a) (sym it.has_text)
+      (subst (λ y. NamesAlgorithm y a (is_text a)) (ap (λ y. option_or y (Some v)) (sym (nothing o h.named.algorithm h.has_text none n))) (found a is)));
+  key_id = it.key_id;
+  is_critical = it.is_critical;
+  is_plain = it.is_plain;
+}
+  where
+    nothing : (o : Option Item) (a : Option ℤ) (t : Bool) → names_algorithm a t ≡ false → NamesAlgorithm o a t → o ≡ None
+    nothing o (Some n) t e h = absurd (true≢false e)
+    nothing o None true e h = absurd (true≢false e)
+    nothing o None false e h = h
+
+    found : (a : Option ℤ) → MatchOption a (IsNoNumber v) (IsNumber v) → NamesAlgorithm (Some v) a (is_text a)
+    found (Some n) h = (v, refl, h)
+    found None h = (v, refl, h)
 
 -- ---- any pairs
 

@@ -2,15 +2,16 @@
 use Rattle.std.proofs.Common.{◌≡◌, ◌∙◌, ◌++◌, ◌∷◌, ℕ, List, [], Option, Some, None, Bool, true, false, refl, sym, ap, subst, inl, inr}
 use Rattle.std.specs.Prelude.{IfSome}
 use Rattle.std.proofs.lemmas.List.{append_assoc, append-nil}
-use Rattle.coset.specs.Item.{Item, Pairs, no_pairs, tag, array, bytes, dict, items_count}
-use Rattle.coset.specs.Grammar.{IsEncoding, IsHeaded, IsItem}
+use Rattle.coset.specs.Item.{Item, Pairs, item, no_items, no_pairs, tag, array, bytes, dict, null, items_count}
+use Rattle.coset.specs.Grammar.{AreEncodings, IsEncoding, IsHeaded, IsItem}
 use Rattle.coset_seen.specs.declared.elements.Elements.{Elements}
 use Rattle.coset_seen.specs.declared.forward.Ahead.{Ahead}
 use Rattle.coset_seen.specs.declared.kind.Kind as kinds
 use Rattle.coset_seen.specs.declared.kind.Kind.TheVariants.{Sign1, Mac0, Encrypt0, Mac, Encrypt}
 use Rattle.coset_seen.specs.declared.labels.Header.{Header}
 use Rattle.coset_seen.specs.Begins.{Begins, Closes, IsAhead, Opens}
-use Rattle.coset_seen.specs.Elements.{AreElements, BeginsContent, BeginsElements, BeginsMessage, BeginsProof, IsContent, IsCounted, IsMessage, IsUntagged, items_of}
+use Rattle.coset_seen.specs.Elements.{AreElements, BeginsContent, BeginsElements, BeginsMessage, BeginsProof, IsContent, IsCounted, IsMessage, IsProof, IsUntagged, items_of}
+use Rattle.coset_seen.specs.Elements.{proof_items}
 use Rattle.coset_seen.specs.Kinds.{elements_of, tag_of}
 use Rattle.coset_seen.specs.Labels.{BeginsHeader, EndsWith, IsHeader, TakesNone}
 use Rattle.coset_seen.proofs.Fronts.{ahead_in}
@@ -49,6 +50,63 @@ content_of_header b (Some n) filled h = record { pairs = h.pairs; is_map = inr (
 content_in : (b x s : List ℕ) (o : Option Ahead) → b ≡ x ++ s → IfSome o (IsAhead s) → IfSome o (IsAhead b)
 content_in b x s None e h = h
 content_in b x s (Some t) e h = ahead_in b x s t e h
+
+-- ---- the elements after the content
+
+empty_ahead : (b : List ℕ) (t : Ahead) → t.bytes.now ≡ [] → t.behind.now ≡ b → IsAhead b t
+empty_ahead b t empty front = record { before = []; parts = sym front ∙ ap (λ y. y ++ t.behind.now) (sym empty) }
+
+one_encoded : (v : Item) (c : List ℕ) → IsEncoding v c → AreEncodings (item v no_items) c
+one_encoded v c e = (c, [], e, refl, sym (append-nil c))
+
+-- A signature or a tag.
+pub proof_alone :
+    (k : kinds.Kind) (b : List ℕ) (t : Ahead) → ((w : Item) → proof_items k t.bytes.now w ≡ item (bytes t.bytes.now) no_items) → IsProof k t.bytes.now
+    → Begins (bytes t.bytes.now) t.behind.now b → IsAhead b t → BeginsProof k b t t.behind.now
+proof_alone k b t same is e ahead = record {
+  recipients = null;
+  encoding = e.0;
+  parts = e.2;
+  are_encoded = subst (λ vs. AreEncodings vs e.0) (sym (same null)) (one_encoded (bytes t.bytes.now) e.0 e.1);
+  is_proof = is;
+  placed = ahead;
+}
+
+-- A tag and recipients.
+pub proof_and_recipients :
+    (b : List ℕ) (t : Ahead) (w : Item) (s : List ℕ) → Begins (bytes t.bytes.now) t.behind.now b → IsAhead b t → Begins w s t.behind.now
+    → BeginsProof Mac b t s
+proof_and_recipients b t w s e ahead f = record {
+  recipients = w;
+  encoding = e.0 ++ f.0;
+  parts = e.2 ∙ (ap (λ y. e.0 ++ y) f.2 ∙ sym (append_assoc e.0 f.0 s));
+  are_encoded = (e.0, f.0, e.1, one_encoded w f.0 f.1, refl);
+  is_proof = tt;
+  placed = ahead;
+}
+
+-- Recipients alone.
+pub recipients_alone :
+    (b : List ℕ) (t : Ahead) (w : Item) (s : List ℕ) → t.bytes.now ≡ [] → t.behind.now ≡ b → Begins w s b → BeginsProof Encrypt b t s
+recipients_alone b t w s empty front f = record {
+  recipients = w;
+  encoding = f.0;
+  parts = f.2;
+  are_encoded = one_encoded w f.0 f.1;
+  is_proof = empty;
+  placed = empty_ahead b t empty front;
+}
+
+-- No element.
+pub no_proof : (b : List ℕ) (t : Ahead) → t.bytes.now ≡ [] → t.behind.now ≡ b → BeginsProof Encrypt0 b t b
+no_proof b t empty front = record {
+  recipients = null;
+  encoding = [];
+  parts = refl;
+  are_encoded = refl;
+  is_proof = empty;
+  placed = empty_ahead b t empty front;
+}
 
 pub elements_begin :
     (k : kinds.Kind) (b : List ℕ) (e : Elements) (r s z : List ℕ) → Begins (bytes e.protected.bytes.now) e.protected.behind.now b → IsAhead b e.protected

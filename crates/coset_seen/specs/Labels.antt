@@ -27,6 +27,11 @@ NamesAlgorithm o (Some n) t = (w : Item) × (o ≡ Some w) × IsNumber w n
 NamesAlgorithm o None true = (w : Item) × (o ≡ Some w) × IsNoNumber w
 NamesAlgorithm o None false = o ≡ None
 
+-- There is a value of alg.
+abbrev pub names_algorithm : Option ℤ → Bool → Bool
+names_algorithm (Some n) t = true
+names_algorithm None t = t
+
 -- The key identifier as an item.
 abbrev pub key_id_item : Named → Option Item
 key_id_item n = option_map (λ t. bytes t.bytes.now) n.key_id
@@ -51,6 +56,19 @@ pub record TakesNone (plain : Bool) (h : Header) : Type 0 where
 -- The value, if the test is true.
 abbrev pub value_if : Bool → Item → Option Item
 value_if t v = if t then Some v else None
+
+-- There is no number.
+abbrev pub is_text : Option ℤ → Bool
+is_text (Some n) = false
+is_text None = true
+
+-- The header x is h with this algorithm.
+pub record TakesNumber (h : Header) (a : Option ℤ) (x : Header) : Type 0 where
+  pub algorithm : x.named.algorithm ≡ a
+  pub has_text : x.has_text ≡ is_text a
+  pub key_id : x.named.key_id ≡ h.named.key_id
+  pub is_critical : x.is_critical ≡ h.is_critical
+  pub is_plain : x.is_plain ≡ h.is_plain
 
 -- The header x is h with the value v under alg.
 pub record TakesAlgorithm (h : Header) (v : Item) (x : Header) : Type 0 where

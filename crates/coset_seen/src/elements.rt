@@ -85,6 +85,13 @@ fn proof_at(kind: Kind, input: &[u8]) -> Option<(Ahead<'_>, &[u8])>
     }
 }
 
+/// Returns true if the array has a definite length and both headers are plain.
+fn are_plain(is_definite: bool, first: bool, second: bool) -> bool
+    ensures { result ≡ true → (first ≡ true) × (second ≡ true) }
+{
+    is_definite && first && second
+}
+
 /// Returns the elements of a message, which begin at the front, and the bytes after them.
 /// `is_definite` says whether their array has a definite length.
 #[inline(always)]
@@ -97,7 +104,7 @@ fn elements_at(kind: Kind, is_definite: bool, input: &[u8]) -> Option<(Elements<
     let (content, rest) = content_at(rest)?;
     let (proof, rest) = proof_at(kind, rest)?;
     let elements = Elements {
-        is_plain: is_definite && first.is_plain && second.is_plain,
+        is_plain: are_plain(is_definite, first.is_plain, second.is_plain),
         front: input,
         protected,
         first,

@@ -1,13 +1,12 @@
 //! Headers, plain or not, with their algorithm, `crit` and key identifier.
 
 ghost use Rattle.std.specs.Ordering.{int_eq};
-ghost use Rattle.std.specs.Prelude.{◌≡◌, ◌++◌, List, ℕ, IfSome, IsTrue, MatchOption, false, pos, true};
+ghost use Rattle.std.specs.Prelude.{◌≡◌, List, ℕ, IfSome, IsTrue, MatchOption, None, Some};
 ghost use Rattle.coset.specs.Headers.{HeaderView, layered_header};
-ghost use Rattle.coset.specs.Parts.{as_integer};
 ghost use Rattle.coset.specs.Pulls.{pull_item};
 ghost use Rattle.coset.specs.Results.{Describes};
-ghost use Rattle.coset_seen.specs.Begins.{Begins, IsAhead};
-ghost use Rattle.coset_seen.specs.Labels.{BeginsHeader, BeginsPairs, GoesOn, IsHeader, IsNoNumber, IsNumber, Takes, TakesAlgorithm, TakesKeyId, TakesNone};
+ghost use Rattle.coset_seen.specs.Begins.{Begins};
+ghost use Rattle.coset_seen.specs.Labels.{BeginsHeader, BeginsPairs, GoesOn, IsHeader, IsNoNumber, IsNumber, Takes, TakesAlgorithm, TakesKeyId, TakesNone, TakesNumber, names_algorithm};
 ghost use Rattle.coset_seen.specs.Named.{is_same};
 
 use crate::forward::{Ahead, break_at, bytes_at, opened};
@@ -63,40 +62,59 @@ impl<'a> Header<'a> {
         }
     }
 
+    /// Returns true if there is a value under `alg`.
+    fn has_algorithm(self) -> bool
+        ensures { result ≡ names_algorithm self.entry.named.algorithm self.entry.has_text }
+    {
+        match self.named.algorithm {
+            Some(_) => true,
+            None => self.has_text,
+        }
+    }
+
+    /// Returns the same with this algorithm. It isn't a number if it is `None`.
+    fn with_number(self, number: Option<i64>) -> Header<'a>
+        ensures { TakesNumber self.entry number result }
+    {
+        Header {
+            named: Named {
+                algorithm: number,
+                key_id: self.named.key_id,
+            },
+            has_text: match number {
+                Some(_) => false,
+                None => true,
+            },
+            is_critical: self.is_critical,
+            is_plain: self.is_plain,
+        }
+    }
+
     /// Returns the same with this value under `alg`, if there was none.
     fn with_algorithm(self, value: Pull<'_>) -> Header<'a>
         ensures { TakesAlgorithm self.entry (pull_item value.entry) result }
     {
-        if self.named.algorithm.is_some() || self.has_text {
+        if self.has_algorithm() {
             return self;
         }
-        let algorithm = number_of(value);
-        Header {
-            named: Named {
-                algorithm,
-                key_id: self.named.key_id,
-            },
-            has_text: algorithm.is_none(),
-            is_critical: self.is_critical,
-            is_plain: self.is_plain,
-        }
+        self.with_number(number_of(value))
     }
 
     /// Returns the same with this value under `kid`, if there was none.
     fn with_key_id(self, value: Ahead<'a>) -> Header<'a>
         ensures { TakesKeyId self.entry value.entry result }
     {
-        if self.named.key_id.is_some() {
-            return self;
-        }
-        Header {
-            named: Named {
-                algorithm: self.named.algorithm,
-                key_id: Some(value),
+        match self.named.key_id {
+            Some(_) => self,
+            None => Header {
+                named: Named {
+                    algorithm: self.named.algorithm,
+                    key_id: Some(value),
+                },
+                has_text: self.has_text,
+                is_critical: self.is_critical,
+                is_plain: self.is_plain,
             },
-            has_text: self.has_text,
-            is_critical: self.is_critical,
-            is_plain: self.is_plain,
         }
     }
 

@@ -1,9 +1,10 @@
 //! Messages, seen in the bytes that encode them.
 
 ghost use Rattle.std.specs.Option.{option_copied};
-ghost use Rattle.std.specs.Prelude.{◌≡◌, ◌<◌, ◌^◌, ℕ, List, IfSome, IsTrue, length};
+ghost use Rattle.std.specs.Prelude.{◌≡◌, ◌<◌, ◌^◌, ℕ, List, IfSome, IsTrue, false, length};
 ghost use Rattle.coset.specs.Headers.{HeaderView, ProtectedView, header, protected};
 ghost use Rattle.coset.specs.Item.{bytes, dict};
+ghost use Rattle.coset.specs.Pulls.{pull_item};
 ghost use Rattle.coset_seen.specs.Begins.{IsAhead};
 ghost use Rattle.coset_seen.specs.Layout.{IsDescribed, IsLayout};
 ghost use Rattle.coset_seen.specs.Seen.{FindsKeyId, GivesContent, IsContentOf, IsPart, IsSeen, IsTakenFrom, LiesIn, MakesStructure, PutsStructure};
@@ -192,6 +193,30 @@ pub struct Layout<'a> {
     is_second_plain: bool,
 }
 
+/// Returns true if one of the two is true.
+fn is_either(first: bool, second: bool) -> bool
+    ensures { result ≡ false → (first ≡ false) × (second ≡ false) }
+{
+    first || second
+}
+
+/// Returns true if the item is a valid protected header. False may also mean that an allocation
+/// failed.
+fn is_protected(alloc: Global, place: Pull<'_>) -> bool
+    ensures { IsTrue result
+        → (x : ProtectedView) × protected.describes (pull_item place.entry) x }
+{
+    ProtectedHeader::from_pull_bstr(alloc, place).is_ok()
+}
+
+/// Returns true if the item is a valid unprotected header. False may also mean that an allocation
+/// failed.
+fn is_unprotected(alloc: Global, place: Pull<'_>) -> bool
+    ensures { IsTrue result → (x : HeaderView) × header.describes (pull_item place.entry) x }
+{
+    Header::from_pull(alloc, place).is_ok()
+}
+
 /// Finds the parts of a message of this kind, with or without its tag, in the bytes that encode it.
 /// Allocates nothing.
 ///
@@ -209,7 +234,7 @@ pub fn layout_of(kind: Kind, input: &[u8]) -> Option<Layout<'_>>
     Some(Layout {
         seen: taken_from(kind, is_tagged, elements, input),
         has_text: elements.first.has_text,
-        is_critical: elements.first.is_critical || elements.second.is_critical,
+        is_critical: is_either(elements.first.is_critical, elements.second.is_critical),
         fronts: (elements.front, elements.protected.behind),
         is_first_plain: elements.first.is_plain,
         is_second_plain: elements.second.is_plain,
@@ -227,7 +252,7 @@ impl Layout<'_> {
             return true;
         }
         match Pull::new(self.fronts.0) {
-            Ok((protected, _)) => ProtectedHeader::from_pull_bstr(alloc, protected).is_ok(),
+            Ok((protected, _)) => is_protected(alloc, protected),
             Err(_) => false,
         }
     }
@@ -242,7 +267,7 @@ impl Layout<'_> {
             return true;
         }
         match Pull::new(self.fronts.1) {
-            Ok((unprotected, _)) => Header::from_pull(alloc, unprotected).is_ok(),
+            Ok((unprotected, _)) => is_unprotected(alloc, unprotected),
             Err(_) => false,
         }
     }

@@ -4,5 +4,5 @@ use Rattle.coset_seen.proofs.message.layout_of.Goals as goal
 
 pub returns : goal.returns
 returns c =
-    layout_is c.args.kind c.args.input.now c.in_ok-is_tagged.is_tagged c.in_ok-is_tagged.elements _ c.in_ok-is_tagged.ensures c.taken_from.ensures refl ?
-    refl refl refl refl
+    let e = c.in_ok-is_tagged in
+    layout_is c.args.kind c.args.input.now e.is_tagged e.elements _ e.ensures c.taken_from.ensures refl c.is_either.ensures refl refl refl refl
