@@ -70,7 +70,7 @@ map_of b ps (inl e) = inl e
 map_of b ps (inr h) = inr h.1
 
 module _ (k : kinds.Kind) (b : List ℕ) (t : Bool) (e : Elements) (s : Seen) (m : IsMessage k b t e) (h : IsTakenFrom k b t e s) where
-  a : AreElements k b m.pairs e
+  abbrev a : AreElements k b m.pairs e
   a = m.are_elements
 
   is_item : IsItem b (perhaps_tag s.is_tagged (tag_of k) (array (message_items k s.protected.bytes.now m.pairs (bytes_of s.content) s.proof.bytes.now m.recipients)))

@@ -1,7 +1,7 @@
 -- Items at the front of bytes.
 use mir.Syntax.{w64}
 use mir.Val.{SFits}
-use Rattle.std.proofs.Common.{◌-ℤ◌, arith, to_z, of_z, ◌≡◌, ◌++◌, ◌∷◌, ◌≤◌, ℕ, ℤ, pos, negsuc, List, Option, Some, None, length, take, drop, sym, ap, subst, refl, ◌∙◌, inl}
+use Rattle.std.proofs.Common.{◌-ℤ◌, arith, to_z, of_z, ◌≡◌, ◌++◌, ◌∷◌, ◌≤◌, ℕ, ℤ, pos, negsuc, List, Some, length, take, drop, sym, ap, subst, refl, ◌∙◌, inl}
 use Rattle.std.proofs.lemmas.Int.{to_z-of_z}
 use Rattle.std.proofs.lemmas.List.{take-append-drop, append_assoc, length-take-le}
 use Rattle.coset.specs.Item.{bytes, integer}
@@ -9,10 +9,9 @@ use Rattle.coset.specs.Grammar.{IsHead, IsHeaded, IsIntegerEncoding}
 use Rattle.coset.specs.ReadHeads.{BeginsWithHead, IsHeadOf, head_number, initial_byte}
 use Rattle.coset.specs.Heads.{major_type_number}
 use Rattle.coset.specs.Head.{Head}
-use Rattle.coset.specs.MajorType.{MajorType}
 use Rattle.coset.specs.MajorType.TheVariants.{Negative, Unsigned}
 use Rattle.coset_seen.specs.declared.forward.Ahead.{Ahead}
-use Rattle.coset_seen.specs.Begins.{Begins, IsAhead, Opens}
+use Rattle.coset_seen.specs.Begins.{Begins, IsAhead}
 
 length_take : (n : ℕ) (r : List ℕ) → n ≤ length r → n ≡ length (take n r)
 length_take n r l = sym (length-take-le n r l)
@@ -67,17 +66,3 @@ ahead_in b x s t e a = record {
   before = x ++ a.before;
   parts = e ∙ (ap (λ y. x ++ y) a.parts ∙ sym (append_assoc x a.before _));
 }
-
--- A head that opens an array or a map.
-pub opened_at :
-    (b : List ℕ) (h : Head) (r : List ℕ) (t : MajorType) (o : Option ℕ) → BeginsWithHead b h r → h.major_type ≡ t → o ≡ head_number h
-    → Opens (major_type_number t) o r b
-opened_at b h r t o at type number =
-    go o (subst (λ n. IsHeadOf (major_type_number t) n f) (sym number) (subst (λ y. IsHeadOf (major_type_number y) (head_number h) f) type at.is_head))
-  where
-    f : List ℕ
-    f = initial_byte h ∷ at.argument
-
-    go : (o : Option ℕ) → IsHeadOf (major_type_number t) o f → Opens (major_type_number t) o r b
-    go (Some n) x = record { head = f; is_head = x; parts = at.parts }
-    go None x = at.parts ∙ ap (λ y. y ++ r) x

@@ -8,7 +8,7 @@ use Rattle.std.specs.Prelude.{IfSome, MatchOption, option_map}
 use Rattle.std.proofs.lemmas.Bool.Decides.{Decides-int_eq}
 use Rattle.std.proofs.lemmas.List.{append_assoc}
 use Rattle.coset.specs.Grammar.{ArePairEncodings, EnclosesContent, IsHead}
-use Rattle.coset.specs.Item.{Item, Pairs, no_pairs, pair, bytes, integer, dict, pairs_count}
+use Rattle.coset.specs.Item.{Item, Pairs, no_pairs, pair, bytes, integer, pairs_count}
 use Rattle.coset.specs.LabelData.{RegisteredLabelView, assigned, private_use, text_name}
 use Rattle.coset.specs.Labels.{algorithm}
 use Rattle.coset.specs.Parts.{as_integer}
@@ -16,7 +16,7 @@ use Rattle.coset.specs.ShapeLaws.{some-none, some-one}
 use Rattle.coset_seen.specs.declared.forward.Ahead.{Ahead}
 use Rattle.coset_seen.specs.declared.header.Named.{Named}
 use Rattle.coset_seen.specs.declared.labels.Header.{Header}
-use Rattle.coset_seen.specs.Begins.{Closes, IsAhead, Opens}
+use Rattle.coset_seen.specs.Begins.{IsAhead, Opens}
 use Rattle.coset_seen.specs.Labels.{BeginsHeader, BeginsPairs, EndsWith, GoesOn, Has, IsNoNumber, IsNumber, NamesAlgorithm, Takes, TakesAlgorithm, TakesKeyId, TakesNone, is_key}
 use Rattle.coset_seen.specs.Labels.{TakesNumber, is_text, key_id_item, names_algorithm, value_if}
 use Rattle.coset_seen.specs.Named.{AreNamed, BeginsPlain, is_same, value_of}

@@ -1,9 +1,9 @@
 -- Messages, from their elements.
-use Rattle.std.proofs.Common.{◌≡◌, ◌∙◌, ◌++◌, ◌∷◌, ℕ, List, [], Option, Some, None, Bool, true, false, refl, sym, ap, subst, inl, inr}
+use Rattle.std.proofs.Common.{◌≡◌, ◌∙◌, ◌++◌, ℕ, List, [], Option, Some, None, Bool, true, false, refl, sym, ap, subst, inl, inr}
 use Rattle.std.specs.Prelude.{IfSome}
 use Rattle.std.proofs.lemmas.List.{append_assoc, append-nil}
 use Rattle.coset.specs.Item.{Item, Pairs, item, no_items, no_pairs, tag, array, bytes, dict, null, items_count}
-use Rattle.coset.specs.Grammar.{AreEncodings, IsEncoding, IsHeaded, IsItem}
+use Rattle.coset.specs.Grammar.{AreEncodings, IsEncoding, IsItem}
 use Rattle.coset_seen.specs.declared.elements.Elements.{Elements}
 use Rattle.coset_seen.specs.declared.forward.Ahead.{Ahead}
 use Rattle.coset_seen.specs.declared.kind.Kind as kinds

@@ -1,6 +1,6 @@
 -- The elements of a message at the front of bytes (RFC 8152, section 3). Its headers may be invalid.
 use Rattle.std.specs.Prelude.{◌≡◌, ◌≢◌, ◌⊎◌, ◌++◌, ℕ, List, [], Option, Some, None, Bool, true, false, IfSome, option_map, ⊤}
-use Rattle.coset.specs.Item.{Item, Items, Pairs, item, items_count, no_items, no_pairs, array, bytes, dict, null, tag}
+use Rattle.coset.specs.Item.{Item, Items, Pairs, item, no_items, no_pairs, array, bytes, dict, null, tag}
 use Rattle.coset.specs.Grammar.{AreEncodings, IsHeaded, IsItem}
 use Rattle.coset_seen.specs.declared.elements.Elements.{Elements}
 use Rattle.coset_seen.specs.declared.forward.Ahead.{Ahead}

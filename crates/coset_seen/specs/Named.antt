@@ -1,9 +1,9 @@
 -- The algorithm and the key identifier of a plain header, and where they are in the input.
 use Rattle.std.specs.Prelude.{◌≡◌, ◌≢◌, ◌++◌, ℕ, ℤ, pos, negsuc, List, Option, Some, None, Bool, false, IfSome, option_map, if◌then◌else◌, ⊤}
 use Rattle.std.specs.Ordering.{int_eq}
-use Rattle.coset.specs.Item.{Item, Pairs, no_pairs, pair, bytes, integer, dict, pairs_count}
+use Rattle.coset.specs.Item.{Item, Pairs, no_pairs, pair, bytes, integer, pairs_count}
 use Rattle.coset.specs.Parts.{as_integer}
-use Rattle.coset.specs.Grammar.{ArePairEncodings, IsItem}
+use Rattle.coset.specs.Grammar.{ArePairEncodings}
 use Rattle.coset.specs.Headers.{HeaderView, layered_header}
 use Rattle.coset.specs.Results.{Describes}
 use Rattle.coset_seen.specs.declared.header.Named.{Named}

@@ -14,7 +14,7 @@ use Rattle.coset.specs.Sign1.{sign1}
 use Rattle.coset_seen.specs.declared.elements.Elements.{Elements}
 use Rattle.coset_seen.specs.declared.forward.Ahead.{Ahead}
 use Rattle.coset_seen.specs.declared.kind.Kind as kinds
-use Rattle.coset_seen.specs.declared.kind.Kind.TheVariants.{Sign1, Mac0, Encrypt0, Mac, Encrypt}
+use Rattle.coset_seen.specs.declared.kind.Kind.TheVariants.{Sign1, Mac0, Encrypt0}
 use Rattle.coset_seen.specs.declared.message.KeyId.{KeyId}
 use Rattle.coset_seen.specs.declared.message.Part.{Part}
 use Rattle.coset_seen.specs.declared.message.Seen.{Seen}

@@ -1,8 +1,6 @@
 //! The elements of a message, read forward.
 
 ghost use Rattle.std.specs.Prelude.{◌≡◌, [], IfSome, true};
-ghost use Rattle.coset.specs.Grammar.{IsHeaded};
-ghost use Rattle.coset_seen.specs.Begins.{IsAhead};
 ghost use Rattle.coset_seen.specs.Elements.{BeginsContent, BeginsElements, BeginsMessage, BeginsProof, IsContent, IsCounted, IsMessage, IsUntagged};
 ghost use Rattle.coset_seen.specs.Kinds.{elements_of};
 

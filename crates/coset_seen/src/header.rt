@@ -1,7 +1,7 @@
 //! Plain headers (`see` says what they are), with their algorithm and key identifier.
 
-ghost use Rattle.std.specs.Prelude.{◌≡◌, ◌≢◌, ◌<ℤ◌, [], IfSome, None, IsTrue, pos, negsuc};
-ghost use Rattle.coset.specs.Item.{Item, bytes, integer};
+ghost use Rattle.std.specs.Prelude.{◌≡◌, ◌≢◌, [], IfSome, None, IsTrue, pos};
+ghost use Rattle.coset.specs.Item.{bytes, integer};
 ghost use Rattle.coset_seen.specs.Begins.{Begins, IsAhead};
 ghost use Rattle.coset_seen.specs.Named.{BeginsPlain, IsParameter, with_parameter};
 ghost use Rattle.coset_seen.specs.Plain.{IsPlainValue};

@@ -1,21 +1,17 @@
 -- Messages that are laid out.
-use Rattle.std.proofs.Common.{◌≡◌, ◌∙◌, ℕ, ℤ, pos, negsuc, List, [], ◌∷◌, Option, Some, None, Result, Ok, Err, Unit, Bool, true, false}
-use Rattle.std.proofs.Common.{true≢false, cond, refl, sym, ap, subst, inl, inr, FitsSigned}
-use Rattle.std.proofs.lemmas.Bool.Decides.{Decides-int_eq}
+use Rattle.std.proofs.Common.{◌≡◌, ◌∙◌, ℕ, ℤ, pos, List, [], ◌∷◌, Option, Some, None, Result, Err, Bool, true, false}
+use Rattle.std.proofs.Common.{true≢false, cond, refl, sym, ap, subst, inl, inr}
 use Rattle.std.specs.Option.{option_copied}
-use Rattle.std.specs.Ordering.{int_eq}
-use Rattle.std.specs.Prelude.{is_ok}
 use Rattle.coset.specs.Grammar.{IsItem}
-use Rattle.coset.specs.Item.{Item, Items, Pairs, no_pairs, pair, array, bytes, dict, integer, null, tag}
-use Rattle.coset.specs.LabelData.{RegisteredLabelView, assigned, number, private_use, text_name}
+use Rattle.coset.specs.Item.{Item, Items, Pairs, array, bytes, dict, null, tag}
+use Rattle.coset.specs.LabelData.{number}
 use Rattle.coset.specs.Labels.{algorithm}
-use Rattle.coset.specs.Parts.{as_integer, as_tag}
+use Rattle.coset.specs.Parts.{as_tag}
 use Rattle.coset.specs.PerhapsTagged.{DescribesNoTag, plain_is_perhaps, tagged_is_perhaps, untagged}
 use Rattle.coset.specs.Results.{Describes}
 use Rattle.coset.specs.Shortest.{IsShortest}
-use Rattle.coset.specs.Shape.{Elements, Shape, array_of}
+use Rattle.coset.specs.Shape.{Shape}
 use Rattle.coset.specs.ShapeLaws.{some-none, some-one}
-use Rattle.coset.specs.CoseError.{CoseError}
 use Rattle.coset.specs.Encrypt0.{encrypt0}
 use Rattle.coset.specs.Mac0.{mac0}
 use Rattle.coset.specs.Sign1.{sign1}
@@ -41,7 +37,7 @@ use Rattle.ffi_query.specs.declared.kind.Kind.TheVariants.{Sign1, Sign, Mac0, Ma
 use Rattle.ffi_query.specs.declared.kind.Kind.TheVariants.{Header, Key, KeySet, Claims, Any, KdfContext}
 use Rattle.ffi_query.specs.declared.borrowed.Texts.{Texts}
 use Rattle.ffi_query.specs.Borrowed.{AreTexts, HasNoCritical, IsAttached, IsSigned, KnowsAlgorithm, KnowsKeyId, structure_by}
-use Rattle.ffi_query.specs.Kinds.{Checks, IsItemOf, IsOf, TellsTag, TellsTagOf, in_form, tag_of, without_tag}
+use Rattle.ffi_query.specs.Kinds.{IsItemOf, IsOf, TellsTag, TellsTagOf, in_form, tag_of, without_tag}
 use Rattle.ffi_query.specs.Labels.{IsUnderIn, value_under}
 use Rattle.ffi_query.specs.Located.{IsTextIn}
 use Rattle.ffi_query.specs.Results.{IsEncodingOf}
@@ -107,10 +103,6 @@ attached (Some x) = inl refl
 
 -- ---- the kind
 
--- The shape describes no tag.
-no_tag : {A : Type 0} (ps : Elements A) (n : ℕ) → DescribesNoTag n (array_of ps)
-no_tag ps n w x d = none_is d.1
-
 in_form_is :
     {A : Type 0} (s : Shape A) (n : ℕ) (b : List ℕ) (x : A) (f : forms.Form) (t : Bool) → DescribesNoTag n s → IsAllowed f t
     → Describes (seen_form t n s) b x → Describes (in_form f n s) b x
@@ -154,14 +146,9 @@ pub is_of : (k : kinds.Kind) (b : List ℕ) (x : Layout) (h : IsLaidOf k b x) �
 is_of k b x h d =
     let t = x.seen.is_tagged in
     by_kind k h.kind h.form (λ j z f. IsAllowed f t → IsDescribed z b x.seen → IsOf j b) h.is_kind
-    (λ f a y. (_, in_form_is sign1 18 b _ f t (λ w v e. none_is e.1) a y.2.1))
-    (λ f a y. (_, in_form_is mac0 17 b _ f t (λ w v e. none_is e.1) a y.2.1))
-    (λ f a y. (_, in_form_is encrypt0 16 b _ f t (λ w v e. none_is e.1) a y.2.1.0)) (λ f a y. absurd y.2.1) (λ f a y. absurd y.2.1) h.allowed d
-
--- A message that was decoded.
-pub decoded : (k : kinds.Kind) (b : List ℕ) (r : Result (Unit {0}) CoseError) → Checks k b r → is_ok r ≡ true → IsOf k b
-decoded k b (Ok x) h t = h
-decoded k b (Err e) h t = absurd (true≢false (sym t))
+    (λ f a y. (_, in_form_is sign1 18 b _ f t (λ w v e. none_is e.1) a y.2))
+    (λ f a y. (_, in_form_is mac0 17 b _ f t (λ w v e. none_is e.1) a y.2))
+    (λ f a y. (_, in_form_is encrypt0 16 b _ f t (λ w v e. none_is e.1) a y.2.0)) (λ f a y. absurd y.2) (λ f a y. absurd y.2) h.allowed d
 
 inside : (n : ℕ) (t : Bool) (vs : Items) → array vs ≡ untagged n (perhaps_tag t n (array vs))
 inside n true vs = sym (ap (λ b. cond b (array vs) (tag n (array vs))) (same_number n))
@@ -171,7 +158,7 @@ tags : (k : kinds.Kind) (kind : seen.Kind) (form : forms.Form) → kind_in k ≡
 tags k kind form is = by_kind k kind form (λ j z f. tag_of j ≡ Some (seen_tag z)) is (λ f. refl) (λ f. refl) (λ f. refl) (λ f. refl) (λ f. refl)
 
 module _ (k : kinds.Kind) (b : List ℕ) (x : Layout) (h : IsSeenOf k b x) where
-  l : IsLaidOf k b x
+  abbrev l : IsLaidOf k b x
   l = h.laid
 
   abbrev p : List ℕ
@@ -203,19 +190,18 @@ module _ (k : kinds.Kind) (b : List ℕ) (x : Layout) (h : IsSeenOf k b x) where
   pub once_of : (d : Option (List ℕ)) → both_given c d ≡ false → is_given_twice k d (seen_item h) ≡ false
   once_of d e =
       by_kind k l.kind l.form (λ j z f. is_given_twice j d (array (message_items z p l.lies.second c t l.lies.recipients)) ≡ false) l.is_kind
-      (λ f. once (Sign1 f) plain.Sign1 (λ o. refl) (λ y. refl) c d e) (λ f. once (Mac0 f) plain.Mac0 (λ o. refl) (λ y. refl) c d e)
-      (λ f. once (Encrypt0 f) plain.Encrypt0 (λ o. refl) (λ y. refl) c d e) (λ f. once (Mac f) plain.Mac (λ o. refl) (λ y. refl) c d e)
-      (λ f. once (Encrypt f) plain.Encrypt (λ o. refl) (λ y. refl) c d e)
+      (λ f. once (Sign1 f) (λ o. array (message_items plain.Sign1 p l.lies.second o t l.lies.recipients)) (λ o. refl) (λ y. refl) c d e)
+      (λ f. once (Mac0 f) (λ o. array (message_items plain.Mac0 p l.lies.second o t l.lies.recipients)) (λ o. refl) (λ y. refl) c d e)
+      (λ f. once (Encrypt0 f) (λ o. array (message_items plain.Encrypt0 p l.lies.second o t l.lies.recipients)) (λ o. refl) (λ y. refl) c d e)
+      (λ f. once (Mac f) (λ o. array (message_items plain.Mac p l.lies.second o t l.lies.recipients)) (λ o. refl) (λ y. refl) c d e)
+      (λ f. once (Encrypt f) (λ o. array (message_items plain.Encrypt p l.lies.second o t l.lies.recipients)) (λ o. refl) (λ y. refl) c d e)
     where
-      message : seen.Kind → Option (List ℕ) → Item
-      message z o = array (message_items z p l.lies.second o t l.lies.recipients)
-
-      once : (j : kinds.Kind) (z : seen.Kind) → ((o : Option (List ℕ)) → is_given_twice j None (message z o) ≡ false)
-          → ((y : List ℕ) → is_given_twice j (Some y) (message z None) ≡ false)
-          → (o d : Option (List ℕ)) → both_given o d ≡ false → is_given_twice j d (message z o) ≡ false
-      once j z none some o None e = none o
-      once j z none some None (Some y) e = some y
-      once j z none some (Some q) (Some y) e = absurd (true≢false e)
+      once : (j : kinds.Kind) (m : Option (List ℕ) → Item) → ((o : Option (List ℕ)) → is_given_twice j None (m o) ≡ false)
+          → ((y : List ℕ) → is_given_twice j (Some y) (m None) ≡ false)
+          → (o d : Option (List ℕ)) → both_given o d ≡ false → is_given_twice j d (m o) ≡ false
+      once j m none some o None e = none o
+      once j m none some None (Some y) e = some y
+      once j m none some (Some q) (Some y) e = absurd (true≢false e)
 
   -- ---- the texts
 

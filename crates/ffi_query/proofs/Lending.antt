@@ -1,13 +1,10 @@
 -- The parts borrowed from the input b to verify or decrypt a message.
-use Rattle.std.proofs.Common.{◌≡◌, ◌∙◌, ◌++◌, ◌+◌, ℕ, ℤ, List, [], length, Option, Some}
-use Rattle.std.proofs.Common.{None, Result, Ok, Err, Bool, Bor, true, false, ap, sym, subst, refl, inl, inr, arith}
+use Rattle.std.proofs.Common.{◌≡◌, ◌∙◌, ◌++◌, ◌+◌, ℕ, ℤ, List, length, Option, Some}
+use Rattle.std.proofs.Common.{None, Result, Ok, Err, Bool, true, false, ap, sym, subst, refl, inl, inr, arith}
 use Rattle.std.proofs.lemmas.List.{length-append}
 use Rattle.std.specs.Option.{option_copied}
-use Rattle.std.specs.Prelude.{IfOk, IfSome, codes, option_and_then, option_map}
-use Rattle.coset.specs.Results.{IsOnlyItem}
-use Rattle.coset.specs.Grammar.{IsItem}
+use Rattle.std.specs.Prelude.{IfOk, IfSome, codes, option_and_then}
 use Rattle.coset.specs.Item.{Item, integer, bytes, float, text, boolean, null, tag, array, dict}
-use Rattle.coset.specs.LabelData.{LabelView}
 use Rattle.coset.specs.Parts.{as_bytes}
 use Rattle.coset.specs.ShapeLaws.{some-none}
 use Rattle.ffi_query.specs.declared.kind.Kind as kinds
@@ -15,25 +12,22 @@ use Rattle.ffi_query.specs.declared.kind.Kind.TheVariants.{Sign1, Sign, Mac0, Ma
 use Rattle.ffi_query.specs.declared.kind.Kind.TheVariants.{Header, Key, KeySet, Claims, Any, KdfContext}
 use Rattle.ffi_query.specs.declared.borrowed.Borrowed as declared
 use Rattle.ffi_query.specs.declared.borrowed.Texts.{Texts}
-use Rattle.ffi_query.specs.declared.located.Located.{Located}
 use Rattle.ffi_query.specs.declared.located.Text.{Text}
 use Rattle.ffi_query.specs.declared.view.Algorithm as algorithms
 use Rattle.ffi_query.specs.declared.view.Algorithm.TheVariants as named
 use Rattle.ffi_query.specs.declared.view.KeyIdPlace as places
 use Rattle.ffi_query.specs.declared.view.KeyIdPlace.TheVariants as found
 use Rattle.ffi_query.specs.declared.view.MessageView.{MessageView}
-use Rattle.ffi_query.specs.Results.{Finds, IsEncodingOf}
+use Rattle.ffi_query.specs.Results.{IsEncodingOf}
 use Rattle.ffi_query.specs.Critical.{IsCriticalIn, IsCriticalOf}
 use Rattle.ffi_query.specs.Kinds.{IsItemOf, TellsTagOf, tag_of}
-use Rattle.ffi_query.specs.Labels.{IsProtected, IsUnderIn, unprotected_value, value_under}
-use Rattle.ffi_query.specs.Borrowed.{AreTexts, HasNoCritical, IsAttached, IsBorrowed, IsBorrowedOf, IsEmptyIn, IsSigned, KnowsAlgorithm}
+use Rattle.ffi_query.specs.Borrowed.{AreTexts, HasNoCritical, IsAttached, IsBorrowed, IsBorrowedOf, IsSigned, KnowsAlgorithm}
 use Rattle.ffi_query.specs.Borrowed.{KnowsKeyId, Says, structure_by}
-use Rattle.ffi_query.specs.Located.{AreLocated, located_item}
 use Rattle.ffi_query.specs.Parts.{content_part, has_headers, place_of}
 use Rattle.ffi_query.specs.Places.{bytes_in, element, string_in}
-use Rattle.ffi_query.specs.Structures.{IsStructure, is_given_twice, content_at, content_in, content_structure, encryption_structure}
+use Rattle.ffi_query.specs.Structures.{IsStructure, is_given_twice, content_in, content_structure, encryption_structure}
 use Rattle.ffi_query.specs.Structures.{structure_of_one, structure_of_two}
-use Rattle.ffi_query.specs.View.{HasAlgorithm, IsAlgorithm, IsContent, IsKeyId, alg_label, bearer, kind_of_bearer, proof_at, proof_in}
+use Rattle.ffi_query.specs.View.{HasAlgorithm, IsContent, IsKeyId, bearer, kind_of_bearer, proof_in}
 
 none_is : {A : Type 0} {x : A} → None ≡ Some x → ⊥
 none_is p = some-none refl (sym p)

@@ -11,7 +11,7 @@ use Rattle.ffi_query.specs.declared.refusal.Refusal.TheVariants.{Short, Absent, 
 use Rattle.ffi_query.specs.declared.spans.MessageSpans.{MessageSpans}
 use Rattle.ffi_query.specs.declared.spans.Start.{Start}
 use Rattle.ffi_query.specs.declared.view.MessageView.{MessageView}
-use Rattle.ffi_query.specs.Results.{IsEncodingOf, ReturnsWith, PutsTexts}
+use Rattle.ffi_query.specs.Results.{IsEncodingOf, ReturnsWith}
 use Rattle.ffi_query.specs.Kinds.{TellsTagOf, tag_of}
 use Rattle.ffi_query.specs.Borrowed.{AreTexts, KnowsAlgorithm, structure_by}
 use Rattle.ffi_query.specs.Located.{AreLocated}

@@ -1,11 +1,10 @@
 -- The parts borrowed from the input b to verify or decrypt a message.
-use Rattle.std.specs.Prelude.{◌≡◌, ◌⊎◌, ◌++◌, ℕ, ℤ, List, [], Option, Some, None, Bool, false, IfSome, codes, ⊤, if◌then◌else◌}
+use Rattle.std.specs.Prelude.{◌≡◌, ◌⊎◌, ◌++◌, ℕ, ℤ, List, [], Option, Some, None, false, codes, ⊤}
 use Rattle.std.specs.Option.{option_copied}
 use Rattle.coset.specs.Results.{IsOnlyItem}
 use Rattle.coset.specs.Grammar.{IsItem}
-use Rattle.coset.specs.Item.{Item, Items, item, null}
-use Rattle.coset.specs.LabelData.{LabelView}
-use Rattle.coset.specs.Parts.{as_array, as_bytes}
+use Rattle.coset.specs.Item.{Item, item, null}
+use Rattle.coset.specs.Parts.{as_bytes}
 use Rattle.ffi_query.specs.declared.kind.Kind as kinds
 use Rattle.ffi_query.specs.declared.kind.Kind.TheVariants.{Sign1, Mac0, Mac, Encrypt0, Encrypt}
 use Rattle.ffi_query.specs.declared.borrowed.Borrowed as declared
@@ -17,11 +16,10 @@ use Rattle.ffi_query.specs.declared.view.Algorithm.TheVariants as named
 use Rattle.ffi_query.specs.declared.view.KeyIdPlace as places
 use Rattle.ffi_query.specs.declared.view.KeyIdPlace.TheVariants as found
 use Rattle.ffi_query.specs.declared.view.MessageView.{MessageView}
-use Rattle.ffi_query.specs.Results.{Finds}
 use Rattle.ffi_query.specs.Critical.{crit_label}
 use Rattle.ffi_query.specs.Kinds.{IsItemOf, TellsTagOf, tag_of}
 use Rattle.ffi_query.specs.Labels.{IsNumber, IsProtected, unprotected_value}
-use Rattle.ffi_query.specs.Located.{IsLocated, IsTextIn, located_item}
+use Rattle.ffi_query.specs.Located.{IsTextIn, located_item}
 use Rattle.ffi_query.specs.Places.{bytes_in, element}
 use Rattle.ffi_query.specs.Structures.{content_at, is_given_twice, structure_of_one, structure_of_two}
 use Rattle.ffi_query.specs.View.{IsViewOf, alg_label, kid_label, proof_in}

@@ -7,18 +7,13 @@ ghost use Rattle.std.specs.Prelude.{◌≡◌, ◌<◌, ◌+◌, ◌^◌, ◌++�
 ghost use Rattle.std.specs.Option.{option_copied};
 ghost use Rattle.coset.specs.CoseError.TheVariants.{OutOfMemory};
 ghost use Rattle.coset.specs.Item.{Item};
-ghost use Rattle.coset.specs.Pulls.{pull_item};
 ghost use Rattle.coset.specs.Shortest.{IsShortest};
 ghost use Rattle.coset.specs.Structure.{structure};
 ghost use Rattle.coset_cbor.specs.Least.{least_head};
 ghost use Rattle.ffi_query.specs.Results.{IsEncodingOf};
-ghost use Rattle.ffi_query.specs.Labels.{IsProtected, unprotected_value};
-ghost use Rattle.ffi_query.specs.Found.{IsFound};
-ghost use Rattle.ffi_query.specs.Borrowed.{AreHeaders, AreNamed, AreTexts, HasNoCritical, IsBehindThree, IsAttached, IsBorrowed, IsEmptyIn, IsBorrowedOf, IsMapOf, KnowsAlgorithm, KnowsKeyId, structure_by};
-ghost use Rattle.ffi_query.specs.Located.{AreElementsIn, IsLocated, IsTextIn, elements_left, located_item};
-ghost use Rattle.ffi_query.specs.Places.{bytes_in, element};
-ghost use Rattle.ffi_query.specs.Structures.{content_at, is_given_twice, structure_of_one, structure_of_two};
-ghost use Rattle.ffi_query.specs.View.{IsAlgorithm, proof_in};
+ghost use Rattle.ffi_query.specs.Borrowed.{AreTexts, IsBorrowed, IsBorrowedOf, IsMapOf, structure_by};
+ghost use Rattle.ffi_query.specs.Located.{IsLocated, IsTextIn};
+ghost use Rattle.ffi_query.specs.Structures.{structure_of_one, structure_of_two};
 
 use crate::kind::Kind;
 use crate::located::{Located, Text};

@@ -68,13 +68,23 @@ pub(crate) fn is_message(alloc: Global, kind: Kind, bytes: &[u8]) -> bool
     }
 }
 
+/// Returns true if the bytes can be decoded as this kind.
+fn is_decoded(alloc: Global, kind: Kind, bytes: &[u8]) -> bool
+    ensures { IsTrue result → IsOf kind bytes.now }
+{
+    match check_by_decoding(alloc, kind, bytes) {
+        Ok(_) => true,
+        Err(_) => false,
+    }
+}
+
 /// Returns true if the laid out message is valid. A message with recipients is decoded.
 #[inline(always)]
 fn is_valid(alloc: Global, kind: Kind, layout: &Layout<'_>, bytes: &[u8]) -> bool
     ensures { IsLaidOf kind bytes.now layout.now → IsTrue result → IsOf kind bytes.now }
 {
     match kind {
-        Kind::Mac(_) | Kind::Encrypt(_) => check_by_decoding(alloc, kind, bytes).is_ok(),
+        Kind::Mac(_) | Kind::Encrypt(_) => is_decoded(alloc, kind, bytes),
         _ => layout.is_valid(alloc),
     }
 }
@@ -109,10 +119,14 @@ fn text_of<'a>(part: Part<'a>, input: &'a [u8]) -> Text<'a>
 fn algorithm_of(number: Option<i64>, has_text: bool) -> Algorithm
     ensures { result ≡ algorithm_of number has_text }
 {
-    match (number, has_text) {
-        (Some(number), _) => Algorithm::Number(number),
-        (None, true) => Algorithm::Text,
-        (None, false) => Algorithm::Absent,
+    match number {
+        Some(number) => Algorithm::Number(number),
+        None => {
+            if has_text {
+                return Algorithm::Text;
+            }
+            Algorithm::Absent
+        }
     }
 }
 

@@ -1,9 +1,9 @@
 //! Everything that verifying or decrypting a message takes. The message's own texts are given by
 //! their places in the input, or are copied if they can't be borrowed.
 
-ghost use Rattle.std.specs.Prelude.{◌≡◌, ◌<◌, ◌+◌, ◌^◌, ◌++◌, ℕ, ℤ, List, Option, MatchOption, length, true};
+ghost use Rattle.std.specs.Prelude.{◌≡◌, ◌<◌, ◌+◌, ◌^◌, ℕ, ℤ, List, Option, MatchOption, true};
 ghost use Rattle.std.specs.Option.{option_copied};
-ghost use Rattle.ffi_query.specs.Results.{ReturnsWith, PutsTexts};
+ghost use Rattle.ffi_query.specs.Results.{ReturnsWith};
 ghost use Rattle.ffi_query.specs.Located.{IsTextIn};
 ghost use Rattle.ffi_query.specs.Spans.{AreUnsizedSpans, IsAt, IsMessageSpans, copied, copied_spans, refusal_of, with_structure, written_at};
 ghost use Rattle.ffi_query.specs.declared.spans.MessageSpans.{MessageSpans};
