@@ -170,7 +170,10 @@ layout_is k b t e x m h text critical first second front back =
 pub first_plain_valid :
     (k : kinds.Kind) (b : List ℕ) (x : Layout) → IsLayout k b x → x.is_first_plain ≡ true
     → (p : ProtectedView) × protected.describes (bytes x.seen.protected.bytes.now) p
-first_plain_valid k b x l is = let y = content_of_plain x.seen.protected.bytes.now l.first l.is_first (l.first_plain is) in (_, protected_view _ y.0 y.1)
+first_plain_valid k b x l is =
+    let p : List ℕ = x.seen.protected.bytes.now in
+    let y = content_of_plain p l.first l.is_first (l.first_plain is) in
+    (record { original = Some p; header = y.0 }, protected_view p y.0 y.1)
 
 pub second_plain_valid :
     (k : kinds.Kind) (b : List ℕ) (x : Layout) (l : IsLayout k b x) → x.is_second_plain ≡ true → (u : HeaderView) × header.describes (dict l.second) u

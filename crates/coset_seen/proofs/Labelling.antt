@@ -106,7 +106,7 @@ pub has_none : (t : Bool) (h : Header) → TakesNone t h → Has no_pairs h
 has_none t h e = record {
   algorithm = subst (λ a. NamesAlgorithm None a h.has_text) (sym e.algorithm) (subst (NamesAlgorithm None None) (sym e.has_text) refl);
   critical = λ f. refl;
-  key_id = ap (option_map _) (sym e.key_id);
+  key_id = ap (option_map (λ t. bytes t.bytes.now)) (sym e.key_id);
   plain = λ f. (tt, e.has_text);
 }
 
@@ -231,7 +231,7 @@ algorithm_taken h x v a none is it = record {
 -- ---- any pairs
 
 -- With the pairs qs, which are encoded up to a, the pairs from b on have the values o, of alg, and those of h.
-record Completes (n : ℕ) (b : List ℕ) (o : Option Item) (h : Header) (a : List ℕ) (qs : Pairs) : Type 0 where
+pub record Completes (n : ℕ) (b : List ℕ) (o : Option Item) (h : Header) (a : List ℕ) (qs : Pairs) : Type 0 where
   pub pairs : Pairs
   pub encoding : List ℕ
   pub parts : b ≡ encoding ++ a
@@ -260,10 +260,10 @@ begun b h e = record {
     encoding = c;
     parts = is;
     are_encoded = enc;
-    counted = refl;
+    counted = omega (arith);
     algorithm = refl;
     critical = λ f. refl;
-    key_id = ap (λ o. option_or (option_map _ o) (value_of (pos 4) qs)) (sym e.key_id);
+    key_id = ap (λ o. option_or (option_map (λ t. bytes t.bytes.now) o) (value_of (pos 4) qs)) (sym e.key_id);
   };
   passed = [];
   parts = refl;
@@ -362,9 +362,9 @@ head_of t (Some n) r b h = (h.head, h.parts)
 head_of t None r b h = ((32 * t + 31) ∷ [], h)
 
 pub header_begins : (count : Option ℕ) (b r : List ℕ) (h : Header) (s : List ℕ) → Opens 5 count r b → BeginsPairs count r h s → BeginsHeader b h s
-header_begins count b r h s open p =
-    let e = enclosed 5 count (pairs_count p.pairs) b r p.encoding s open p.ends in
-    let x = head_of 5 count r b open in record {
+header_begins count b r h s opens p =
+    let e = enclosed 5 count (pairs_count p.pairs) b r p.encoding s opens p.ends in
+    let x = head_of 5 count r b opens in record {
       pairs = p.pairs;
       begins = (e.0, (p.encoding, p.are_encoded, e.1), e.2);
       has = p.has;

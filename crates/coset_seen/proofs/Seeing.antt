@@ -70,6 +70,10 @@ view_of k ps n plain named =
       },
     )
 
+nothing : {A : Type 0} (f : A → Item) (o : Option A) → option_map f o ≡ None → None ≡ o
+nothing f None e = refl
+nothing f (Some x) e = absurd (some-none refl e)
+
 -- The header in the content of a protected header's byte string.
 pub content_view :
     (b : List ℕ) (ps : Pairs) (n : Named) → IsFilledMapOf b ps → ArePlain (negsuc 0) ps → AreNamed ps n
@@ -79,13 +83,9 @@ content_view b ps n (inl e) plain named = (
   subst (λ c. ContentDescribes empty_header (layered_header 15) c empty_header) (sym e.0) refl,
   record {
     algorithm = ap (option_map number) (nothing integer n.algorithm (sym named.algorithm ∙ ap (value_of (pos 1)) e.1));
-    key_id = subst (KeyIs []) (sym (nothing _ n.key_id (sym named.key_id ∙ ap (value_of (pos 4)) e.1))) refl;
+    key_id = subst (KeyIs []) (sym (nothing (λ t. bytes t.bytes.now) n.key_id (sym named.key_id ∙ ap (value_of (pos 4)) e.1))) refl;
   },
 )
-  where
-    nothing : {A : Type 0} (f : A → Item) (o : Option A) → option_map f o ≡ None → None ≡ o
-    nothing f None e = refl
-    nothing f (Some x) e = absurd (some-none refl e)
 content_view [] ps n (inr h) plain named = absurd (h.0 refl)
 content_view (c ∷ b) ps n (inr h) plain named =
     let x = view_of 15 ps n plain named in

@@ -7,6 +7,9 @@
 //!
 //! `None` doesn't mean that the bytes are no such message. The caller then decodes them with the
 //! facade `coset`. [`see`] says which messages it finds, and which headers are plain.
+//!
+//! [`layout_of`] finds the same parts, whatever the headers are, also of a `COSE_Mac` or
+//! `COSE_Encrypt`. [`Layout::is_valid`] decodes the headers that aren't plain.
 #![tactic(auto)]
 
 mod elements;

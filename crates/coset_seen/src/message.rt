@@ -19,7 +19,7 @@ use coset::laws::one_item;
 use coset::{FromPull, Header, ProtectedHeader};
 use std::alloc::Global;
 
-/// Bytes of a message, and their place in the input of [`see`].
+/// Bytes of a message, and their place in the input of [`see`] or [`layout_of`].
 #[derive(Clone, Copy, Debug)]
 pub struct Part<'a> {
     /// The bytes of the part. There may be none.
@@ -32,19 +32,20 @@ pub struct Part<'a> {
 /// A key identifier (`kid`, RFC 8152, section 3.1).
 #[derive(Clone, Copy, Debug)]
 pub struct KeyId<'a> {
-    /// The bytes of the identifier. They aren't empty.
+    /// The bytes of the identifier. They aren't empty if the header is valid.
     pub part: Part<'a>,
     /// Whether the protected header has it. Otherwise the unprotected header has it.
     pub is_protected: bool,
 }
 
-/// A message that [`see`] found, borrowed from the bytes that encode it. Nothing in it is verified.
+/// A message that [`see`] or [`layout_of`] found, borrowed from the bytes that encode it. Nothing in
+/// it is verified.
 ///
 /// The fields are described as `see` returns them; a caller can also set others. Other header
 /// parameters, such as the IV, aren't included: decode the message for them.
 #[derive(Clone, Copy, Debug)]
 pub struct Seen<'a> {
-    /// The kind that the caller gave to [`see`].
+    /// The kind that the caller gave.
     pub kind: Kind,
     /// Whether the message is under its CBOR tag (RFC 8152, section 2).
     pub is_tagged: bool,
@@ -61,7 +62,7 @@ pub struct Seen<'a> {
     /// place: the content is then detached or absent.
     pub content: Option<Part<'a>>,
     /// The signature or the MAC's tag, which may be empty. An encrypted message has neither, and an
-    /// empty part at the end of the input.
+    /// empty part after its content.
     pub proof: Part<'a>,
 }
 
