@@ -1,10 +1,11 @@
 -- Texts that are given by their places.
 use Rattle.std.proofs.Common.{◌≡◌, ◌∙◌, ◌++◌, ◌-◌, ◌+◌, ℕ, ℤ, List, [], length}
-use Rattle.std.proofs.Common.{Option, Some, Result, Ok, Err, Bool, true, false, ap, sym, subst, refl, arith}
+use Rattle.std.proofs.Common.{Option, Some, Result, Ok, Err, Bool, true, false, true≢false, ap, sym, subst, refl, arith}
 use Rattle.std.proofs.lemmas.List.{append-nil, append_assoc, length-append}
 use Rattle.std.specs.Prelude.{if◌then◌else◌}
 use Rattle.coset.specs.Item.{Item}
 use Rattle.ffi_query.specs.declared.kind.Kind as kinds
+use Rattle.ffi_query.specs.declared.kind.Kind.TheVariants.{Encrypt0, Encrypt}
 use Rattle.ffi_query.specs.declared.borrowed.Texts.{Texts}
 use Rattle.ffi_query.specs.declared.refusal.Refusal as refusals
 use Rattle.ffi_query.specs.declared.refusal.Refusal.TheVariants.{Short, Absent, WrongType, Empty, Misuse, Cose}
@@ -15,7 +16,7 @@ use Rattle.ffi_query.specs.Results.{IsEncodingOf, ReturnsWith}
 use Rattle.ffi_query.specs.Kinds.{TellsTagOf, tag_of}
 use Rattle.ffi_query.specs.Borrowed.{AreTexts, KnowsAlgorithm, structure_by}
 use Rattle.ffi_query.specs.Located.{AreLocated}
-use Rattle.ffi_query.specs.Spans.{AreUnsizedSpans, IsAt, IsMessageSpans, IsStart, copied, copied_spans, refusal_of, with_structure}
+use Rattle.ffi_query.specs.Spans.{AreUnsizedSpans, HasStructureOf, IsAt, IsMessageSpans, IsStart, copied, copied_spans, is_encrypted, refusal_of, with_structure}
 use Rattle.ffi_query.specs.Structures.{is_given_twice}
 use Rattle.ffi_query.specs.View.{IsMessageView}
 use Rattle.std.specs.Option.{option_copied}
@@ -125,27 +126,43 @@ plain_spans_are k i aad d ns b t v x tagged sum m texts spans sums encoded tells
       len = refl;
     }
 
+-- An encrypted message has the same structure over any content.
+pub encrypted_same : (k : kinds.Kind) → is_encrypted k ≡ true → (c e d : Option (List ℕ)) → HasStructureOf k c e d
+encrypted_same (Encrypt0 f) is c e d = λ aad p. refl
+encrypted_same (Encrypt f) is c e d = λ aad p. refl
+encrypted_same k is c e d = absurd (true≢false (sym is))
+
+-- The structure over the texts x, from the one that was written over the content that e gives.
+pub structure_is :
+    (k : kinds.Kind) (b aad t : List ℕ) (d e : Option (List ℕ)) (y : Layout) (x : Texts) → x.protected.now ≡ y.seen.protected.bytes.now
+    → option_copied x.signed ≡ signed_of (bytes_of y.seen.content) d → HasStructureOf k (bytes_of y.seen.content) e d
+    → IsEncodingOf (structure_by k aad y.seen.protected.bytes.now (signed_of (bytes_of y.seen.content) e)) t
+    → IsEncodingOf (structure_by k aad x.protected.now (option_copied x.signed)) t
+structure_is k b aad t d e y x protected signed same encoded =
+    subst (λ o. IsEncodingOf (structure_by k aad x.protected.now o) t) (sym signed)
+    (subst (λ p. IsEncodingOf (structure_by k aad p (signed_of (bytes_of y.seen.content) d)) t) (sym protected)
+    (subst (λ o. IsEncodingOf o t) (same aad y.seen.protected.bytes.now) encoded))
+
 -- A structure that couldn't be written.
 pub plain_refused :
-    (k : kinds.Kind) (i : ℕ) (aad : List ℕ) (d : Option (List ℕ)) (ns : List ℤ) (b : List ℕ) (y : Layout) (h : IsSeenOf k b y) (x : Texts) (sum : ℕ)
+    (k : kinds.Kind) (i : ℕ) (aad : List ℕ) (d given : Option (List ℕ)) (ns : List ℤ) (b : List ℕ) (y : Layout) (h : IsSeenOf k b y) (x : Texts) (sum : ℕ)
     (m : MessageSpans) (old new : List ℕ) (Q : Item → refusals.Refusal → Type 0) (e : StructureError) (r : refusals.Refusal)
     → AreTexts k d b (seen_item h) x → x.protected.now ≡ y.seen.protected.bytes.now → option_copied x.signed ≡ signed_of (bytes_of y.seen.content) d
-    → AreUnsizedSpans b x y.seen.is_tagged sum m
+    → HasStructureOf k (bytes_of y.seen.content) given d → AreUnsizedSpans b x y.seen.is_tagged sum m
     → sum ≡ 0 + (length x.proof.bytes.now + (length x.content.bytes.now + length x.key_id.text.bytes.now)) → TellsTagOf (tag_of k) b y.seen.is_tagged
-    → is_given_twice k d (seen_item h) ≡ false → PutsStructure y.seen aad y.seen.content d old new (Err e) → refusal_of e ≡ Some r
+    → is_given_twice k d (seen_item h) ≡ false → PutsStructure y.seen aad y.seen.content given old new (Err e) → refusal_of e ≡ Some r
     → ReturnsWith k b (IsMessageSpans k i aad d ns b) Q old new (Err r)
-plain_refused k i aad d ns b y h x sum m old new Q (seen.Short n) r texts protected signed spans sums tells once puts is =
-    let found = structure_of_seen k b y h aad old new d (Err (seen.Short n)) puts ((λ e. absurd (cc)), (λ e. absurd (cc))) in
+plain_refused k i aad d given ns b y h x sum m old new Q (seen.Short n) r texts protected signed same spans sums tells once puts is =
+    let found = structure_of_seen k b y h aad old new given (Err (seen.Short n)) puts ((λ e. absurd (cc)), (λ e. absurd (cc))) in
     let t = found.0 in
-    let encoded = subst (λ o. IsEncodingOf (structure_by k aad x.protected.now o) t) (sym signed)
-    (subst (λ p. IsEncodingOf (structure_by k aad p (signed_of (bytes_of y.seen.content) d)) t) (sym protected) found.1) in
+    let encoded = structure_is k b aad t d given y x protected signed same found.1 in
     let are = plain_spans_are k i aad d ns b t (seen_item h) x y.seen.is_tagged sum m texts spans sums encoded tells once in
     subst (λ q. ReturnsWith k b (IsMessageSpans k i aad d ns b) Q old new (Err q)) (some-one refl is)
     (seen_item h, item_of k b y h, (with_structure m (length t), (t, are, found.2)))
-plain_refused k i aad d ns b y h x sum m old new Q seen.OutOfMemory r texts protected signed spans sums tells once puts is =
-    let found = structure_of_seen k b y h aad old new d (Err seen.OutOfMemory) puts ((λ e. absurd (cc)), (λ e. absurd (cc))) in
+plain_refused k i aad d given ns b y h x sum m old new Q seen.OutOfMemory r texts protected signed same spans sums tells once puts is =
+    let found = structure_of_seen k b y h aad old new given (Err seen.OutOfMemory) puts ((λ e. absurd (cc)), (λ e. absurd (cc))) in
     subst (λ q. ReturnsWith k b (IsMessageSpans k i aad d ns b) Q old new (Err q)) (some-one refl is) (memory_refuses k b _ refl, found.2.1)
-plain_refused k i aad d ns b y h x sum m old new Q seen.NoContent r texts protected signed spans sums tells once puts is =
+plain_refused k i aad d given ns b y h x sum m old new Q seen.NoContent r texts protected signed same spans sums tells once puts is =
     absurd (some-none refl (sym is))
-plain_refused k i aad d ns b y h x sum m old new Q seen.TwoContents r texts protected signed spans sums tells once puts is =
+plain_refused k i aad d given ns b y h x sum m old new Q seen.TwoContents r texts protected signed same spans sums tells once puts is =
     absurd (some-none refl (sym is))

@@ -3,9 +3,10 @@
 
 ghost use Rattle.std.specs.Prelude.{◌≡◌, ◌<◌, ◌+◌, ◌^◌, ℕ, ℤ, List, Option, MatchOption, true};
 ghost use Rattle.std.specs.Option.{option_copied};
+ghost use Rattle.coset_seen.specs.Seen.{bytes_of};
 ghost use Rattle.ffi_query.specs.Results.{ReturnsWith};
 ghost use Rattle.ffi_query.specs.Located.{IsTextIn};
-ghost use Rattle.ffi_query.specs.Spans.{AreUnsizedSpans, IsAt, IsMessageSpans, copied, copied_spans, refusal_of, with_structure, written_at};
+ghost use Rattle.ffi_query.specs.Spans.{AreUnsizedSpans, HasStructureOf, IsAt, IsMessageSpans, copied, copied_spans, is_encrypted, refusal_of, with_structure, written_at};
 ghost use Rattle.ffi_query.specs.declared.spans.MessageSpans.{MessageSpans};
 ghost use Rattle.ffi_query.specs.View.{HasNoView};
 
@@ -19,7 +20,7 @@ use crate::seen::{has_both, message_of, texts_of_seen};
 use crate::view::{MessageView, view_of};
 use coset::CoseError;
 use coset::laws::one_item;
-use coset_seen::StructureError;
+use coset_seen::{Part, StructureError};
 use std::alloc::Global;
 
 /// The place where a text begins.
@@ -111,6 +112,36 @@ fn refusal_of(error: StructureError) -> Option<Refusal>
     }
 }
 
+/// Returns true if items of the kind are encrypted messages, whose structure is without the content.
+fn is_encrypted(kind: Kind) -> bool
+    ensures { result ≡ is_encrypted kind }
+{
+    match kind {
+        Kind::Encrypt0(_) | Kind::Encrypt(_) => true,
+        _ => false,
+    }
+}
+
+/// Returns `detached`, or an empty content for an encrypted message that has none.
+fn given_content<'a>(
+    kind: Kind,
+    content: Option<Part<'_>>,
+    detached: Option<&'a [u8]>,
+) -> Option<&'a [u8]>
+    ensures { HasStructureOf kind (bytes_of content.entry) (option_copied result)
+        (option_copied detached.entry) }
+{
+    match (content, detached) {
+        (None, None) => {
+            if is_encrypted(kind) {
+                return Some(&[]);
+            }
+            None
+        }
+        _ => detached,
+    }
+}
+
 /// Writes the structure of a message to the front of `out`, and returns the places of the message's
 /// other texts in the input.
 ///
@@ -140,7 +171,8 @@ fn borrowed_spans<'a>(
     let len = sum_of(0, proof_len, content_len, texts.key_id.text.bytes.len())?;
     len.checked_add(out.len())?;
     let spans = unsized_spans(&texts, seen.is_tagged, len, bytes);
-    match seen.put_structure(external_aad, detached, out) {
+    let given = given_content(kind, seen.content, detached);
+    match seen.put_structure(external_aad, given, out) {
         Ok(structure_len) => Some(Ok(with_structure(spans, structure_len))),
         Err(error) => {
             let refusal = refusal_of(error)?;
