@@ -1,5 +1,5 @@
 -- Messages that are seen or laid out, from their elements.
-use Rattle.std.proofs.Common.{◌≡◌, ◌∙◌, ℕ, pos, negsuc, List, Option, Some, None, Bool, true, false, refl, sym, ap, subst, inl, inr}
+use Rattle.std.proofs.Common.{◌≡◌, ◌∙◌, ℕ, pos, negsuc, List, Option, Some, None, Bool, true, false, true≢false, refl, sym, ap, subst, inl, inr}
 use Rattle.std.specs.Prelude.{IfSome, option_map}
 use Rattle.coset.specs.Item.{Item, Pairs, array, bytes, dict, integer}
 use Rattle.coset.specs.Grammar.{IsItem}
@@ -7,13 +7,14 @@ use Rattle.coset.specs.Headers.{HeaderView, ProtectedView, header, protected}
 use Rattle.coset_seen.specs.declared.elements.Elements.{Elements}
 use Rattle.coset_seen.specs.declared.forward.Ahead.{Ahead}
 use Rattle.coset_seen.specs.declared.kind.Kind as kinds
+use Rattle.coset_seen.specs.declared.kind.Kind.TheVariants.{Sign1, Mac0, Encrypt0, Mac, Encrypt}
 use Rattle.coset_seen.specs.declared.message.KeyId.{KeyId}
 use Rattle.coset_seen.specs.declared.message.Layout.{Layout}
 use Rattle.coset_seen.specs.declared.message.Part.{Part}
 use Rattle.coset_seen.specs.declared.message.Seen.{Seen}
 use Rattle.coset.specs.Shape.{Shape}
 use Rattle.coset_seen.specs.Begins.{Begins, IsAhead}
-use Rattle.coset_seen.specs.Elements.{AreElements, BeginsHeaders, IsFilledMapOf, IsMessage, IsProof, content_of, message_items, perhaps_tag}
+use Rattle.coset_seen.specs.Elements.{AreElements, BeginsHeaders, IsFilledMapOf, IsMessage, IsProof, content_of, laid_items, message_items, perhaps_tag}
 use Rattle.coset_seen.specs.Kinds.{has_recipients, tag_of}
 use Rattle.coset_seen.specs.Labels.{NamesAlgorithm}
 use Rattle.coset_seen.specs.Layout.{IsDescribed, IsLayout}
@@ -69,14 +70,24 @@ map_of : (b : List ℕ) (ps : Pairs) → IsFilledMapOf b ps → IsMapOf b ps
 map_of b ps (inl e) = inl e
 map_of b ps (inr h) = inr h.1
 
+-- A kind without recipients.
+no_recipients :
+    (k : kinds.Kind) (p : List ℕ) (us : Pairs) (c : Option (List ℕ)) (t : List ℕ) (w : Item) → has_recipients k ≡ false
+    → laid_items k p us c t w ≡ message_items k p us c t
+no_recipients Sign1 p us c t w few = refl
+no_recipients Mac0 p us c t w few = refl
+no_recipients Encrypt0 p us c t w few = refl
+no_recipients Mac p us c t w few = absurd (true≢false few)
+no_recipients Encrypt p us c t w few = absurd (true≢false few)
+
 module _ (k : kinds.Kind) (b : List ℕ) (t : Bool) (e : Elements) (s : Seen) (m : IsMessage k b t e) (h : IsTakenFrom k b t e s) where
   abbrev a : AreElements k b m.pairs e
   a = m.are_elements
 
-  is_item : IsItem b (perhaps_tag s.is_tagged (tag_of k) (array (message_items k s.protected.bytes.now m.pairs (bytes_of s.content) s.proof.bytes.now m.recipients)))
+  is_item : IsItem b (perhaps_tag s.is_tagged (tag_of k) (array (laid_items k s.protected.bytes.now m.pairs (bytes_of s.content) s.proof.bytes.now m.recipients)))
   is_item =
       let Is : Bool → List ℕ → Option (List ℕ) → List ℕ → Type 0 =
-      λ z p c q. IsItem b (perhaps_tag z (tag_of k) (array (message_items k p m.pairs c q m.recipients))) in
+      λ z p c q. IsItem b (perhaps_tag z (tag_of k) (array (laid_items k p m.pairs c q m.recipients))) in
       subst (λ z. Is z s.protected.bytes.now (bytes_of s.content) s.proof.bytes.now) (sym h.is_tagged)
       (subst (λ p. Is t p (bytes_of s.content) s.proof.bytes.now) (sym h.protected.0)
       (subst (λ c. Is t e.protected.bytes.now c s.proof.bytes.now) (content_same b e.content s.content h.content)
@@ -122,13 +133,13 @@ module _ (k : kinds.Kind) (b : List ℕ) (t : Bool) (e : Elements) (s : Seen) (m
         proof_in = h.proof.1 a.proof_in;
       }
 
-  pub lies_in : e.is_plain ≡ true → LiesIn k b s
-  lies_in is =
+  pub lies_in : has_recipients k ≡ false → e.is_plain ≡ true → LiesIn k b s
+  lies_in few is =
       let plain = a.plain is in record {
         first = a.first.pairs;
         second = m.pairs;
-        recipients = m.recipients;
-        is_item = is_item;
+        is_item = subst (λ vs. IsItem b (perhaps_tag s.is_tagged (tag_of k) (array vs)))
+            (no_recipients k s.protected.bytes.now m.pairs (bytes_of s.content) s.proof.bytes.now m.recipients few) is_item;
         is_first = map_of s.protected.bytes.now a.first.pairs is_first;
         first_plain = (a.first.has.plain plain.0).0;
         second_plain = (a.second.plain plain.1).0;

@@ -11,7 +11,7 @@ use Rattle.coset_seen.specs.declared.kind.Kind.TheVariants.{Sign1, Mac0, Encrypt
 use Rattle.coset_seen.specs.declared.labels.Header.{Header}
 use Rattle.coset_seen.specs.Begins.{Begins, Closes, IsAhead, Opens}
 use Rattle.coset_seen.specs.Elements.{AreElements, BeginsContent, BeginsElements, BeginsMessage, BeginsProof, IsContent, IsCounted, IsMessage, IsProof, IsUntagged, items_of}
-use Rattle.coset_seen.specs.Elements.{proof_items}
+use Rattle.coset_seen.specs.Elements.{last_items}
 use Rattle.coset_seen.specs.Kinds.{elements_of, tag_of}
 use Rattle.coset_seen.specs.Labels.{BeginsHeader, EndsWith, IsHeader, TakesNone}
 use Rattle.coset_seen.proofs.Fronts.{ahead_in}
@@ -61,7 +61,7 @@ one_encoded v c e = (c, [], e, refl, sym (append-nil c))
 
 -- A signature or a tag.
 pub proof_alone :
-    (k : kinds.Kind) (b : List ℕ) (t : Ahead) → ((w : Item) → proof_items k t.bytes.now w ≡ item (bytes t.bytes.now) no_items) → IsProof k t.bytes.now
+    (k : kinds.Kind) (b : List ℕ) (t : Ahead) → ((w : Item) → last_items k t.bytes.now w ≡ item (bytes t.bytes.now) no_items) → IsProof k t.bytes.now
     → Begins (bytes t.bytes.now) t.behind.now b → IsAhead b t → BeginsProof k b t t.behind.now
 proof_alone k b t same is e ahead = record {
   recipients = null;

@@ -20,7 +20,7 @@ use Rattle.coset_seen.specs.declared.header.Named.{Named}
 use Rattle.coset_seen.specs.declared.kind.Kind as kinds
 use Rattle.coset_seen.specs.declared.kind.Kind.TheVariants.{Sign1, Mac0, Encrypt0, Mac, Encrypt}
 use Rattle.coset_seen.specs.declared.labels.Header.{Header}
-use Rattle.coset_seen.specs.Elements.{IsFilledMapOf, IsProof, content_item, message_items, perhaps_tag}
+use Rattle.coset_seen.specs.Elements.{IsFilledMapOf, IsProof, content_item, laid_items, perhaps_tag}
 use Rattle.coset_seen.specs.Kinds.{has_recipients, tag_of}
 use Rattle.coset_seen.specs.Labels.{IsHeader}
 use Rattle.coset_seen.specs.Named.{AreNamed, value_of}
@@ -127,15 +127,15 @@ formed s false n b w x is d = (w, is, d)
 
 pub message_described :
     (k : kinds.Kind) (t : Bool) (b p : List ℕ) (us : Pairs) (c : Option (List ℕ)) (s : List ℕ) (w : Item) (x : ProtectedView) (u : HeaderView)
-    → has_recipients k ≡ false → IsProof k s → IsItem b (perhaps_tag t (tag_of k) (array (message_items k p us c s w)))
+    → has_recipients k ≡ false → IsProof k s → IsItem b (perhaps_tag t (tag_of k) (array (laid_items k p us c s w)))
     → protected.describes (bytes p) x → header.describes (dict us) u
     → DescribesMessage k t b x u c s
 message_described Sign1 t b p us c s w x u few is_proof is d f =
-    formed sign1 t 18 b (array (message_items Sign1 p us c s w)) _ is (three (bstr then end) p x u us c (item (bytes s) no_items) (s, tt) d f (refl, tt))
+    formed sign1 t 18 b (array (laid_items Sign1 p us c s w)) _ is (three (bstr then end) p x u us c (item (bytes s) no_items) (s, tt) d f (refl, tt))
 message_described Mac0 t b p us c s w x u few is_proof is d f =
-    formed mac0 t 17 b (array (message_items Mac0 p us c s w)) _ is (three (bstr then end) p x u us c (item (bytes s) no_items) (s, tt) d f (refl, tt))
+    formed mac0 t 17 b (array (laid_items Mac0 p us c s w)) _ is (three (bstr then end) p x u us c (item (bytes s) no_items) (s, tt) d f (refl, tt))
 message_described Encrypt0 t b p us c s w x u few is_proof is d f =
-    (formed encrypt0 t 16 b (array (message_items Encrypt0 p us c s w)) _ is (three end p x u us c no_items tt d f tt), is_proof)
+    (formed encrypt0 t 16 b (array (laid_items Encrypt0 p us c s w)) _ is (three end p x u us c no_items tt d f tt), is_proof)
 message_described Mac t b p us c s w x u few is_proof is d f = absurd (true≢false few)
 message_described Encrypt t b p us c s w x u few is_proof is d f = absurd (true≢false few)
 

@@ -35,13 +35,21 @@ content_of = option_map (λ t. t.bytes.now)
 abbrev pub BeginsContent : List ℕ → Option Ahead → List ℕ → Type 0
 BeginsContent b o s = Begins (content_item (content_of o)) s b × IfSome o (IsAhead b)
 
+-- The elements after the content: a signature or a tag, or none. Recipients are left out.
+abbrev pub proof_items : kinds.Kind → List ℕ → Items
+proof_items Sign1 t = item (bytes t) no_items
+proof_items Mac0 t = item (bytes t) no_items
+proof_items Encrypt0 t = no_items
+proof_items Mac t = item (bytes t) no_items
+proof_items Encrypt t = no_items
+
 -- The elements after the content: a signature or a tag t, and the array of recipients w, or none of them.
-abbrev pub proof_items : kinds.Kind → List ℕ → Item → Items
-proof_items Sign1 t w = item (bytes t) no_items
-proof_items Mac0 t w = item (bytes t) no_items
-proof_items Encrypt0 t w = no_items
-proof_items Mac t w = item (bytes t) (item w no_items)
-proof_items Encrypt t w = item w no_items
+abbrev pub last_items : kinds.Kind → List ℕ → Item → Items
+last_items Sign1 t w = item (bytes t) no_items
+last_items Mac0 t w = item (bytes t) no_items
+last_items Encrypt0 t w = no_items
+last_items Mac t w = item (bytes t) (item w no_items)
+last_items Encrypt t w = item w no_items
 
 -- A kind without a signature or a tag has an empty one.
 abbrev pub IsProof : kinds.Kind → List ℕ → Type 0
@@ -54,18 +62,22 @@ pub record BeginsProof (k : kinds.Kind) (b : List ℕ) (t : Ahead) (s : List ℕ
   pub recipients : Item
   pub encoding : List ℕ
   pub parts : b ≡ encoding ++ s
-  pub are_encoded : AreEncodings (proof_items k t.bytes.now recipients) encoding
+  pub are_encoded : AreEncodings (last_items k t.bytes.now recipients) encoding
   pub is_proof : IsProof k t.bytes.now
   pub placed : IsAhead b t
 
--- A message of kind k, from its protected bytes p, the pairs of its unprotected header, its content, its signature or tag,
--- and the array of its recipients.
-abbrev pub message_items : kinds.Kind → List ℕ → Pairs → Option (List ℕ) → List ℕ → Item → Items
-message_items k p us c t w = item (bytes p) (item (dict us) (item (content_item c) (proof_items k t w)))
+-- A message of kind k, from its protected bytes p, the pairs of its unprotected header, its content, and its signature or
+-- tag.
+abbrev pub message_items : kinds.Kind → List ℕ → Pairs → Option (List ℕ) → List ℕ → Items
+message_items k p us c t = item (bytes p) (item (dict us) (item (content_item c) (proof_items k t)))
+
+-- The same with the array w of its recipients.
+abbrev pub laid_items : kinds.Kind → List ℕ → Pairs → Option (List ℕ) → List ℕ → Item → Items
+laid_items k p us c t w = item (bytes p) (item (dict us) (item (content_item c) (last_items k t w)))
 
 -- The message with these elements.
 abbrev pub items_of : kinds.Kind → Elements → Pairs → Item → Items
-items_of k e us w = message_items k e.protected.bytes.now us (content_of e.content) e.proof.bytes.now w
+items_of k e us w = laid_items k e.protected.bytes.now us (content_of e.content) e.proof.bytes.now w
 
 -- The bytes b begin with the byte string p, and the bytes d with a map.
 abbrev pub BeginsHeaders : List ℕ → Pairs → List ℕ → List ℕ → Type 0

@@ -6,7 +6,7 @@ use Rattle.coset.specs.Headers.{HeaderView, ProtectedView}
 use Rattle.coset_seen.specs.declared.kind.Kind as kinds
 use Rattle.coset_seen.specs.declared.message.Layout.{Layout}
 use Rattle.coset_seen.specs.declared.message.Seen.{Seen}
-use Rattle.coset_seen.specs.Elements.{BeginsHeaders, IsFilledMapOf, IsProof, message_items, perhaps_tag}
+use Rattle.coset_seen.specs.Elements.{BeginsHeaders, IsFilledMapOf, IsProof, laid_items, perhaps_tag}
 use Rattle.coset_seen.specs.Kinds.{tag_of}
 use Rattle.coset_seen.specs.Labels.{NamesAlgorithm}
 use Rattle.coset_seen.specs.Named.{value_of}
@@ -20,7 +20,7 @@ pub record IsLayout (k : kinds.Kind) (b : List ℕ) (x : Layout) : Type 0 where
   pub recipients : Item
   pub is_item :
       IsItem b (perhaps_tag x.seen.is_tagged (tag_of k)
-      (array (message_items k x.seen.protected.bytes.now second (bytes_of x.seen.content) x.seen.proof.bytes.now recipients)))
+      (array (laid_items k x.seen.protected.bytes.now second (bytes_of x.seen.content) x.seen.proof.bytes.now recipients)))
   pub kind : x.seen.kind ≡ k
   pub is_first : IsFilledMapOf x.seen.protected.bytes.now first
   pub algorithm : NamesAlgorithm (value_of (pos 1) first) x.seen.algorithm x.has_text

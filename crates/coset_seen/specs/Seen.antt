@@ -2,7 +2,7 @@
 use Rattle.std.specs.Prelude.{◌≡◌, ◌≢◌, ◌++◌, ◌⊎◌, ℕ, pos, negsuc, List, [], Option, Some, None, Bool, true, false, Result}
 use Rattle.std.specs.Prelude.{Ok, Err, IfSome, length, option_map, ⊤}
 use Rattle.std.specs.Borrow.{Bor}
-use Rattle.coset.specs.Item.{Item, Pairs, no_pairs, array, bytes, dict, integer}
+use Rattle.coset.specs.Item.{Pairs, no_pairs, array, bytes, dict, integer}
 use Rattle.coset.specs.Grammar.{IsItem}
 use Rattle.coset.specs.Results.{Describes}
 use Rattle.coset.specs.Shape.{Shape, tagged}
@@ -121,9 +121,7 @@ IsMapOf b ps = ((b ≡ []) × (ps ≡ no_pairs)) ⊎ IsItem b (dict ps)
 pub record LiesIn (k : kinds.Kind) (b : List ℕ) (s : Seen) : Type 0 where
   pub first : Pairs
   pub second : Pairs
-  pub recipients : Item
-  pub is_item :
-      IsItem b (perhaps_tag s.is_tagged (tag_of k) (array (message_items k s.protected.bytes.now second (bytes_of s.content) s.proof.bytes.now recipients)))
+  pub is_item : IsItem b (perhaps_tag s.is_tagged (tag_of k) (array (message_items k s.protected.bytes.now second (bytes_of s.content) s.proof.bytes.now)))
   pub is_first : IsMapOf s.protected.bytes.now first
   pub first_plain : ArePlain (negsuc 0) first
   pub second_plain : ArePlain (negsuc 0) second

@@ -20,7 +20,7 @@ use Rattle.coset_seen.specs.declared.kind.Kind.TheVariants as plain
 use Rattle.coset_seen.specs.declared.message.KeyId.{KeyId}
 use Rattle.coset_seen.specs.declared.message.Part.{Part}
 use Rattle.coset_seen.specs.declared.message.Layout.{Layout}
-use Rattle.coset_seen.specs.Elements.{IsFilledMapOf, IsProof, content_item, message_items, perhaps_tag}
+use Rattle.coset_seen.specs.Elements.{IsFilledMapOf, IsProof, content_item, laid_items, perhaps_tag}
 use Rattle.coset_seen.specs.Kinds.{tag_of as seen_tag}
 use Rattle.coset_seen.specs.Labels.{NamesAlgorithm}
 use Rattle.coset_seen.specs.Layout.{IsDescribed}
@@ -78,7 +78,7 @@ module _
     (one : OneItem) (k : seen.Kind) (p : List ℕ) (ps us : Pairs) (c : Option (List ℕ)) (t : List ℕ) (r : Item) (is : IsFilledMapOf p ps)
   where
     abbrev message : Item
-    message = array (message_items k p us c t r)
+    message = array (laid_items k p us c t r)
 
     algorithm_known : (o : Option ℤ) (z : Bool) → NamesAlgorithm (value_of (pos 1) ps) o z → KnowsAlgorithm message (algorithm_of o z)
     algorithm_known (Some n) z h = (h.0, there_under (pos 1) p ps h.0 is h.1, h.2)
@@ -189,12 +189,12 @@ module _ (k : kinds.Kind) (b : List ℕ) (x : Layout) (h : IsSeenOf k b x) where
 
   pub once_of : (d : Option (List ℕ)) → both_given c d ≡ false → is_given_twice k d (seen_item h) ≡ false
   once_of d e =
-      by_kind k l.kind l.form (λ j z f. is_given_twice j d (array (message_items z p l.lies.second c t l.lies.recipients)) ≡ false) l.is_kind
-      (λ f. once (Sign1 f) (λ o. array (message_items plain.Sign1 p l.lies.second o t l.lies.recipients)) (λ o. refl) (λ y. refl) c d e)
-      (λ f. once (Mac0 f) (λ o. array (message_items plain.Mac0 p l.lies.second o t l.lies.recipients)) (λ o. refl) (λ y. refl) c d e)
-      (λ f. once (Encrypt0 f) (λ o. array (message_items plain.Encrypt0 p l.lies.second o t l.lies.recipients)) (λ o. refl) (λ y. refl) c d e)
-      (λ f. once (Mac f) (λ o. array (message_items plain.Mac p l.lies.second o t l.lies.recipients)) (λ o. refl) (λ y. refl) c d e)
-      (λ f. once (Encrypt f) (λ o. array (message_items plain.Encrypt p l.lies.second o t l.lies.recipients)) (λ o. refl) (λ y. refl) c d e)
+      by_kind k l.kind l.form (λ j z f. is_given_twice j d (array (laid_items z p l.lies.second c t l.lies.recipients)) ≡ false) l.is_kind
+      (λ f. once (Sign1 f) (λ o. array (laid_items plain.Sign1 p l.lies.second o t l.lies.recipients)) (λ o. refl) (λ y. refl) c d e)
+      (λ f. once (Mac0 f) (λ o. array (laid_items plain.Mac0 p l.lies.second o t l.lies.recipients)) (λ o. refl) (λ y. refl) c d e)
+      (λ f. once (Encrypt0 f) (λ o. array (laid_items plain.Encrypt0 p l.lies.second o t l.lies.recipients)) (λ o. refl) (λ y. refl) c d e)
+      (λ f. once (Mac f) (λ o. array (laid_items plain.Mac p l.lies.second o t l.lies.recipients)) (λ o. refl) (λ y. refl) c d e)
+      (λ f. once (Encrypt f) (λ o. array (laid_items plain.Encrypt p l.lies.second o t l.lies.recipients)) (λ o. refl) (λ y. refl) c d e)
     where
       once : (j : kinds.Kind) (m : Option (List ℕ) → Item) → ((o : Option (List ℕ)) → is_given_twice j None (m o) ≡ false)
           → ((y : List ℕ) → is_given_twice j (Some y) (m None) ≡ false)
@@ -208,7 +208,7 @@ module _ (k : kinds.Kind) (b : List ℕ) (x : Layout) (h : IsSeenOf k b x) where
   proof_of : proof_in k (seen_item h) ≡ Some t
   proof_of =
       by_kind k l.kind l.form
-      (λ j z f. IsProof z t → proof_in j (array (message_items z p l.lies.second c t l.lies.recipients)) ≡ Some t) l.is_kind (λ f x. refl) (λ f x. refl)
+      (λ j z f. IsProof z t → proof_in j (array (laid_items z p l.lies.second c t l.lies.recipients)) ≡ Some t) l.is_kind (λ f x. refl) (λ f x. refl)
       (λ f x. ap Some (sym x)) (λ f x. refl) (λ f x. ap Some (sym x)) l.lies.is_proof
 
   signed_is : (c d : Option (List ℕ)) → IsSigned (content_item c) d (signed_of c d)

@@ -4,7 +4,7 @@ use Rattle.coset_seen.specs.declared.kind.Kind as seen
 use Rattle.coset_seen.specs.declared.kind.Kind.TheVariants as plain
 use Rattle.coset_seen.specs.declared.message.Layout.{Layout}
 use Rattle.coset_seen.specs.declared.message.KeyId.{KeyId}
-use Rattle.coset_seen.specs.Elements.{message_items}
+use Rattle.coset_seen.specs.Elements.{laid_items}
 use Rattle.coset_seen.specs.Layout.{IsLayout}
 use Rattle.coset_seen.specs.Seen.{bytes_of}
 use Rattle.coset.specs.Item.{Item, array}
@@ -50,7 +50,7 @@ pub record IsSeenOf (k : kinds.Kind) (b : List ℕ) (x : Layout) : Type 0 where
 -- The message without its tag.
 abbrev pub seen_item : {k : kinds.Kind} {b : List ℕ} {x : Layout} → IsSeenOf k b x → Item
 seen_item {x = x} h =
-    let l = h.laid.lies in array (message_items h.laid.kind x.seen.protected.bytes.now l.second (bytes_of x.seen.content) x.seen.proof.bytes.now l.recipients)
+    let l = h.laid.lies in array (laid_items h.laid.kind x.seen.protected.bytes.now l.second (bytes_of x.seen.content) x.seen.proof.bytes.now l.recipients)
 
 -- The algorithm of that number, if there is one. Otherwise it is a text if the bool is true.
 abbrev pub algorithm_of : Option ℤ → Bool → algorithms.Algorithm
