@@ -4,8 +4,9 @@ pub mod Valued
 pub mod Viewed
 pub mod Known
 pub mod Locating
-pub pub mod Finding
-pub pub mod Lending
+pub mod Fitting
+pub mod Finding
+pub mod Lending
 pub mod Spanning
 pub mod Placing
 pub mod Missing

@@ -17,3 +17,4 @@ pub mod Borrowed
 pub mod Spans
 pub mod Elements
 pub mod Seen
+pub mod Fits

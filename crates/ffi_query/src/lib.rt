@@ -18,6 +18,7 @@ mod countersign;
 mod critical;
 mod elements;
 mod fault;
+mod fits;
 mod found;
 mod item;
 mod keys;

@@ -33,7 +33,7 @@ fn kind_in(kind: Kind) -> Option<(coset_seen::Kind, Form)>
 
 /// Returns true if the form allows a message that is or isn't under its tag, as `is_tagged` says.
 #[inline(always)]
-fn is_in_form(form: Form, is_tagged: bool) -> bool
+pub(crate) fn is_in_form(form: Form, is_tagged: bool) -> bool
     ensures { result ≡ true → IsAllowed form is_tagged }
 {
     match form {

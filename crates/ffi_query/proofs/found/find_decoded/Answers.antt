@@ -14,10 +14,12 @@ pub returns-in_err-check_item : goal.returns-in_err-check_item
 returns-in_err-check_item c =
     let k = c.args.kind in
     let b = c.args.bytes.now in
+    let found = c.found_in-found.ensures in
     refuses (IsFound k b) (IsRefused k b) c.in_err-check_item.field-0.0 c.from_residual-in_err-check_item.result c.from_residual-in_err-check_item.ensures.1
-    (c.in_err-check_item.ensures (pull_item c.in_ok-item.item) c.in_ok-item.ensures.whole.0)
+    (c.in_err-check_item.ensures (pull_item c.in_ok-item.item) c.in_ok-item.ensures.whole found.item found.tag)
 
 pub returns : goal.returns
 returns c =
     let only = c.in_ok-item.ensures.whole in
-    c.found_in.ensures only c.in_ok-item.ensures.bytes (c.in_ok-check_item.ensures (pull_item c.in_ok-item.item) only.0)
+    let found = c.found_in-found.ensures in
+    found.found only c.in_ok-item.ensures.bytes (c.in_ok-check_item.ensures (pull_item c.in_ok-item.item) only found.item found.tag)

@@ -1,4 +1,3 @@
-use Rattle.coset.specs.Pulls.{pull_item}
 use Rattle.ffi_query.specs.Found.{IsFound}
 use Rattle.ffi_query.specs.Kinds.{IsRefused}
 use Rattle.ffi_query.proofs.EachKind.{refuses}
@@ -10,14 +9,6 @@ returns-in_err-item c =
     let b = c.args.bytes.now in
     refuses (IsFound k b) (IsRefused k b) c.in_err-item.field-0.0 c.from_residual.result c.from_residual.ensures.1 c.in_err-item.ensures.whole
 
-pub returns-in_err-check_message_or_item : goal.returns-in_err-check_message_or_item
-returns-in_err-check_message_or_item c =
-    let k = c.args.kind in
-    let b = c.args.bytes.now in
-    refuses (IsFound k b) (IsRefused k b) c.in_err-check_message_or_item.field-0.0 c.from_residual-in_err-check_message_or_item.result c.from_residual-in_err-check_message_or_item.ensures.1
-    (c.in_err-check_message_or_item.ensures (pull_item c.in_ok-item.item) c.in_ok-item.ensures.whole.0)
-
-pub returns : goal.returns
-returns c =
-    let only = c.in_ok-item.ensures.whole in
-    c.found_in.ensures only c.in_ok-item.ensures.bytes (c.in_ok-check_message_or_item.ensures (pull_item c.in_ok-item.item) only.0)
+pub returns-in_ok-item : goal.returns-in_ok-item
+returns-in_ok-item c =
+    c.found_in.ensures.found c.in_ok-item.ensures.whole c.in_ok-item.ensures.bytes (c.is_message.ensures c.if-is_message.true)
