@@ -92,9 +92,9 @@ fn within<'a>(outer: Part<'_>, inner: Part<'a>) -> Part<'a>
 
 /// Returns the key identifier of a message.
 #[inline(always)]
-fn key_id_of<'a>(elements: Elements<'a>, protected: Part<'a>, input: &[u8]) -> Option<KeyId<'a>>
-    ensures { FindsKeyId input.now protected.entry elements.entry.first.named.key_id
-        elements.entry.second.named.key_id result }
+fn key_id_of<'a>(elements: &Elements<'a>, protected: Part<'a>, input: &[u8]) -> Option<KeyId<'a>>
+    ensures { FindsKeyId input.now protected.entry elements.now.first.named.key_id
+        elements.now.second.named.key_id result }
 {
     if let Some(found) = elements.first.named.key_id {
         return Some(KeyId {
@@ -113,8 +113,8 @@ fn key_id_of<'a>(elements: Elements<'a>, protected: Part<'a>, input: &[u8]) -> O
 
 /// Returns the content of a message.
 #[inline(always)]
-fn content_of<'a>(elements: Elements<'a>, input: &[u8]) -> Option<Part<'a>>
-    ensures { IsContentOf input.now elements.entry.content result }
+fn content_of<'a>(elements: &Elements<'a>, input: &[u8]) -> Option<Part<'a>>
+    ensures { IsContentOf input.now elements.now.content result }
 {
     match elements.content {
         Some(found) => Some(part_of(found, input)),
@@ -127,10 +127,10 @@ fn content_of<'a>(elements: Elements<'a>, input: &[u8]) -> Option<Part<'a>>
 fn taken_from<'a>(
     kind: Kind,
     is_tagged: bool,
-    elements: Elements<'a>,
+    elements: &Elements<'a>,
     input: &'a [u8],
 ) -> Seen<'a>
-    ensures { IsTakenFrom kind input.now is_tagged elements.entry result }
+    ensures { IsTakenFrom kind input.now is_tagged elements.now result }
 {
     let protected = part_of(elements.protected, input);
     Seen {
@@ -174,7 +174,7 @@ pub fn see(kind: Kind, input: &[u8]) -> Option<Seen<'_>>
     if !elements.is_plain {
         return None;
     }
-    Some(taken_from(kind, is_tagged, elements, input))
+    Some(taken_from(kind, is_tagged, &elements, input))
 }
 
 /// The parts of a message, whatever its headers are. They may be invalid.
@@ -227,13 +227,12 @@ fn is_unprotected(alloc: Global, place: Pull<'_>) -> bool
 /// `None` doesn't mean that the message is invalid. It is returned unless the message is the whole
 /// input, and the protected header, the content, the signature or tag, and the key identifiers are
 /// byte strings of definite length (RFC 8949, section 3.2.3).
-#[inline(always)]
 pub fn layout_of(kind: Kind, input: &[u8]) -> Option<Layout<'_>>
     ensures { IfSome result (IsLayout kind input.now) }
 {
     let (is_tagged, elements) = elements_of(kind, input)?;
     Some(Layout {
-        seen: taken_from(kind, is_tagged, elements, input),
+        seen: taken_from(kind, is_tagged, &elements, input),
         has_text: elements.first.has_text,
         is_critical: is_either(elements.first.is_critical, elements.second.is_critical),
         fronts: (elements.front, elements.protected.behind),

@@ -17,7 +17,7 @@ ghost use Rattle.ffi_query.specs.Structures.{structure_of_one, structure_of_two}
 
 use crate::kind::Kind;
 use crate::located::{Located, Text};
-use crate::seen::{has_both, message_of, texts_of_seen};
+use crate::seen::{can_borrow, has_both, laid_of, texts_of_seen};
 use crate::view::{Algorithm, KeyIdPlace, MessageView};
 use coset::Result;
 use coset_cbor::laws::{least_encoding_is_shortest, one_item};
@@ -290,13 +290,15 @@ pub(crate) fn find_borrowed<'a>(
     ensures memory { IfErr result (λ e. e ≡ OutOfMemory) }
 {
     one_item();
-    let Some(layout) = message_of(alloc, kind, bytes) else {
+    let Some(layout) = laid_of(kind, bytes) else {
         return Ok(None);
     };
-    let seen = layout.seen;
-    if has_both(seen.content, detached) {
+    if !can_borrow(alloc, kind, &layout, bytes) {
         return Ok(None);
     }
-    let texts = texts_of_seen(layout, bytes, detached);
-    borrowed_by(alloc, kind, texts, seen.is_tagged, external_aad)
+    if has_both(layout.seen.content, detached) {
+        return Ok(None);
+    }
+    let texts = texts_of_seen(&layout, bytes, detached);
+    borrowed_by(alloc, kind, texts, layout.seen.is_tagged, external_aad)
 }

@@ -46,7 +46,7 @@ pub(crate) fn is_in_form(form: Form, is_tagged: bool) -> bool
 /// Returns the message of this kind that the bytes may encode. Its headers and its recipients may
 /// be invalid.
 #[inline(always)]
-fn laid_of(kind: Kind, bytes: &[u8]) -> Option<Layout<'_>>
+pub(crate) fn laid_of(kind: Kind, bytes: &[u8]) -> Option<Layout<'_>>
     ensures { IfSome result (IsLaidOf kind bytes.now) }
 {
     let (seen_kind, form) = kind_in(kind)?;
@@ -62,6 +62,10 @@ fn laid_of(kind: Kind, bytes: &[u8]) -> Option<Layout<'_>>
 pub(crate) fn is_message(alloc: Global, kind: Kind, bytes: &[u8]) -> bool
     ensures { IsTrue result → IsOf kind bytes.now }
 {
+    match kind {
+        Kind::Mac(_) | Kind::Encrypt(_) => return false,
+        _ => {}
+    }
     match laid_of(kind, bytes) {
         Some(layout) => layout.is_valid(alloc),
         None => false,
@@ -78,30 +82,19 @@ fn is_decoded(alloc: Global, kind: Kind, bytes: &[u8]) -> bool
     }
 }
 
-/// Returns true if the laid out message is valid. A message with recipients is decoded.
-#[inline(always)]
-fn is_valid(alloc: Global, kind: Kind, layout: &Layout<'_>, bytes: &[u8]) -> bool
-    ensures { IsLaidOf kind bytes.now layout.now → IsTrue result → IsOf kind bytes.now }
+/// Returns true if the laid out message is valid and has no `crit`. A message with recipients is
+/// decoded.
+pub(crate) fn can_borrow(alloc: Global, kind: Kind, layout: &Layout<'_>, bytes: &[u8]) -> bool
+    ensures { IsLaidOf kind bytes.now layout.now → IsTrue result
+        → IsSeenOf kind bytes.now layout.now }
 {
+    if layout.is_critical {
+        return false;
+    }
     match kind {
         Kind::Mac(_) | Kind::Encrypt(_) => is_decoded(alloc, kind, bytes),
         _ => layout.is_valid(alloc),
     }
-}
-
-/// Returns the message of this kind that the bytes encode, if it has no `crit`.
-#[inline(always)]
-pub(crate) fn message_of(alloc: Global, kind: Kind, bytes: &[u8]) -> Option<Layout<'_>>
-    ensures { IfSome result (IsSeenOf kind bytes.now) }
-{
-    let layout = laid_of(kind, bytes)?;
-    if layout.is_critical {
-        return None;
-    }
-    if !is_valid(alloc, kind, &layout, bytes) {
-        return None;
-    }
-    Some(layout)
 }
 
 /// Returns the part as a text of the input.
@@ -201,24 +194,23 @@ pub(crate) fn has_both(found: Option<Part<'_>>, detached: Option<&[u8]>) -> bool
 /// Returns the texts of a message.
 #[inline(always)]
 pub(crate) fn texts_of_seen<'a>(
-    layout: Layout<'a>,
+    layout: &Layout<'a>,
     input: &'a [u8],
     detached: Option<&'a [u8]>,
 ) -> Texts<'a>
-    ensures texts { (k : Kind) (h : IsSeenOf k input.now layout.entry)
+    ensures texts { (k : Kind) (h : IsSeenOf k input.now layout.now)
         → AreTexts k (option_copied detached.entry) input.now (seen_item h) result }
-    ensures protected { result.protected.now ≡ layout.entry.seen.protected.bytes.now }
+    ensures protected { result.protected.now ≡ layout.now.seen.protected.bytes.now }
     ensures signed { option_copied result.signed
-        ≡ signed_of (bytes_of layout.entry.seen.content) (option_copied detached.entry) }
+        ≡ signed_of (bytes_of layout.now.seen.content) (option_copied detached.entry) }
 {
     one_item();
-    let seen = layout.seen;
     Texts {
-        protected: seen.protected.bytes,
-        algorithm: algorithm_of(seen.algorithm, layout.has_text),
-        proof: text_of(seen.proof, input),
-        content: content_of(seen.content, input),
-        key_id: key_id_of(seen.key_id, input),
-        signed: signed_of(seen.content, detached),
+        protected: layout.seen.protected.bytes,
+        algorithm: algorithm_of(layout.seen.algorithm, layout.has_text),
+        proof: text_of(layout.seen.proof, input),
+        content: content_of(layout.seen.content, input),
+        key_id: key_id_of(layout.seen.key_id, input),
+        signed: signed_of(layout.seen.content, detached),
     }
 }

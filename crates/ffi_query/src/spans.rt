@@ -16,7 +16,7 @@ use crate::found::find_decoded;
 use crate::kind::Kind;
 use crate::located::Text;
 use crate::refusal::Refusal;
-use crate::seen::{has_both, message_of, texts_of_seen};
+use crate::seen::{can_borrow, has_both, laid_of, texts_of_seen};
 use crate::view::{MessageView, view_of};
 use coset::CoseError;
 use coset::laws::one_item;
@@ -161,18 +161,20 @@ fn borrowed_spans<'a>(
         (HasNoView kind i external_aad.now d ns) out.old out.new) }
 {
     one_item();
-    let layout = message_of(alloc, kind, bytes)?;
-    let seen = layout.seen;
-    if has_both(seen.content, detached) {
+    let layout = laid_of(kind, bytes)?;
+    if !can_borrow(alloc, kind, &layout, bytes) {
         return None;
     }
-    let texts = texts_of_seen(layout, bytes, detached);
+    if has_both(layout.seen.content, detached) {
+        return None;
+    }
+    let texts = texts_of_seen(&layout, bytes, detached);
     let (proof_len, content_len) = (texts.proof.bytes.len(), texts.content.bytes.len());
     let len = sum_of(0, proof_len, content_len, texts.key_id.text.bytes.len())?;
     len.checked_add(out.len())?;
-    let spans = unsized_spans(&texts, seen.is_tagged, len, bytes);
-    let given = given_content(kind, seen.content, detached);
-    match seen.put_structure(external_aad, given, out) {
+    let spans = unsized_spans(&texts, layout.seen.is_tagged, len, bytes);
+    let given = given_content(kind, layout.seen.content, detached);
+    match layout.seen.put_structure(external_aad, given, out) {
         Ok(structure_len) => Some(Ok(with_structure(spans, structure_len))),
         Err(error) => {
             let refusal = refusal_of(error)?;

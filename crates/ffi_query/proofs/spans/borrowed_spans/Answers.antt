@@ -15,8 +15,7 @@ returns-in-Ok c =
     let aad = c.args.external_aad.now in
     let d = option_copied c.args.detached in
     let y = c.in_ok-layout.layout in
-    let s = y.seen in
-    let h = c.in_ok-layout.ensures in
+    let h = c.can_borrow.ensures c.in_ok-layout.ensures c.if-not-can_borrow.false in
     let x = c.texts_of_seen-texts.result in
     let texts = c.texts_of_seen-texts.ensures in
     let found = structure_of_seen k b y h aad c.args.out.now c.put_structure.new.out (option_copied c.given_content-given.result) _
@@ -25,7 +24,7 @@ returns-in-Ok c =
     let t = found.0 in
     let encoded = structure_is k b aad t d (option_copied c.given_content-given.result) y x texts.protected texts.signed c.given_content-given.ensures
     found.1 in
-    let are = plain_spans_are k i aad d ns b t (seen_item h) x s.is_tagged c.in_ok-len.len c.unsized_spans-spans.result (texts.texts k h)
+    let are = plain_spans_are k i aad d ns b t (seen_item h) x y.seen.is_tagged c.in_ok-len.len c.unsized_spans-spans.result (texts.texts k h)
     c.unsized_spans-spans.ensures c.in_ok-len.ensures encoded (tells_of k b y h c.one_item.ensures)
     (once_of k b y h d (sym c.has_both.ensures ∙ c.if-has_both.false)) in (
       seen_item h,
@@ -46,8 +45,7 @@ returns-in_ok-refusal-in-Err c =
     let aad = c.args.external_aad.now in
     let d = option_copied c.args.detached in
     let y = c.in_ok-layout.layout in
-    let s = y.seen in
-    let h = c.in_ok-layout.ensures in
+    let h = c.can_borrow.ensures c.in_ok-layout.ensures c.if-not-can_borrow.false in
     let texts = c.texts_of_seen-texts.ensures in
     plain_refused k i aad d (option_copied c.given_content-given.result) ns b y h c.texts_of_seen-texts.result c.in_ok-len.len c.unsized_spans-spans.result c.args.out.now c.put_structure.new.out
     (HasNoView k i aad d ns) c.in-Err.error c.in_ok-refusal-in-Err.refusal (texts.texts k h) texts.protected texts.signed c.given_content-given.ensures c.unsized_spans-spans.ensures
