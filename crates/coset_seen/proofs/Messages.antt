@@ -1,5 +1,5 @@
 -- Messages, from their elements.
-use Rattle.std.proofs.Common.{◌≡◌, ◌∙◌, ◌++◌, ℕ, List, [], Option, Some, None, Bool, true, false, refl, sym, ap, subst, inl, inr}
+use Rattle.std.proofs.Common.{◌≡◌, ◌∙◌, ◌++◌, ◌⊎◌, ℕ, List, [], Option, Some, None, Bool, true, false, refl, sym, ap, subst, inl, inr}
 use Rattle.std.specs.Prelude.{IfSome}
 use Rattle.std.proofs.lemmas.List.{append_assoc, append-nil}
 use Rattle.coset.specs.Item.{Item, Pairs, item, no_items, no_pairs, tag, array, bytes, dict, null, items_count}
@@ -60,7 +60,7 @@ one_encoded : (v : Item) (c : List ℕ) → IsEncoding v c → AreEncodings (ite
 one_encoded v c e = (c, [], e, refl, sym (append-nil c))
 
 -- A signature or a tag.
-pub proof_alone :
+proof_alone :
     (k : kinds.Kind) (b : List ℕ) (t : Ahead) → ((w : Item) → last_items k t.bytes.now w ≡ item (bytes t.bytes.now) no_items) → IsProof k t.bytes.now
     → Begins (bytes t.bytes.now) t.behind.now b → IsAhead b t → BeginsProof k b t t.behind.now
 proof_alone k b t same is e ahead = record {
@@ -71,6 +71,12 @@ proof_alone k b t same is e ahead = record {
   is_proof = is;
   placed = ahead;
 }
+
+pub proof_of_two :
+    (k : kinds.Kind) (b : List ℕ) (t : Ahead) → (k ≡ Sign1) ⊎ (k ≡ Mac0) → Begins (bytes t.bytes.now) t.behind.now b → IsAhead b t
+    → BeginsProof k b t t.behind.now
+proof_of_two k b t (inl is) e ahead = subst (λ j. BeginsProof j b t t.behind.now) (sym is) (proof_alone Sign1 b t (λ w. refl) tt e ahead)
+proof_of_two k b t (inr is) e ahead = subst (λ j. BeginsProof j b t t.behind.now) (sym is) (proof_alone Mac0 b t (λ w. refl) tt e ahead)
 
 -- A tag and recipients.
 pub proof_and_recipients :

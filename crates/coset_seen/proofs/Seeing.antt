@@ -83,7 +83,7 @@ content_view b ps n (inl e) plain named = (
   subst (λ c. ContentDescribes empty_header (layered_header 15) c empty_header) (sym e.0) refl,
   record {
     algorithm = ap (option_map number) (nothing integer n.algorithm (sym named.algorithm ∙ ap (value_of (pos 1)) e.1));
-    key_id = subst (KeyIs []) (sym (nothing (λ t. bytes t.bytes.now) n.key_id (sym named.key_id ∙ ap (value_of (pos 4)) e.1))) refl;
+    key_id = subst (KeyIs []) (nothing (λ t. bytes t.bytes.now) n.key_id (sym named.key_id ∙ ap (value_of (pos 4)) e.1)) refl;
   },
 )
 content_view [] ps n (inr h) plain named = absurd (h.0 refl)

@@ -2,12 +2,10 @@
 
 ghost use Rattle.std.specs.Ordering.{int_eq};
 ghost use Rattle.std.specs.Prelude.{◌≡◌, List, ℕ, IfSome, IsTrue, MatchOption, None, Some};
-ghost use Rattle.coset.specs.Headers.{HeaderView, layered_header};
 ghost use Rattle.coset.specs.Pulls.{pull_item};
-ghost use Rattle.coset.specs.Results.{Describes};
 ghost use Rattle.coset_seen.specs.Begins.{Begins};
 ghost use Rattle.coset_seen.specs.Labels.{BeginsHeader, BeginsPairs, GoesOn, IsHeader, IsNoNumber, IsNumber, Takes, TakesAlgorithm, TakesKeyId, TakesNone, TakesNumber, names_algorithm};
-ghost use Rattle.coset_seen.specs.Named.{is_same};
+ghost use Rattle.coset_seen.specs.Named.{DescribesHeader, is_same};
 
 use crate::forward::{Ahead, break_at, bytes_at, opened};
 use crate::header::{Named, named_at};

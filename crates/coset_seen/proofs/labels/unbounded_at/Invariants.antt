@@ -5,7 +5,7 @@ abbrev pub invariant-loop : goal.invariant-loop
 invariant-loop l =
     Passed l.counter l.bytes l.rest
     (record {
-      named = record { algorithm = l.found.0.0; key_id = l.found.0.1.0 };
+      named = l.found.0;
       has_text = l.found.1.0;
       is_critical = l.found.1.1.0;
       is_plain = l.found.1.1.1.0;

@@ -4,8 +4,8 @@ use Rattle.coset.specs.Pulls.{pull_bytes, pull_item}
 use Rattle.coset_seen.proofs.Found.{decoded_front, first_plain_valid}
 use Rattle.coset_seen.proofs.message.Layout.is_first_valid.Goals as goal
 
-pub returns-then-is_first_plain : goal.returns-then-is_first_plain
-returns-then-is_first_plain c = λ k b x t. first_plain_valid k b c.args.self.now x ?
+pub returns-then-self : goal.returns-then-self
+returns-then-self c = λ k b x t. first_plain_valid k b c.args.self.now x c.if-self.true
 
 pub returns-in-Ok : goal.returns-in-Ok
 returns-in-Ok c =
