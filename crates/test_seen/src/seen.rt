@@ -1,7 +1,7 @@
 //! Messages and headers that are seen, as text.
 
 use coset::{CoseError, Result};
-use coset_seen::{KeyId, Kind, Part, Seen, is_plain_header, see};
+use coset_seen::{KeyId, Kind, Part, Seen, is_plain_header, layout_of, see};
 use std::alloc::Global;
 use test_lines::mark;
 use test_lines::tell::hexadecimal;
@@ -103,6 +103,25 @@ pub fn fields(alloc: Global, words: &Words<'_>) -> Result<String> {
         Some(seen) => told(alloc, seen),
         None => Ok(String::from_str(alloc, "none")?),
     }
+}
+
+/// Returns the fields of the message that is laid out, and what its headers are.
+///
+/// # Errors
+/// The errors of [`fields`].
+pub fn layout(alloc: Global, words: &Words<'_>) -> Result<String> {
+    let kind = kind(words.word(1))?;
+    let bytes = words.bytes(alloc, 2)?;
+    mark::begin(alloc);
+    let answer = layout_of(kind, &bytes);
+    mark::end(alloc);
+    let Some(layout) = answer else {
+        return Ok(String::from_str(alloc, "none")?);
+    };
+    let told = told(alloc, layout.seen)?;
+    let (text, critical) = (layout.has_text, layout.is_critical);
+    let valid = layout.is_valid(alloc);
+    Ok(format!(in alloc; "{told} text {text} crit {critical} valid {valid}")?)
 }
 
 /// Returns whether the header is plain.
