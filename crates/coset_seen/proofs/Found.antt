@@ -84,7 +84,9 @@ module _ (k : kinds.Kind) (b : List ℕ) (t : Bool) (e : Elements) (s : Seen) (m
   abbrev a : AreElements k b m.pairs e
   a = m.are_elements
 
-  is_item : IsItem b (perhaps_tag s.is_tagged (tag_of k) (array (laid_items k s.protected.bytes.now m.pairs (bytes_of s.content) s.proof.bytes.now m.recipients)))
+  is_item :
+      IsItem b
+      (perhaps_tag s.is_tagged (tag_of k) (array (laid_items k s.protected.bytes.now m.pairs (bytes_of s.content) s.proof.bytes.now m.recipients)))
   is_item =
       let Is : Bool → List ℕ → Option (List ℕ) → List ℕ → Type 0 =
       λ z p c q. IsItem b (perhaps_tag z (tag_of k) (array (laid_items k p m.pairs c q m.recipients))) in

@@ -17,7 +17,8 @@ use Rattle.coset_seen.specs.declared.forward.Ahead.{Ahead}
 use Rattle.coset_seen.specs.declared.header.Named.{Named}
 use Rattle.coset_seen.specs.declared.labels.Header.{Header}
 use Rattle.coset_seen.specs.Begins.{IsAhead, Opens}
-use Rattle.coset_seen.specs.Labels.{BeginsHeader, BeginsPairs, EndsWith, GoesOn, Has, IsNoNumber, IsNumber, NamesAlgorithm, Takes, TakesAlgorithm, TakesKeyId, TakesNone, is_key}
+use Rattle.coset_seen.specs.Labels.{BeginsHeader, BeginsPairs, EndsWith, GoesOn, Has, IsNoNumber, IsNumber, NamesAlgorithm}
+use Rattle.coset_seen.specs.Labels.{Takes, TakesAlgorithm, TakesKeyId, TakesNone, is_key}
 use Rattle.coset_seen.specs.Labels.{TakesNumber, is_text, key_id_item, names_algorithm, value_if}
 use Rattle.coset_seen.specs.Named.{AreNamed, BeginsPlain, is_same, value_of}
 use Rattle.coset_seen.specs.Plain.{ArePlain, IsPlainValue}

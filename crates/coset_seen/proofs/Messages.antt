@@ -10,7 +10,8 @@ use Rattle.coset_seen.specs.declared.kind.Kind as kinds
 use Rattle.coset_seen.specs.declared.kind.Kind.TheVariants.{Sign1, Mac0, Encrypt0, Mac, Encrypt}
 use Rattle.coset_seen.specs.declared.labels.Header.{Header}
 use Rattle.coset_seen.specs.Begins.{Begins, Closes, IsAhead, Opens}
-use Rattle.coset_seen.specs.Elements.{AreElements, BeginsContent, BeginsElements, BeginsMessage, BeginsProof, IsContent, IsCounted, IsMessage, IsProof, IsUntagged, items_of}
+use Rattle.coset_seen.specs.Elements.{AreElements, BeginsContent, BeginsElements, BeginsMessage, BeginsProof, IsContent, IsCounted}
+use Rattle.coset_seen.specs.Elements.{IsMessage, IsProof, IsUntagged, items_of}
 use Rattle.coset_seen.specs.Elements.{last_items}
 use Rattle.coset_seen.specs.Kinds.{elements_of, tag_of}
 use Rattle.coset_seen.specs.Labels.{BeginsHeader, EndsWith, IsHeader, TakesNone}

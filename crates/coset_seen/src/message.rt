@@ -38,8 +38,8 @@ pub struct KeyId<'a> {
     pub is_protected: bool,
 }
 
-/// A message that [`see`] or [`layout_of`] found, borrowed from the bytes that encode it. Nothing in
-/// it is verified.
+/// A message that [`see`] or [`layout_of`] found, borrowed from the bytes that encode it. Nothing
+/// in it is verified.
 ///
 /// The fields are described as `see` returns them; a caller can also set others. Other header
 /// parameters, such as the IV, aren't included: decode the message for them.
@@ -124,12 +124,7 @@ fn content_of<'a>(elements: &Elements<'a>, input: &[u8]) -> Option<Part<'a>>
 
 /// Returns the parts of a message.
 #[inline(always)]
-fn taken_from<'a>(
-    kind: Kind,
-    is_tagged: bool,
-    elements: &Elements<'a>,
-    input: &'a [u8],
-) -> Seen<'a>
+fn taken_from<'a>(kind: Kind, is_tagged: bool, elements: &Elements<'a>, input: &'a [u8]) -> Seen<'a>
     ensures { IsTakenFrom kind input.now is_tagged elements.now result }
 {
     let protected = part_of(elements.protected, input);
@@ -247,7 +242,8 @@ impl Layout<'_> {
     /// Returns true if the protected header is valid.
     fn is_first_valid(&self, alloc: Global) -> bool
         ensures { (k : Kind) (b : List ℕ) (x : IsLayout k b self.now) → IsTrue result
-            → (p : ProtectedView) × protected.describes (bytes self.now.seen.protected.bytes.now) p }
+            → (p : ProtectedView)
+            × protected.describes (bytes self.now.seen.protected.bytes.now) p }
     {
         one_item();
         if self.is_first_plain {

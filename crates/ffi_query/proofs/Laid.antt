@@ -41,7 +41,8 @@ use Rattle.ffi_query.specs.Kinds.{IsItemOf, IsOf, TellsTag, TellsTagOf, in_form,
 use Rattle.ffi_query.specs.Labels.{IsUnderIn, value_under}
 use Rattle.ffi_query.specs.Located.{IsTextIn}
 use Rattle.ffi_query.specs.Results.{IsEncodingOf}
-use Rattle.ffi_query.specs.Seen.{IsAllowed, IsLaidOf, IsSeenOf, algorithm_of, key_id_bytes, both_given, key_id_place, kind_in, or_nothing, place_by, seen_item, signed_of}
+use Rattle.ffi_query.specs.Seen.{IsAllowed, IsLaidOf, IsSeenOf, algorithm_of, key_id_bytes, both_given, key_id_place, kind_in}
+use Rattle.ffi_query.specs.Seen.{or_nothing, place_by, seen_item, signed_of}
 use Rattle.ffi_query.specs.Structures.{is_given_twice}
 use Rattle.ffi_query.specs.View.{proof_in}
 use Rattle.ffi_query.proofs.Valued.{OneItem, same_item}

@@ -16,7 +16,8 @@ use Rattle.ffi_query.specs.Results.{IsEncodingOf, ReturnsWith}
 use Rattle.ffi_query.specs.Kinds.{TellsTagOf, tag_of}
 use Rattle.ffi_query.specs.Borrowed.{AreTexts, KnowsAlgorithm, structure_by}
 use Rattle.ffi_query.specs.Located.{AreLocated}
-use Rattle.ffi_query.specs.Spans.{AreUnsizedSpans, HasStructureOf, IsAt, IsMessageSpans, IsStart, copied, copied_spans, is_encrypted, refusal_of, with_structure}
+use Rattle.ffi_query.specs.Spans.{AreUnsizedSpans, HasStructureOf, IsAt, IsMessageSpans, IsStart, copied}
+use Rattle.ffi_query.specs.Spans.{copied_spans, is_encrypted, refusal_of, with_structure}
 use Rattle.ffi_query.specs.Structures.{is_given_twice}
 use Rattle.ffi_query.specs.View.{IsMessageView}
 use Rattle.std.specs.Option.{option_copied}

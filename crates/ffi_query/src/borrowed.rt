@@ -273,8 +273,8 @@ fn borrowed_by<'a>(
 }
 
 /// Returns everything that verifying or decrypting a message takes, if it can be borrowed from the
-/// input. Returns `None` if the bytes aren't such a message of this kind. It is also `None` if there
-/// is no content, or if the content is given twice.
+/// input. Returns `None` if the bytes aren't such a message of this kind, if there is no content, or
+/// if the content is given twice.
 ///
 /// # Errors
 /// `OutOfMemory` if an allocation fails.

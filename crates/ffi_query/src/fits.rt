@@ -124,8 +124,8 @@ fn is_one_string(elements: Items<'_>) -> bool
     }
 }
 
-/// Returns true if the item is an array of two headers, a content, and a signature or a tag, and the
-/// form allows it.
+/// Returns true if the item is an array of two headers, a content, and a signature or a tag, and
+/// the form allows it.
 fn with_proof(alloc: Global, form: Form, item: Pull<'_>, is_tagged: bool) -> bool
     ensures { FitsForm form is_tagged (with_headers (or_nil bstr then bstr then end))
         (pull_item item.entry) result }

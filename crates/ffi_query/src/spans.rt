@@ -112,7 +112,8 @@ fn refusal_of(error: StructureError) -> Option<Refusal>
     }
 }
 
-/// Returns true if items of the kind are encrypted messages, whose structure is without the content.
+/// Returns true if items of the kind are encrypted messages. Their structure is without the
+/// content.
 fn is_encrypted(kind: Kind) -> bool
     ensures { result ≡ is_encrypted kind }
 {

@@ -47,7 +47,7 @@ returns-in_ok-refusal-in-Err c =
     let y = c.in_ok-layout.layout in
     let h = c.can_borrow.ensures c.in_ok-layout.ensures c.if-not-can_borrow.false in
     let texts = c.texts_of_seen-texts.ensures in
-    plain_refused k i aad d (option_copied c.given_content-given.result) ns b y h c.texts_of_seen-texts.result c.in_ok-len.len c.unsized_spans-spans.result c.args.out.now c.put_structure.new.out
-    (HasNoView k i aad d ns) c.in-Err.error c.in_ok-refusal-in-Err.refusal (texts.texts k h) texts.protected texts.signed c.given_content-given.ensures c.unsized_spans-spans.ensures
-    c.in_ok-len.ensures (tells_of k b y h c.one_item.ensures) (once_of k b y h d (sym c.has_both.ensures ∙ c.if-has_both.false))
+    plain_refused k i aad d (option_copied c.given_content-given.result) ns b y h c.texts_of_seen-texts.result c.in_ok-len.len
+    c.unsized_spans-spans.result c.args.out.now c.put_structure.new.out (HasNoView k i aad d ns) c.in-Err.error c.in_ok-refusal-in-Err.refusal
+    (texts.texts k h) texts.protected texts.signed c.given_content-given.ensures c.unsized_spans-spans.ensures c.in_ok-len.ensures (tells_of k b y h c.one_item.ensures) (once_of k b y h d (sym c.has_both.ensures ∙ c.if-has_both.false))
     (rw c.in-Err.is at c.put_structure.ensures) (sym c.in_ok-refusal-in-Err.ensures)
