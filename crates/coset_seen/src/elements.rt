@@ -38,7 +38,6 @@ fn named_in(content: &[u8]) -> Option<Header<'_>>
 
 /// Returns the content at the front, and the bytes after it. The content is `None` if `null` is
 /// there. Returns `None` if neither `null` nor a byte string of definite length is there.
-#[inline(always)]
 fn content_at(input: &[u8]) -> Option<(Option<Ahead<'_>>, &[u8])>
     ensures { IfSome result (λ x. BeginsContent input.now x.0 x.1.now) }
 {

@@ -158,7 +158,6 @@ fn pair_at<'a>(found: Header<'a>, input: &'a [u8]) -> Option<(Header<'a>, &'a [u
 }
 
 /// Returns the parameters among that many pairs, and the bytes after them.
-#[inline(never)]
 fn counted_at(bytes: &[u8], count: u64) -> Option<(Header<'_>, &[u8])>
     ensures { IfSome result (λ x. BeginsPairs (Some count) bytes.now x.0 x.1.now) }
 {
@@ -173,7 +172,6 @@ fn counted_at(bytes: &[u8], count: u64) -> Option<(Header<'_>, &[u8])>
 }
 
 /// Returns the parameters among the pairs up to the break, and the bytes after the break.
-#[inline(never)]
 fn unbounded_at(bytes: &[u8]) -> Option<(Header<'_>, &[u8])>
     ensures { IfSome result (λ x. BeginsPairs None bytes.now x.0 x.1.now) }
 {

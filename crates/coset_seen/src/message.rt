@@ -198,7 +198,6 @@ fn is_either(first: bool, second: bool) -> bool
 
 /// Returns true if the item is a valid protected header. False may also mean that an allocation
 /// failed.
-#[inline(never)]
 fn is_protected(alloc: Global, place: Pull<'_>) -> bool
     ensures { IsTrue result
         → (x : ProtectedView) × protected.describes (pull_item place.entry) x }
@@ -208,7 +207,6 @@ fn is_protected(alloc: Global, place: Pull<'_>) -> bool
 
 /// Returns true if the item is a valid unprotected header. False may also mean that an allocation
 /// failed.
-#[inline(never)]
 fn is_unprotected(alloc: Global, place: Pull<'_>) -> bool
     ensures { IsTrue result → (x : HeaderView) × header.describes (pull_item place.entry) x }
 {
