@@ -123,7 +123,9 @@ by_kind :
     → P k kind form
 by_kind k kind form P is one two three four five = go k is
   where
-    of : (k : kinds.Kind) (z : seen.Kind) (f : forms.Form) → Some (z, f) ≡ Some (kind, form) → P k z f → P k kind form
+    of :
+        (k : kinds.Kind) (z : seen.Kind) (f : forms.Form) → ◌≡◌ {A = Option (seen.Kind × forms.Form)} (Some (z, f)) (Some (kind, form)) → P k z f
+        → P k kind form
     of k z f e x = subst (λ y. P k y.0 y.1) (some_is e) x
 
     go : (k : kinds.Kind) → kind_in k ≡ Some (kind, form) → P k kind form
