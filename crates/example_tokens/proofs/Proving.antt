@@ -10,8 +10,8 @@ use Rattle.cwt_confirm.specs.declared.confirmed.Confirmation.{Confirmation}
 use Rattle.cwt_confirm.specs.declared.confirmed.Confirmation.TheVariants.{Key, EncryptedKey, KeyId}
 use Rattle.cwt_ring.specs.Ring.{CiphersView}
 use Rattle.cwt_verify.specs.Verify.{TokenView}
-use Rattle.example_tokens.specs.Possession.{IsConfirmed, IsMessage, ProvesPossession, ReadsProofKey, VerifiesConfirmed, VerifiesMessage, VerifiesProof, is_short}
-use Rattle.example_tokens.specs.Possession.{VerifiesSealed, is_critical, key_of, seal_of}
+use Rattle.example_tokens.specs.Possession.{IsConfirmed, IsMessage, ProvesPossession, ReadsProofKey, VerifiesConfirmed, VerifiesMessage, VerifiesProof}
+use Rattle.example_tokens.specs.Possession.{VerifiesSealed, is_critical, is_short, key_of, seal_of}
 use Rattle.example_tokens.specs.declared.possession.NotPossessed.{NotPossessed}
 use Rattle.example_tokens.specs.declared.possession.NotPossessed.TheVariants as refusal
 
