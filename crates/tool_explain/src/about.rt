@@ -43,6 +43,8 @@ pub(crate) struct About {
     pub(crate) seals: Seals,
     /// Whether a payload or a ciphertext is detached.
     pub(crate) is_detached: bool,
+    /// Whether a payload or a protected header is in chunks, which aren't opened.
+    pub(crate) is_chunked: bool,
     /// The claims of which the times are below: the number of input bytes after the map's head.
     claims: Option<usize>,
     /// Whether these are claims of a header.
@@ -78,6 +80,7 @@ impl About {
                 filled_lists: 0,
             },
             is_detached: false,
+            is_chunked: false,
             claims: None,
             is_of_header: false,
             expiry: None,
@@ -111,6 +114,7 @@ impl About {
         }
         self.see_word(frame, head)?;
         self.see_seal(frame, role, head);
+        self.see_chunks(role, head);
         if frame.role == Role::Claims && frame.is_at_value() {
             self.see_time(frame, role, head, now);
         }
@@ -199,6 +203,13 @@ impl About {
         }
         let is_content = matches!((frame.role, frame.index), (Role::Message(_, _), 2));
         self.is_detached = self.is_detached || is_content && head.is_null();
+    }
+
+    /// Takes whether a payload or a protected header is in chunks.
+    fn see_chunks(&mut self, role: Role, head: &Head) {
+        let is_opened = matches!(role, Role::Payload(_) | Role::Protected);
+        let is_chunked = head.major_type == MajorType::Bytes && head.is_indefinite();
+        self.is_chunked = self.is_chunked || is_opened && is_chunked;
     }
 
     /// Takes why a payload or other claims aren't read. Their times, and those of headers around

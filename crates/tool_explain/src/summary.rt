@@ -65,16 +65,20 @@ fn push_others(text: &mut String, others: &[Kind]) -> Result<(), AllocError> {
     Ok(())
 }
 
+/// Returns true if the item is a COSE message.
+fn is_message(about: &About) -> bool {
+    matches!(about.item, Some((Role::Message(_, _), _)))
+}
+
 /// Adds remarks on the item in brackets: its tags, that a message has none, and other kinds that it
 /// could be.
 fn push_remarks(text: &mut String, about: &About, others: &[Kind]) -> Result<(), AllocError> {
-    let is_message = matches!(about.item, Some((Role::Message(_, _), _)));
     let mut close = "";
     if !about.tags.is_empty() {
         text.push_str(" (")?;
         push_tags(text, &about.tags)?;
         close = ")";
-    } else if is_message {
+    } else if is_message(about) {
         text.push_str(" (no tag")?;
         close = ")";
     }
@@ -84,6 +88,14 @@ fn push_remarks(text: &mut String, about: &About, others: &[Kind]) -> Result<(),
         close = ")";
     }
     text.push_str(close)
+}
+
+/// Adds that an item under the tag of a web token is no message (RFC 8392, section 6).
+fn push_no_token(text: &mut String, about: &About) -> Result<(), AllocError> {
+    if about.tags.contains(&CWT) && !is_message(about) {
+        text.push_str(" Tag 61 without a message: no web token.")?;
+    }
+    Ok(())
 }
 
 /// Adds the messages and claims inside the item.
@@ -108,7 +120,7 @@ fn push_item(text: &mut String, about: &About, others: &[Kind]) -> Result<(), Al
         text.push_str("Input")?;
         return push_remarks(text, about, others);
     };
-    if about.tags.contains(&CWT) {
+    if about.tags.contains(&CWT) && is_message(about) {
         text.push_str("CWT: ")?;
     }
     match about.format {
@@ -230,6 +242,10 @@ fn push_unread(text: &mut String, about: &About) -> Result<(), AllocError> {
             " Nested claims aren't read ({error}), and their times aren't judged."
         )?;
     }
+    if about.is_chunked {
+        text.push_str(" Payloads and protected headers in chunks aren't opened, ")?;
+        text.push_str("so claims in them aren't judged.")?;
+    }
     Ok(())
 }
 
@@ -294,6 +310,7 @@ impl Explained<'_> {
             return Ok(text);
         }
         text.push_str("well-formed.")?;
+        push_no_token(&mut text, about)?;
         push_seals(&mut text, about)?;
         push_claims(alloc, &mut text, about, now)?;
         Ok(text)
