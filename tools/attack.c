@@ -542,7 +542,7 @@ int main(int count, char **word) {
   read_rows(word[1]);
   seed = strtoull(word[2], NULL, 10);
   for (uint64_t i = 0; i < THREADS; i++) {
-    shares[i].number = i, shares[i].wanted = strtoull(word[3], NULL, 10) / THREADS;
+    shares[i].number = i, shares[i].wanted = (strtoull(word[3], NULL, 10) + THREADS - 1) / THREADS;
     if (pthread_create(&shares[i].thread, NULL, work, &shares[i])) return 2;
   }
   for (int i = 0; i < THREADS; i++) {

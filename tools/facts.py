@@ -11,7 +11,7 @@ from sources import files, read, shown  # noqa: E402
 
 HERE = common.HERE
 WORD = re.compile(r"[A-Za-z_]\w*")
-LINK = re.compile(r"\]\(([^)#\s]+)(?:#[^)]*)?\)")
+LINK = re.compile(r"\]\(([^)#\s]*)(?:#([^)]*))?\)")
 # A path in backquotes, or in the text of a page: one that begins with a folder of the repository.
 PATH = re.compile(r"(?<![\w/.])((?:crates|tools|c|docs|edits|coset_\w+|cwt_\w+|ffi_\w+|tool_\w+|test_\w+|example_\w+)/[\w./*-]+)")
 PROGRAM = re.compile(r"^In \[[^\]\n]*\]\(\.\./(crates/\w+/src/main\.rt)\):\n\n```rust\n(.*?)^```", re.M | re.S)
@@ -34,12 +34,21 @@ def is_there(path):
     return any(os.path.exists(f"{HERE}/{it}") for it in places)
 
 
+def headings(page):
+    """Returns the names by which links lead to the headings of a page."""
+    return {re.sub(r"[^\w\- ]", "", it.lower()).replace(" ", "-") for it in re.findall(r"^#+ (.*)$", page, re.M)}
+
+
 def astray(page):
-    """Yields the links and paths of a page that lead to no file. Built files, patterns, and words in capitals aren't checked."""
+    """Yields the links and paths of a page that lead to no file or heading. Built files, patterns, and words in capitals aren't
+    checked."""
     text, folder = read(page), os.path.dirname(page)
-    for link in LINK.findall(text):
-        if "://" not in link and not os.path.exists(os.path.join(HERE, folder, link)):
+    for link, heading in LINK.findall(text):
+        place = os.path.normpath(os.path.join(folder, link)) if link else page
+        if "://" not in link and not os.path.exists(os.path.join(HERE, place)):
             yield f"{page}: there is no {link}"
+        elif heading and place.endswith(".md") and heading not in headings(read(place)):
+            yield f"{page}: no heading of {place} is #{heading}"
     prose = re.sub(r"^```.*?^```", "", text, flags=re.M | re.S)
     for path in sorted({it.rstrip("./-") for it in PATH.findall(prose)}):
         if not re.search(r"[*]|/out(/|$)|\b[A-Z]{4,}\b", path) and not path.startswith("crates/hello") and not is_there(path):

@@ -187,6 +187,7 @@ def lines_for_wrapper(calls):
 
 def compare(name, calls, lines, told, check):
     """Compares a wrapper's results with the right ones."""
+    check(len(told) == len(lines), f"{name}: {len(told)} answers to {len(lines)} calls")
     for (*_, status, answer), asked, got in zip(calls, lines, told):
         want = told_by_wrapper(status, answer)
         check(got.strip() == want.strip(), f"{name}: {asked}: {got} and not {want}")

@@ -28,9 +28,11 @@ def tested(prefix, folder, env, check):
     """Runs the tests of the package. Returns a line."""
     shutil.copytree(f"{prefix}/share/coset/go", f"{folder}/tested")
     shutil.copy(f"{WRAPPERS}/go/coset/coset_test.go", f"{folder}/tested")
-    ran = subprocess.run(["go", "test", "."], cwd=f"{folder}/tested", env=env, capture_output=True, text=True, check=False)
+    ran = subprocess.run(["go", "test", "-v", "."], cwd=f"{folder}/tested", env=env, capture_output=True, text=True, check=False)
     check(ran.returncode == 0, f"coset_test.go: {ran.stdout[-2000:]}{ran.stderr[-1000:]}")
-    return f"Go's tests {read('c', 'wrappers', 'go', 'coset', 'coset_test.go').count('func Test')}"
+    passed, there = ran.stdout.count("--- PASS: Test"), read("c", "wrappers", "go", "coset", "coset_test.go").count("func Test")
+    check(passed == there, f"coset_test.go: {passed} of {there} tests pass")
+    return f"Go's tests {passed}"
 
 
 def tried(given, library, calls, wrong):

@@ -110,7 +110,10 @@ def told(program, kind, data, **more):
     ran = subprocess.run([program], input=lines, capture_output=True, text=True, check=False, **more)
     if ran.returncode:
         sys.exit(f"limits: {ran.returncode} {ran.stderr[-1000:]}")
-    return [tuple(map(int, line.split())) for line in ran.stdout.splitlines()]
+    found = [tuple(map(int, line.split())) for line in ran.stdout.splitlines()]
+    if any(it[0] < 0 or not it[1] for it in found):
+        sys.exit(f"limits: a call isn't known, or its thread didn't start: {found}")
+    return found
 
 
 def measured(program, kind, data):

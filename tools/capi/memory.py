@@ -13,8 +13,10 @@ NO_OFFSET = (1 << 64) - 1
 MOST_REQUESTS = 5000
 # Calls whose results are places alone.
 PLACES_ALONE = ("member_span ", "pair_spans ", "label_span ", "string_span ")
-# The hostile files, and their kinds.
+# The hostile files, and their kinds. Files whose name ends in `twice` or `refused` aren't of their kind.
 HOSTILE = {"deepest": 1, "nested": 1, "deepest_twice": 1, "nested_twice": 1, "recipients": 8, "recipients_refused": 8}
+# Ends of the names: nested through label 7 alone, or through 7 and 11 in turn.
+LABELS = ("", "_7_11")
 STACK_CALLS = (("check", []), ("member", [0]), ("label", [2, 7]), ("structure", [0, b"", 1, b""]), ("write", []),
                ("add", [bytes.fromhex("8340a0f6")]), ("sign1", [b"", 0, b""]), ("recipient_structure", [b""]))
 
@@ -54,7 +56,7 @@ def hostile_lines(folder):
     """Writes the files of crates/tool_bench/hostile.py into the folder. Yields calls with those that nest deepest."""
     run([sys.executable, f"{HERE}/crates/tool_bench/hostile.py", folder])
     for name, kind in HOSTILE.items():
-        for labels in ("", "_7_11"):
+        for labels in LABELS:
             with open(f"{folder}/{name}{labels}.cbor", "rb") as file:
                 data = file.read()
             for call, words in STACK_CALLS:
@@ -67,6 +69,9 @@ def within_stack(program, folder, check):
     wanted = answers([program], lines, check)
     told = answers(["bash", "-c", f"ulimit -s 1024; exec {program}"], lines, check)
     check(told == wanted, "hostile input is answered otherwise with 1 MB of stack")
+    is_valid = [answer.split()[0] == "0" for asked, answer in zip(lines, wanted) if asked.startswith("check ")]
+    right = [not name.endswith(("twice", "refused")) for name in HOSTILE for _ in LABELS]
+    check(is_valid == right, f"hostile input is refused or accepted wrongly: {is_valid}")
     return len(lines)
 
 

@@ -132,6 +132,8 @@ def compare_python(check):
             seen |= set(parts)
     unseen = {name.removeprefix("COSET_") for name in numbers} - seen
     check(unseen <= NOT_IN_RANGES, f"the Python wrapper has no {', '.join(sorted(unseen - NOT_IN_RANGES))} in a range")
+    uncalled = header_functions() - COPYING - set(re.findall(r"_library\.(coset_\w+)", python))
+    check(not uncalled, f"the Python wrapper doesn't call {', '.join(sorted(uncalled))}")
 
 
 def javascript():

@@ -3,6 +3,7 @@
 crates/test_verify/src/verify.rt says what the words of a row mean. `asked` is what the caller's function was asked: the number of
 layers, their proofs and structures, and the rest of each question."""
 import re
+import sys
 
 from capi.kinds import ABSENT, LAYER, NAMES, NOT_ALLOWED, OK, REFUSED, UNFIT, pairs_of
 from capi.vectors import rows_of, status_of
@@ -304,10 +305,11 @@ def fittings(row, answer):
 
 
 def rows(name):
-    """Yields the words of each row that begins with this word, and the row's result."""
-    for row, answer in rows_of("test_verify"):
-        if row.split()[:1] == [name]:
-            yield row.split(), answer
+    """Returns the words of each row that begins with this word, and the row's result. There must be such rows."""
+    found = [(row.split(), answer) for row, answer in rows_of("test_verify") if row.split()[:1] == [name]]
+    if not found:
+        sys.exit(f"test_verify has no row that begins with {name}")
+    return found
 
 
 def calls():

@@ -116,6 +116,8 @@ def with_memory(given, folder, lines, wanted, wrong):
     if shutil.which("valgrind"):
         some = lines[:: max(1, len(lines) // 300)]
         told.append(f"under valgrind {memory.under_valgrind(program, some, wrong.check)}")
+    else:
+        told.append("there is no valgrind")
     return told
 
 
@@ -135,14 +137,14 @@ def python_tests(library, wrong):
 def by_wrappers(given, folder, calls, wrong):
     """Makes the calls from Rust and Python. Returns the numbers of calls."""
     rust, python = [f"{folder}/calls_rust"], [sys.executable, f"{WRAPPERS}/python/calls.py"]
-    library = {"env": {**os.environ, "COSET_LIBRARY": f"{folder}/libcoset.so", "PYTHONDONTWRITEBYTECODE": "1"}}
+    library = {"env": {**os.environ, "COSET_LIBRARY": f"{folder}/libcoset.so", "PYTHONDONTWRITEBYTECODE": "1", "PYTHONOPTIMIZE": ""}}
     programs = {"Rust": (rust, {})} if shutil.which("rustc") else {}
     programs["Python"] = (python, library)
     calls = [*calls, *accepting.calls()]
     for name, (command, more) in programs.items():
         calling.from_wrapper(name, command, calls, wrong.check, **more)
     memory.wiped(folder, wrong.check)
-    tested = python_tests(library, wrong)
+    tested = [*([] if "Rust" in programs else ["there is no rustc"]), *python_tests(library, wrong)]
     if importlib.util.find_spec("cryptography"):
         tested.append(f"with coset.crypto {accepting.by_ciphers(python, wrong.check, **library)}")
     calling.texts(given.quick, [([f"{folder}/calls_c"], {}), *programs.values()], wrong.check)

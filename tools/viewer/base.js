@@ -64,9 +64,22 @@ function call(...asked) {
   return next;
 }
 
+// Returns the bytes that digits of base 85 spell: five digits stand for four bytes. The last group of n bytes has n + 1 digits.
+function base85(text) {
+  const values = new Uint8Array(128);
+  [...DIGITS].forEach((digit, value) => { values[digit.charCodeAt(0)] = value; });
+  const digits = text + DIGITS[84].repeat((5 - text.length % 5) % 5), view = new DataView(new ArrayBuffer(digits.length / 5 * 4));
+  for (let start = 0; start < digits.length; start += 5) {
+    let group = 0;
+    for (let at = start; at < start + 5; at++) group = group * 85 + values[digits.charCodeAt(at)];
+    view.setUint32(start / 5 * 4, group);
+  }
+  return new Uint8Array(view.buffer, 0, Math.floor(text.length * 4 / 5));
+}
+
 async function loadModule() {
   worker = new Worker(URL.createObjectURL(new Blob([at("engine").textContent], { type: "text/javascript" })));
-  const module = Uint8Array.from(atob(at("module").textContent), it => it.charCodeAt(0)), told = answer();
+  const module = base85(at("module").textContent), told = answer();
   worker.postMessage({ module }, [module.buffer]);
   await told;
   isReady = true;
