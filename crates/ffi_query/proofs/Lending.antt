@@ -179,7 +179,8 @@ module _
 both_made :
     {T E : Type 0} (r : Result (Option T) E) (P Q R : T → Type 0) → ((x : T) → P x → Q x → R x) → IfOk r (λ o. IfSome o P) → IfOk r (λ o. IfSome o Q)
     → IfOk r (λ o. IfSome o R)
-both_made (Ok o) P Q R f p q = if_both o P Q R f p q
+both_made (Ok (Some x)) P Q R f p q = f x p q
+both_made (Ok None) P Q R f p q = p
 both_made (Err e) P Q R f p q = p
 
 pub borrowed_of :

@@ -9,6 +9,6 @@ returns-in_err-item c =
     let b = c.args.bytes.now in
     refuses (IsFound k b) (IsRefused k b) c.in_err-item.field-0.0 c.from_residual.result c.from_residual.ensures.1 c.in_err-item.ensures.whole
 
-pub returns-in_ok-item : goal.returns-in_ok-item
-returns-in_ok-item c =
+pub returns-then-is_message : goal.returns-then-is_message
+returns-then-is_message c =
     c.found_in.ensures.found c.in_ok-item.ensures.whole c.in_ok-item.ensures.bytes (c.is_message.ensures c.if-is_message.true)
