@@ -1,5 +1,6 @@
 mod Fronts
 mod Walking
+mod Labelling
 mod Structured
 mod Messages
 mod Ascending

@@ -1,20 +1,22 @@
 -- Messages, from their elements.
-use Rattle.std.proofs.Common.{◌≡◌, ◌∙◌, ◌++◌, ℕ, List, [], Option, Some, None, Bool, true, false, refl, sym, ap, subst, inl}
+use Rattle.std.proofs.Common.{◌≡◌, ◌∙◌, ◌++◌, ◌⊎◌, ℕ, List, [], Option, Some, None, Bool, true, false, refl, sym, ap, subst, inl, inr}
 use Rattle.std.specs.Prelude.{IfSome}
 use Rattle.std.proofs.lemmas.List.{append_assoc, append-nil}
-use Rattle.coset.specs.Item.{Item, Pairs, tag, array, bytes, dict, items_count}
-use Rattle.coset.specs.Grammar.{IsEncoding, IsHead, IsHeaded, IsItem}
+use Rattle.coset.specs.Item.{Item, Pairs, item, no_items, no_pairs, tag, array, bytes, dict, null, items_count}
+use Rattle.coset.specs.Grammar.{AreEncodings, IsEncoding, IsItem}
 use Rattle.coset_seen.specs.declared.elements.Elements.{Elements}
 use Rattle.coset_seen.specs.declared.forward.Ahead.{Ahead}
-use Rattle.coset_seen.specs.declared.header.Named.{Named}
 use Rattle.coset_seen.specs.declared.kind.Kind as kinds
-use Rattle.coset_seen.specs.declared.kind.Kind.TheVariants.{Sign1, Mac0, Encrypt0}
-use Rattle.coset_seen.specs.Begins.{Begins, IsAhead}
-use Rattle.coset_seen.specs.Elements.{AreElements, BeginsContent, BeginsElements, BeginsMessage, BeginsProof, IsContent}
-use Rattle.coset_seen.specs.Elements.{IsMessage, IsUntagged, items_of}
+use Rattle.coset_seen.specs.declared.kind.Kind.TheVariants.{Sign1, Mac0, Encrypt0, Mac, Encrypt}
+use Rattle.coset_seen.specs.declared.labels.Header.{Header}
+use Rattle.coset_seen.specs.Begins.{Begins, Closes, IsAhead, Opens}
+use Rattle.coset_seen.specs.Elements.{AreElements, BeginsContent, BeginsElements, BeginsMessage, BeginsProof, IsContent, IsCounted}
+use Rattle.coset_seen.specs.Elements.{IsMessage, IsProof, IsUntagged, items_of}
+use Rattle.coset_seen.specs.Elements.{last_items}
 use Rattle.coset_seen.specs.Kinds.{elements_of, tag_of}
-use Rattle.coset_seen.specs.Named.{BeginsHeader, IsHeader}
+use Rattle.coset_seen.specs.Labels.{BeginsHeader, EndsWith, IsHeader, TakesNone}
 use Rattle.coset_seen.proofs.Fronts.{ahead_in}
+use Rattle.coset_seen.proofs.Labelling.{enclosed, has_none, head_of}
 use Rattle.coset_seen.proofs.Walking.{named_in}
 
 -- Bytes encode at most one item, and no encoding is a proper prefix of another.
@@ -25,24 +27,100 @@ OneItem = (v w : Item) (b c x y : List ℕ) → IsEncoding v b → IsEncoding w 
 pub whole_is : OneItem → (b : List ℕ) (v w : Item) (s : List ℕ) → IsItem b v → Begins w s b → v ≡ w
 whole_is one b v w s is begins = (one v w b begins.0 [] s is.0 begins.1 (append-nil b ∙ begins.2)).0
 
-pub header_is : OneItem → (b : List ℕ) (v : Item) (n : Named) (s : List ℕ) → IsItem b v → BeginsHeader b n s → IsHeader b n
+pub header_is : OneItem → (b : List ℕ) (v : Item) (n : Header) (s : List ℕ) → IsItem b v → BeginsHeader b n s → IsHeader b n
 header_is one b v n s is h = record {
   pairs = h.pairs;
   is_item = subst (IsItem b) (whole_is one b v (dict h.pairs) s is h.begins) is;
-  are_plain = h.are_plain;
-  named = h.named;
+  has = h.has;
   placed = h.placed;
 }
+
+-- The content of a protected header's byte string.
+pub empty_content : (b : List ℕ) (h : Header) → b ≡ [] → TakesNone true h → IsContent b h
+empty_content b h e none = record {
+  pairs = no_pairs;
+  is_map = inl (e, refl);
+  has = has_none true h none;
+  placed = subst (λ o. IfSome o (IsAhead b)) (sym none.key_id) tt;
+}
+
+pub content_of_header : (b : List ℕ) (o : Option Header) → (b ≡ [] → ⊥) → IfSome o (IsHeader b) → IfSome o (IsContent b)
+content_of_header b None filled h = h
+content_of_header b (Some n) filled h = record { pairs = h.pairs; is_map = inr (filled, h.is_item); has = h.has; placed = h.placed }
 
 content_in : (b x s : List ℕ) (o : Option Ahead) → b ≡ x ++ s → IfSome o (IsAhead s) → IfSome o (IsAhead b)
 content_in b x s None e h = h
 content_in b x s (Some t) e h = ahead_in b x s t e h
 
+-- ---- the elements after the content
+
+empty_ahead : (b : List ℕ) (t : Ahead) → t.bytes.now ≡ [] → t.behind.now ≡ b → IsAhead b t
+empty_ahead b t empty front = record { before = []; parts = sym front ∙ ap (λ y. y ++ t.behind.now) (sym empty) }
+
+one_encoded : (v : Item) (c : List ℕ) → IsEncoding v c → AreEncodings (item v no_items) c
+one_encoded v c e = (c, [], e, refl, sym (append-nil c))
+
+-- A signature or a tag.
+proof_alone :
+    (k : kinds.Kind) (b : List ℕ) (t : Ahead) → ((w : Item) → last_items k t.bytes.now w ≡ item (bytes t.bytes.now) no_items) → IsProof k t.bytes.now
+    → Begins (bytes t.bytes.now) t.behind.now b → IsAhead b t → BeginsProof k b t t.behind.now
+proof_alone k b t same is e ahead = record {
+  recipients = null;
+  encoding = e.0;
+  parts = e.2;
+  are_encoded = subst (λ vs. AreEncodings vs e.0) (sym (same null)) (one_encoded (bytes t.bytes.now) e.0 e.1);
+  is_proof = is;
+  placed = ahead;
+}
+
+pub proof_of_two :
+    (k : kinds.Kind) (b : List ℕ) (t : Ahead) → (k ≡ Sign1) ⊎ (k ≡ Mac0) → Begins (bytes t.bytes.now) t.behind.now b → IsAhead b t
+    → BeginsProof k b t t.behind.now
+proof_of_two k b t (inl is) e ahead = subst (λ j. BeginsProof j b t t.behind.now) (sym is) (proof_alone Sign1 b t (λ w. refl) tt e ahead)
+proof_of_two k b t (inr is) e ahead = subst (λ j. BeginsProof j b t t.behind.now) (sym is) (proof_alone Mac0 b t (λ w. refl) tt e ahead)
+
+-- A tag and recipients.
+pub proof_and_recipients :
+    (b : List ℕ) (t : Ahead) (w : Item) (s : List ℕ) → Begins (bytes t.bytes.now) t.behind.now b → IsAhead b t → Begins w s t.behind.now
+    → BeginsProof Mac b t s
+proof_and_recipients b t w s e ahead f = record {
+  recipients = w;
+  encoding = e.0 ++ f.0;
+  parts = e.2 ∙ (ap (λ y. e.0 ++ y) f.2 ∙ sym (append_assoc e.0 f.0 s));
+  are_encoded = (e.0, f.0, e.1, one_encoded w f.0 f.1, refl);
+  is_proof = tt;
+  placed = ahead;
+}
+
+-- Recipients alone.
+pub recipients_alone :
+    (b : List ℕ) (t : Ahead) (w : Item) (s : List ℕ) → t.bytes.now ≡ [] → t.behind.now ≡ b → Begins w s b → BeginsProof Encrypt b t s
+recipients_alone b t w s empty front f = record {
+  recipients = w;
+  encoding = f.0;
+  parts = f.2;
+  are_encoded = one_encoded w f.0 f.1;
+  is_proof = empty;
+  placed = empty_ahead b t empty front;
+}
+
+-- No element.
+pub no_proof : (b : List ℕ) (t : Ahead) → t.bytes.now ≡ [] → t.behind.now ≡ b → BeginsProof Encrypt0 b t b
+no_proof b t empty front = record {
+  recipients = null;
+  encoding = [];
+  parts = refl;
+  are_encoded = refl;
+  is_proof = empty;
+  placed = empty_ahead b t empty front;
+}
+
 pub elements_begin :
-    (k : kinds.Kind) (b : List ℕ) (e : Elements) (r s : List ℕ) → Begins (bytes e.protected.bytes.now) e.protected.behind.now b → IsAhead b e.protected
-    → IsContent e.protected.bytes.now e.first → BeginsHeader e.protected.behind.now e.second r → BeginsContent r e.content s → BeginsProof k s e.proof
-    → BeginsElements k b e
-elements_begin k b e r s p p_in first second content proof =
+    (k : kinds.Kind) (b : List ℕ) (e : Elements) (r s z : List ℕ) → Begins (bytes e.protected.bytes.now) e.protected.behind.now b → IsAhead b e.protected
+    → IsContent e.protected.bytes.now e.first → BeginsHeader e.protected.behind.now e.second r → BeginsContent r e.content s → BeginsProof k s e.proof z
+    → e.front.now ≡ b → (e.is_plain ≡ true → (e.first.is_plain ≡ true) × (e.second.is_plain ≡ true))
+    → BeginsElements k b e z
+elements_begin k b e r s z p p_in first second content proof front plain =
     let a : List ℕ = p.0 in
     let m : List ℕ = second.begins.0 in
     let c : List ℕ = content.0.0 in
@@ -50,17 +128,18 @@ elements_begin k b e r s p p_in first second content proof =
     let to_r : b ≡ (a ++ m) ++ r = p.2 ∙ (ap (λ y. a ++ y) second.begins.2 ∙ sym (append_assoc a m r)) in
     let to_s : b ≡ ((a ++ m) ++ c) ++ s = to_r ∙ (ap (λ y. (a ++ m) ++ y) content.0.2 ∙ sym (append_assoc (a ++ m) c s)) in record {
       pairs = second.pairs;
+      recipients = proof.recipients;
       encoding = a ++ (m ++ (c ++ d));
-      behind = e.proof.behind.now;
-      parts = to_s ∙ (ap (λ y. ((a ++ m) ++ c) ++ y) proof.parts ∙ sides a m c d e.proof.behind.now);
+      parts = to_s ∙ (ap (λ y. ((a ++ m) ++ c) ++ y) proof.parts ∙ sides a m c d z);
       are_encoded = (a, m ++ (c ++ d), p.1, (m, c ++ d, second.begins.1, (c, d, content.0.1, proof.are_encoded, refl), refl), refl);
       are_elements = record {
         first = first;
-        are_plain = second.are_plain;
-        second = second.named;
+        second = second.has;
+        plain = plain;
         is_proof = proof.is_proof;
+        front = ((e.protected.behind.now, subst (Begins (bytes e.protected.bytes.now) e.protected.behind.now) (sym front) p), (r, second.begins));
         protected_in = p_in;
-        key_id_in = named_in b a e.protected.behind.now e.second p.2 second.placed;
+        key_id_in = named_in b a e.protected.behind.now e.second.named p.2 second.placed;
         content_in = content_in b (a ++ m) r e.content to_r content.1;
         proof_in = ahead_in b ((a ++ m) ++ c) s e.proof to_s proof.placed;
       };
@@ -77,42 +156,39 @@ elements_in :
     (k : kinds.Kind) (b x r : List ℕ) (ps : Pairs) (e : Elements) → b ≡ x ++ r → AreElements k r ps e → AreElements k b ps e
 elements_in k b x r ps e parts a = record {
   first = a.first;
-  are_plain = a.are_plain;
   second = a.second;
+  plain = a.plain;
   is_proof = a.is_proof;
+  front = a.front;
   protected_in = ahead_in b x r e.protected parts a.protected_in;
-  key_id_in = named_in b x r e.second parts a.key_id_in;
+  key_id_in = named_in b x r e.second.named parts a.key_id_in;
   content_in = content_in b x r e.content parts a.content_in;
   proof_in = ahead_in b x r e.proof parts a.proof_in;
 }
 
-counted : (k : kinds.Kind) (e : Elements) (ps : Pairs) → items_count (items_of k e ps) ≡ elements_of k
-counted Sign1 e ps = refl
-counted Mac0 e ps = refl
-counted Encrypt0 e ps = refl
+counted : (k : kinds.Kind) (e : Elements) (ps : Pairs) (w : Item) → items_count (items_of k e ps w) ≡ elements_of k
+counted Sign1 e ps w = refl
+counted Mac0 e ps w = refl
+counted Encrypt0 e ps w = refl
+counted Mac e ps w = refl
+counted Encrypt e ps w = refl
 
-pub message_begins : (k : kinds.Kind) (n : ℕ) (b r : List ℕ) (e : Elements) → n ≡ elements_of k → IsHeaded 4 n r b → BeginsElements k r e → BeginsMessage k b e
-message_begins k n b r e is h it =
-    record {
+pub message_begins :
+    (k : kinds.Kind) (n : Option ℕ) (b r s z : List ℕ) (e : Elements) → IsCounted k n → Opens 4 n r b → BeginsElements k r e s → Closes n s z
+    → BeginsMessage k b e
+message_begins k n b r s z e is h it close =
+    let c = enclosed 4 n (items_count (items_of k e it.pairs it.recipients)) b r it.encoding z h (ends n is close) in
+    let x = head_of 4 n r b h in record {
       pairs = it.pairs;
-      behind = it.behind;
-      begins = (
-        h.head ++ it.encoding,
-        (
-          it.encoding,
-          it.are_encoded,
-          inl (record { head = h.head; is_head = subst (λ m. IsHead 4 m h.head) (is ∙ sym (counted k e it.pairs)) h.is_head; parts = refl }),
-        ),
-        h.parts ∙ (ap (λ y. h.head ++ y) it.parts ∙ sym (append_assoc h.head it.encoding it.behind)),
-      );
-      are_elements = elements_in k b h.head r it.pairs e h.parts it.are_elements;
+      recipients = it.recipients;
+      behind = z;
+      begins = (c.0, (it.encoding, it.are_encoded, c.1), c.2);
+      are_elements = elements_in k b x.0 r it.pairs e x.1 it.are_elements;
     }
-
-pub message_found :
-    (k : kinds.Kind) (n : ℕ) (b r : List ℕ) (o : Option Elements) → n ≡ elements_of k → IsHeaded 4 n r b → IfSome o (BeginsElements k r)
-    → IfSome o (BeginsMessage k b)
-message_found k n b r None is h it = it
-message_found k n b r (Some e) is h it = message_begins k n b r e is h it
+  where
+    ends : (n : Option ℕ) → IsCounted k n → Closes n s z → EndsWith n (items_count (items_of k e it.pairs it.recipients)) it.encoding z r
+    ends (Some m) is close = (counted k e it.pairs it.recipients ∙ sym is, it.parts ∙ ap (λ y. it.encoding ++ y) (sym close))
+    ends None is close = it.parts ∙ ap (λ y. it.encoding ++ y) close
 
 -- ---- the tag
 
@@ -120,7 +196,7 @@ pub message_is :
     OneItem → (k : kinds.Kind) (b : List ℕ) (v : Item) (t : Bool) (r : List ℕ) (e : Elements) → IsItem b v → IsUntagged (tag_of k) b t r
     → BeginsMessage k r e → IsMessage k b t e
 message_is one k b v true r e is h it =
-    let w = array (items_of k e it.pairs) in
+    let w = array (items_of k e it.pairs it.recipients) in
     let c = it.begins.0 in
     let under : Begins (tag (tag_of k) w) it.behind b = (
       h.head ++ c,
@@ -128,12 +204,14 @@ message_is one k b v true r e is h it =
       h.parts ∙ (ap (λ y. h.head ++ y) it.begins.2 ∙ sym (append_assoc h.head c it.behind)),
     ) in record {
       pairs = it.pairs;
+      recipients = it.recipients;
       is_item = subst (IsItem b) (whole_is one b v (tag (tag_of k) w) it.behind is under) is;
       are_elements = elements_in k b h.head r it.pairs e h.parts it.are_elements;
     }
 message_is one k b v false r e is h it = record {
   pairs = it.pairs;
-  is_item = subst (IsItem b) (whole_is one b v (array (items_of k e it.pairs)) it.behind is
-      (subst (Begins (array (items_of k e it.pairs)) it.behind) h it.begins)) is;
+  recipients = it.recipients;
+  is_item = subst (IsItem b) (whole_is one b v (array (items_of k e it.pairs it.recipients)) it.behind is
+      (subst (Begins (array (items_of k e it.pairs it.recipients)) it.behind) h it.begins)) is;
   are_elements = elements_in k b [] r it.pairs e (sym h) it.are_elements;
 }

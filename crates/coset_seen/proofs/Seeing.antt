@@ -1,32 +1,34 @@
 -- Messages, as their types see them.
-use Rattle.std.proofs.Common.{◌≡◌, ◌≢◌, ℕ, ℤ, negsuc, List, [], ◌∷◌, Option, Some, None, Bool, true, false, true≢false, refl}
-use Rattle.std.proofs.Common.{sym, ap, subst, inl, inr}
-use Rattle.std.specs.Prelude.{IfSome, is_some, option_map}
+use Rattle.std.proofs.Common.{◌≡◌, ◌≢◌, ◌∙◌, ℕ, ℤ, pos, negsuc, List, [], ◌∷◌, Option, Some, None, Bool, true}
+use Rattle.std.proofs.Common.{false, true≢false, refl, sym, ap, subst, inl, inr}
+use Rattle.std.specs.Prelude.{option_map}
 use Rattle.coset.specs.Item.{Item, Items, Pairs, tag, array, item, no_items, bytes, dict, integer}
 use Rattle.coset.specs.Grammar.{IsItem}
 use Rattle.coset.specs.Maps.{optional, unless_empty}
 use Rattle.coset.specs.Results.{Describes}
 use Rattle.coset.specs.Serialized.{ContentDescribes}
 use Rattle.coset.specs.Shape.{◌then◌, Elements as ElementsShape, Shape, bstr, end, nonempty_bstr, or_nil}
-use Rattle.coset.specs.ShapeLaws.{some-one}
-use Rattle.coset.specs.Headers.{HeaderView, empty_header, fields_in, header, layered_header, layered_protected, protected}
+use Rattle.coset.specs.ShapeLaws.{some-none, some-one}
+use Rattle.coset.specs.Headers.{HeaderView, ProtectedView, empty_header, fields_in, header, layered_header, layered_protected, protected}
 use Rattle.coset.specs.Messages.{with_headers}
 use Rattle.coset.specs.Encrypt0.{encrypt0}
 use Rattle.coset.specs.Mac0.{mac0}
 use Rattle.coset.specs.Sign1.{sign1}
 use Rattle.coset.specs.LabelData.{RegisteredLabelView, as_label, assigned, number, private_use, text_name}
 use Rattle.coset.specs.Labels.{algorithm}
-use Rattle.coset_seen.specs.declared.elements.Elements.{Elements}
 use Rattle.coset_seen.specs.declared.forward.Ahead.{Ahead}
 use Rattle.coset_seen.specs.declared.header.Named.{Named}
 use Rattle.coset_seen.specs.declared.kind.Kind as kinds
-use Rattle.coset_seen.specs.declared.kind.Kind.TheVariants.{Sign1, Mac0, Encrypt0}
-use Rattle.coset_seen.specs.Elements.{IsContent, IsProof, content_item, content_of, items_of, perhaps_tag}
-use Rattle.coset_seen.specs.Kinds.{tag_of}
-use Rattle.coset_seen.specs.Named.{AreNamed, DescribesHeader, IsHeader}
+use Rattle.coset_seen.specs.declared.kind.Kind.TheVariants.{Sign1, Mac0, Encrypt0, Mac, Encrypt}
+use Rattle.coset_seen.specs.declared.labels.Header.{Header}
+use Rattle.coset_seen.specs.Elements.{IsFilledMapOf, IsProof, content_item, laid_items, perhaps_tag}
+use Rattle.coset_seen.specs.Kinds.{has_recipients, tag_of}
+use Rattle.coset_seen.specs.Labels.{IsHeader}
+use Rattle.coset_seen.specs.Named.{AreNamed, value_of}
 use Rattle.coset_seen.specs.Seen.{DescribesMessage, in_form}
 use Rattle.coset_seen.specs.Plain.{ArePlain}
 use Rattle.coset_seen.proofs.Ascending.{plain_view}
+use Rattle.coset_seen.proofs.Labelling.{named_of}
 
 -- ---- what a header names
 
@@ -69,20 +71,34 @@ view_of k ps n plain named =
       },
     )
 
+nothing : {A : Type 0} (f : A → Item) (o : Option A) → option_map f o ≡ None → None ≡ o
+nothing f None e = refl
+nothing f (Some x) e = absurd (some-none refl e)
+
 -- The header in the content of a protected header's byte string.
-pub content_view : (b : List ℕ) (n : Named) → IsContent b n → (x : HeaderView) × ContentDescribes empty_header (layered_header 15) b x × IsView n x
-content_view b n (inl e) = (
+pub content_view :
+    (b : List ℕ) (ps : Pairs) (n : Named) → IsFilledMapOf b ps → ArePlain (negsuc 0) ps → AreNamed ps n
+    → (x : HeaderView) × ContentDescribes empty_header (layered_header 15) b x × IsView n x
+content_view b ps n (inl e) plain named = (
   empty_header,
   subst (λ c. ContentDescribes empty_header (layered_header 15) c empty_header) (sym e.0) refl,
   record {
-    algorithm = ap (option_map number) (sym e.1.0);
-    key_id = subst (KeyIs []) (sym e.1.1) refl;
+    algorithm = ap (option_map number) (nothing integer n.algorithm (sym named.algorithm ∙ ap (value_of (pos 1)) e.1));
+    key_id = subst (KeyIs []) (nothing (λ t. bytes t.bytes.now) n.key_id (sym named.key_id ∙ ap (value_of (pos 4)) e.1)) refl;
   },
 )
-content_view [] n (inr h) = absurd (h.0 refl)
-content_view (c ∷ b) n (inr h) =
-    let x = view_of 15 h.1.pairs n h.1.are_plain h.1.named in
-    (x.0, (dict h.1.pairs, h.1.is_item, x.1), x.2)
+content_view [] ps n (inr h) plain named = absurd (h.0 refl)
+content_view (c ∷ b) ps n (inr h) plain named =
+    let x = view_of 15 ps n plain named in
+    (x.0, (dict ps, h.1, x.1), x.2)
+
+-- Plain pairs in the content of a protected header's byte string.
+pub content_of_plain :
+    (b : List ℕ) (ps : Pairs) → IsFilledMapOf b ps → ArePlain (negsuc 0) ps → (x : HeaderView) × ContentDescribes empty_header (layered_header 15) b x
+content_of_plain b ps (inl e) plain = (empty_header, subst (λ c. ContentDescribes empty_header (layered_header 15) c empty_header) (sym e.0) refl)
+content_of_plain [] ps (inr h) plain = absurd (h.0 refl)
+content_of_plain (c ∷ b) ps (inr h) plain =
+    let x = plain_view 15 (dict ps) ps (negsuc 0) refl plain in (x.0, (dict ps, h.1, x.1.describes))
 
 pub protected_view :
     (b : List ℕ) (x : HeaderView) → ContentDescribes empty_header (layered_header 15) b x
@@ -98,11 +114,10 @@ content_describes (Some t) = (refl, refl)
 
 -- The two headers and the content of the elements.
 three :
-    {A : Type 0} (ps : ElementsShape A) (p : List ℕ) (x u : HeaderView) (us : Pairs) (o : Option (List ℕ)) (vs : Items) (y : A)
-    → ContentDescribes empty_header (layered_header 15) p x → header.describes (dict us) u → ps.describes vs y
-    → (with_headers (or_nil bstr then ps)).describes (array (item (bytes p) (item (dict us) (item (content_item o) vs))))
-    (record { original = Some p; header = x }, (u, (o, y)))
-three ps p x u us o vs y d e f = (_, refl, (protected_view p x d, (e, (content_describes o, f))))
+    {A : Type 0} (ps : ElementsShape A) (p : List ℕ) (x : ProtectedView) (u : HeaderView) (us : Pairs) (o : Option (List ℕ)) (vs : Items) (y : A)
+    → protected.describes (bytes p) x → header.describes (dict us) u → ps.describes vs y
+    → (with_headers (or_nil bstr then ps)).describes (array (item (bytes p) (item (dict us) (item (content_item o) vs)))) (x, (u, (o, y)))
+three ps p x u us o vs y d e f = (_, refl, (d, (e, (content_describes o, f))))
 
 -- The item describes the value in its form.
 formed :
@@ -112,28 +127,22 @@ formed s true n b w x is d = (tag n w, is, (w, refl, d))
 formed s false n b w x is d = (w, is, d)
 
 pub message_described :
-    (k : kinds.Kind) (t : Bool) (b : List ℕ) (e : Elements) (us : Pairs) (x u : HeaderView) → IsProof k e.proof
-    → IsItem b (perhaps_tag t (tag_of k) (array (items_of k e us))) → ContentDescribes empty_header (layered_header 15) e.protected.bytes.now x
-    → header.describes (dict us) u
-    → DescribesMessage k t b (record { original = Some e.protected.bytes.now; header = x }) u (content_of e.content) e.proof.bytes.now
-message_described Sign1 t b e us x u is_proof is d f =
-    formed sign1 t 18 b (array (items_of Sign1 e us)) _ is
-    (three (bstr then end) e.protected.bytes.now x u us (content_of e.content) (item (bytes e.proof.bytes.now) no_items) (e.proof.bytes.now, tt) d f (refl, tt))
-message_described Mac0 t b e us x u is_proof is d f =
-    formed mac0 t 17 b (array (items_of Mac0 e us)) _ is
-    (three (bstr then end) e.protected.bytes.now x u us (content_of e.content) (item (bytes e.proof.bytes.now) no_items) (e.proof.bytes.now, tt) d f (refl, tt))
-message_described Encrypt0 t b e us x u is_proof is d f =
-    (formed encrypt0 t 16 b (array (items_of Encrypt0 e us)) _ is (three end e.protected.bytes.now x u us (content_of e.content) no_items tt d f tt), is_proof)
+    (k : kinds.Kind) (t : Bool) (b p : List ℕ) (us : Pairs) (c : Option (List ℕ)) (s : List ℕ) (w : Item) (x : ProtectedView) (u : HeaderView)
+    → has_recipients k ≡ false → IsProof k s → IsItem b (perhaps_tag t (tag_of k) (array (laid_items k p us c s w)))
+    → protected.describes (bytes p) x → header.describes (dict us) u
+    → DescribesMessage k t b x u c s
+message_described Sign1 t b p us c s w x u few is_proof is d f =
+    formed sign1 t 18 b (array (laid_items Sign1 p us c s w)) _ is (three (bstr then end) p x u us c (item (bytes s) no_items) (s, tt) d f (refl, tt))
+message_described Mac0 t b p us c s w x u few is_proof is d f =
+    formed mac0 t 17 b (array (laid_items Mac0 p us c s w)) _ is (three (bstr then end) p x u us c (item (bytes s) no_items) (s, tt) d f (refl, tt))
+message_described Encrypt0 t b p us c s w x u few is_proof is d f =
+    (formed encrypt0 t 16 b (array (laid_items Encrypt0 p us c s w)) _ is (three end p x u us c no_items tt d f tt), is_proof)
+message_described Mac t b p us c s w x u few is_proof is d f = absurd (true≢false few)
+message_described Encrypt t b p us c s w x u few is_proof is d f = absurd (true≢false few)
 
 -- A plain header that was found.
 pub plain_header_found :
-    (b : List ℕ) (o : Option Named) → IfSome o (IsHeader b) → is_some o ≡ true → DescribesHeader b
-plain_header_found b None h t k = absurd (true≢false (sym t))
-plain_header_found b (Some n) h t k =
-    let x = view_of k h.pairs n h.are_plain h.named in
+    (b : List ℕ) (h : Header) → IsHeader b h → h.is_plain ≡ true → (k : ℕ) → (x : HeaderView) × Describes (layered_header k) b x
+plain_header_found b n h t k =
+    let x = view_of k h.pairs n.named (h.has.plain t).0 (named_of h.pairs n h.has t) in
     (x.0, (dict h.pairs, h.is_item, x.1))
-
--- The content of a byte string that isn't empty, and is a plain header.
-pub content_of_header : (b : List ℕ) (o : Option Named) → b ≢ [] → IfSome o (IsHeader b) → IfSome o (IsContent b)
-content_of_header b None filled h = h
-content_of_header b (Some n) filled h = inr (filled, h)

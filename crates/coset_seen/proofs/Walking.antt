@@ -1,6 +1,6 @@
 -- Reading plain pairs one after another.
-use Rattle.std.proofs.Common.{◌≡◌, ◌≢◌, ◌<ℤ◌, ◌++◌, ◌∙◌, ℕ, suc, ℤ, pos, negsuc, List, [], Option, Some, None, Bool}
-use Rattle.std.proofs.Common.{true, false, Bor, cond, inl, refl, sym, ap, subst, arith, FitsSigned}
+use Rattle.std.proofs.Common.{◌≡◌, ◌≢◌, ◌<ℤ◌, ◌++◌, ◌∙◌, ℕ, suc, ℤ, pos, negsuc, List, [], Option, Some, None, Bool, true, false, cond}
+use Rattle.std.proofs.Common.{refl, sym, ap, subst, arith, FitsSigned}
 use Rattle.std.specs.Int.{w64}
 use Rattle.std.specs.Ordering.{int_eq}
 use Rattle.std.specs.Option.{option_or}
@@ -8,13 +8,13 @@ use Rattle.std.specs.Prelude.{IfSome, option_map}
 use Rattle.std.proofs.lemmas.Bool.Decides.{Decides-int_eq}
 use Rattle.std.proofs.lemmas.List.{append_assoc}
 use Rattle.coset.specs.Item.{Item, Pairs, no_pairs, pair, bytes, integer, pairs_count}
-use Rattle.coset.specs.Grammar.{ArePairEncodings, IsHead, IsHeaded}
+use Rattle.coset.specs.Grammar.{ArePairEncodings}
 use Rattle.coset_seen.specs.declared.forward.Ahead.{Ahead}
 use Rattle.coset_seen.specs.declared.header.Named.{Named}
 use Rattle.coset_seen.specs.declared.header.Parameter as parameters
 use Rattle.coset_seen.specs.declared.header.Parameter.TheVariants.{Algorithm, KeyId, Other}
 use Rattle.coset_seen.specs.Begins.{Begins, IsAhead}
-use Rattle.coset_seen.specs.Named.{BeginsHeader, BeginsPlain, IsParameter, IsPlaced, Says, value_of, with_parameter}
+use Rattle.coset_seen.specs.Named.{BeginsPlain, IsParameter, IsPlaced, Says, value_of, with_parameter}
 use Rattle.coset_seen.proofs.Fronts.{ahead_in}
 use Rattle.coset_seen.specs.Plain.{ArePlain}
 
@@ -166,23 +166,3 @@ named_in b x s n e h = go n.key_id h
     go : (o : Option Ahead) → IfSome o (IsAhead s) → IfSome o (IsAhead b)
     go None h = h
     go (Some t) h = ahead_in b x s t e h
-
--- A map of plain pairs.
-pub header_begins : (count : ℕ) (b r : List ℕ) (n : Named) (s : List ℕ) → IsHeaded 5 count r b → BeginsPlain count r n s → BeginsHeader b n s
-header_begins count b r n s h p = record {
-  pairs = p.pairs;
-  begins = (
-    h.head ++ p.encoding,
-    (p.encoding, p.are_encoded, inl (record { head = h.head; is_head = subst (λ m. IsHead 5 m h.head) (sym p.counted) h.is_head; parts = refl })),
-    h.parts ∙ (ap (λ y. h.head ++ y) p.parts ∙ sym (append_assoc h.head p.encoding s)),
-  );
-  are_plain = p.are_plain;
-  named = p.named;
-  placed = named_in b h.head r n h.parts p.placed;
-}
-
-pub header_found :
-    (count : ℕ) (b r : List ℕ) (o : Option (Named × Bor (List ℕ))) → IsHeaded 5 count r b → IfSome o (λ x. BeginsPlain count r x.0 x.1.now)
-    → IfSome o (λ x. BeginsHeader b x.0 x.1.now)
-header_found count b r None h p = p
-header_found count b r (Some x) h p = header_begins count b r x.0 x.1.now h p

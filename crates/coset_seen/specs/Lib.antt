@@ -1,8 +1,10 @@
 pub mod Begins
 pub mod Plain
 pub mod Named
+pub mod Labels
 pub mod Puts
 pub mod Kinds
 pub mod Structures
 pub mod Elements
 pub mod Seen
+pub mod Layout

@@ -1,9 +1,9 @@
 -- The algorithm and the key identifier of a plain header, and where they are in the input.
 use Rattle.std.specs.Prelude.{◌≡◌, ◌≢◌, ◌++◌, ℕ, ℤ, pos, negsuc, List, Option, Some, None, Bool, false, IfSome, option_map, if◌then◌else◌, ⊤}
 use Rattle.std.specs.Ordering.{int_eq}
-use Rattle.coset.specs.Item.{Item, Pairs, no_pairs, pair, bytes, integer, dict, pairs_count}
+use Rattle.coset.specs.Item.{Item, Pairs, no_pairs, pair, bytes, integer, pairs_count}
 use Rattle.coset.specs.Parts.{as_integer}
-use Rattle.coset.specs.Grammar.{ArePairEncodings, IsItem}
+use Rattle.coset.specs.Grammar.{ArePairEncodings}
 use Rattle.coset.specs.Headers.{HeaderView, layered_header}
 use Rattle.coset.specs.Results.{Describes}
 use Rattle.coset_seen.specs.declared.header.Named.{Named}
@@ -63,22 +63,6 @@ pub record BeginsPlain (count : ℕ) (b : List ℕ) (n : Named) (s : List ℕ) :
   pub parts : b ≡ encoding ++ s
   pub are_encoded : ArePairEncodings pairs encoding
   pub counted : pairs_count pairs ≡ count
-  pub are_plain : ArePlain (negsuc 0) pairs
-  pub named : AreNamed pairs n
-  pub placed : IfSome n.key_id (IsAhead b)
-
--- The bytes b begin with a map that is a plain header and names n, and s follows it.
-pub record BeginsHeader (b : List ℕ) (n : Named) (s : List ℕ) : Type 0 where
-  pub pairs : Pairs
-  pub begins : Begins (dict pairs) s b
-  pub are_plain : ArePlain (negsuc 0) pairs
-  pub named : AreNamed pairs n
-  pub placed : IfSome n.key_id (IsAhead b)
-
--- The bytes b are one plain header, which names n.
-pub record IsHeader (b : List ℕ) (n : Named) : Type 0 where
-  pub pairs : Pairs
-  pub is_item : IsItem b (dict pairs)
   pub are_plain : ArePlain (negsuc 0) pairs
   pub named : AreNamed pairs n
   pub placed : IfSome n.key_id (IsAhead b)

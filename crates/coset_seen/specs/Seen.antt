@@ -11,6 +11,7 @@ use Rattle.coset.specs.LabelData.{as_label, number}
 use Rattle.coset.specs.Encrypt0.{encrypt0}
 use Rattle.coset.specs.Mac0.{mac0}
 use Rattle.coset.specs.Sign1.{sign1}
+use Rattle.coset_seen.specs.declared.elements.Elements.{Elements}
 use Rattle.coset_seen.specs.declared.forward.Ahead.{Ahead}
 use Rattle.coset_seen.specs.declared.kind.Kind as kinds
 use Rattle.coset_seen.specs.declared.kind.Kind.TheVariants.{Sign1, Mac0, Encrypt0}
@@ -53,6 +54,16 @@ FindsKeyId b p None (Some t) (Some i) = (i.is_protected ≡ false) × IsPartOf b
 FindsKeyId b p None None None = ⊤
 FindsKeyId b p o q i = ⊥
 
+-- The parts of the message s are those of the elements e, in the bytes b.
+pub record IsTakenFrom (k : kinds.Kind) (b : List ℕ) (t : Bool) (e : Elements) (s : Seen) : Type 0 where
+  pub kind : s.kind ≡ k
+  pub is_tagged : s.is_tagged ≡ t
+  pub algorithm : s.algorithm ≡ e.first.named.algorithm
+  pub protected : IsPartOf b e.protected s.protected
+  pub key_id : FindsKeyId b s.protected e.first.named.key_id e.second.named.key_id s.key_id
+  pub content : IsContentOf b e.content s.content
+  pub proof : IsPartOf b e.proof s.proof
+
 -- ---- messages
 
 -- The value as it is, or under a tag of that number if the bool is true.
@@ -66,6 +77,7 @@ abbrev pub DescribesMessage : kinds.Kind → Bool → List ℕ → ProtectedView
 DescribesMessage Sign1 t b p u c s = Describes (in_form t 18 sign1) b (record { protected = p; unprotected = u; payload = c; signature = s })
 DescribesMessage Mac0 t b p u c s = Describes (in_form t 17 mac0) b (record { protected = p; unprotected = u; payload = c; tag = s })
 DescribesMessage Encrypt0 t b p u c s = Describes (in_form t 16 encrypt0) b (record { protected = p; unprotected = u; ciphertext = c }) × (s ≡ [])
+DescribesMessage k t b p u c s = ⊥
 
 -- The last argument is the first key identifier that isn't empty: p of the protected header, or u of the unprotected one.
 abbrev pub IsKeyId : List ℕ → List ℕ → Option KeyId → Type 0

@@ -8,12 +8,12 @@ use Rattle.coset.specs.Signed.{signed_item}
 use Rattle.coset.specs.Structure.{structure}
 use Rattle.coset.specs.CoseError.{CoseError}
 use Rattle.coset.specs.SignatureContext.TheVariants.{CoseSign1}
-use Rattle.coset.specs.MacContext.TheVariants.{CoseMac0}
-use Rattle.coset.specs.EncryptionContext.TheVariants.{CoseEncrypt0}
+use Rattle.coset.specs.MacContext.TheVariants.{CoseMac, CoseMac0}
+use Rattle.coset.specs.EncryptionContext.TheVariants.{CoseEncrypt, CoseEncrypt0}
 use Rattle.coset_cbor.specs.Least.{least_head}
 use Rattle.coset.specs.Shortest.{IsShortest}
 use Rattle.coset_seen.specs.declared.kind.Kind as kinds
-use Rattle.coset_seen.specs.declared.kind.Kind.TheVariants.{Sign1, Mac0, Encrypt0}
+use Rattle.coset_seen.specs.declared.kind.Kind.TheVariants.{Sign1, Mac0, Encrypt0, Mac, Encrypt}
 use Rattle.coset_seen.specs.declared.structure.ByteString.{ByteString}
 use Rattle.coset_seen.specs.declared.structure.StructureError as errors
 use Rattle.coset_seen.specs.declared.structure.StructureError.TheVariants.{OutOfMemory}
@@ -24,12 +24,16 @@ abbrev pub context_of : kinds.Kind → List ℕ
 context_of Sign1 = codes "Signature1"
 context_of Mac0 = codes "MAC0"
 context_of Encrypt0 = codes "Encrypt0"
+context_of Mac = codes "MAC"
+context_of Encrypt = codes "Encrypt"
 
 -- The structure's byte strings, from the protected bytes p and the content c.
 abbrev pub parts_of : kinds.Kind → List ℕ → List ℕ → List ℕ → List (List ℕ)
 parts_of Sign1 p aad c = p ∷ aad ∷ c ∷ []
 parts_of Mac0 p aad c = p ∷ aad ∷ c ∷ []
 parts_of Encrypt0 p aad c = p ∷ aad ∷ []
+parts_of Mac p aad c = p ∷ aad ∷ c ∷ []
+parts_of Encrypt p aad c = p ∷ aad ∷ []
 
 -- The structure of a message of this kind.
 abbrev pub structure_of : kinds.Kind → List ℕ → List ℕ → List ℕ → Item
@@ -40,6 +44,8 @@ abbrev pub front_of : kinds.Kind → List ℕ
 front_of Sign1 = least_head 4 4 ++ (least_head 3 10 ++ codes "Signature1")
 front_of Mac0 = least_head 4 4 ++ (least_head 3 4 ++ codes "MAC0")
 front_of Encrypt0 = least_head 4 3 ++ (least_head 3 8 ++ codes "Encrypt0")
+front_of Mac = least_head 4 4 ++ (least_head 3 3 ++ codes "MAC")
+front_of Encrypt = least_head 4 3 ++ (least_head 3 7 ++ codes "Encrypt")
 
 -- The encoding of the byte string.
 abbrev pub encoded : ByteString → List ℕ
@@ -64,3 +70,5 @@ abbrev pub IsStructureOf : kinds.Kind → ProtectedView → List ℕ → List �
 IsStructureOf Sign1 p aad c w = signed_item CoseSign1 p None aad c ≡ Some w
 IsStructureOf Mac0 p aad c w = mac_item CoseMac0 p aad c ≡ Some w
 IsStructureOf Encrypt0 p aad c w = enc_item CoseEncrypt0 p aad ≡ Some w
+IsStructureOf Mac p aad c w = mac_item CoseMac p aad c ≡ Some w
+IsStructureOf Encrypt p aad c w = enc_item CoseEncrypt p aad ≡ Some w

@@ -1,16 +1,13 @@
 //! Plain headers (`see` says what they are), with their algorithm and key identifier.
 
-ghost use Rattle.std.specs.Prelude.{◌≡◌, ◌≢◌, ◌<ℤ◌, [], ℕ, IfSome, None, IsTrue, pos, negsuc};
-ghost use Rattle.coset.specs.Item.{Item, bytes, integer};
+ghost use Rattle.std.specs.Prelude.{◌≡◌, ◌≢◌, [], IfSome, None, IsTrue, pos};
+ghost use Rattle.coset.specs.Item.{bytes, integer};
 ghost use Rattle.coset_seen.specs.Begins.{Begins, IsAhead};
-ghost use Rattle.coset_seen.specs.Named.{BeginsHeader, BeginsPlain, DescribesHeader, IsHeader, IsParameter, with_parameter};
+ghost use Rattle.coset_seen.specs.Named.{BeginsPlain, IsParameter, with_parameter};
 ghost use Rattle.coset_seen.specs.Plain.{IsPlainValue};
 
-use crate::forward::{Ahead, bytes_at, headed, integer_at, item_at};
-use coset::cbor::head::MajorType;
+use crate::forward::{Ahead, bytes_at, integer_at, item_at};
 use coset::iana::{Algorithm, CoapContentFormat, EnumI64, WithPrivateRange};
-use coset::laws::one_item;
-use coset_codec::traits::whole_item;
 
 /// The algorithm and the key identifier that a header names.
 #[derive(Clone, Copy)]
@@ -144,7 +141,7 @@ impl<'a> Named<'a> {
 
 /// Returns the algorithm and the key identifier that the pairs at the front name, and the bytes
 /// after them. Returns `None` if the pairs aren't those of a plain header.
-fn named_at(bytes: &[u8], count: u64) -> Option<(Named<'_>, &[u8])>
+pub(crate) fn named_at(bytes: &[u8], count: u64) -> Option<(Named<'_>, &[u8])>
     ensures { IfSome result (λ x. BeginsPlain count bytes.now x.0 x.1.now) }
 {
     let mut named = Named::nothing();
@@ -161,35 +158,4 @@ fn named_at(bytes: &[u8], count: u64) -> Option<(Named<'_>, &[u8])>
         rest = behind;
     }
     Some((named, rest))
-}
-
-/// Returns the algorithm and the key identifier that the plain header at the front names, and the
-/// bytes after it. Returns `None` if no plain header is there.
-pub(crate) fn header_at(input: &[u8]) -> Option<(Named<'_>, &[u8])>
-    ensures { IfSome result (λ x. BeginsHeader input.now x.0 x.1.now) }
-{
-    let (count, rest) = headed(input, MajorType::Map)?;
-    named_at(rest, count)
-}
-
-/// Returns the algorithm and the key identifier that the input names, if it is one plain header.
-pub(crate) fn whole_header(input: &[u8]) -> Option<Named<'_>>
-    ensures { IfSome result (IsHeader input.now) }
-{
-    let (named, _) = header_at(input)?;
-    let Ok(_) = whole_item(input) else {
-        return None;
-    };
-    one_item();
-    Some(named)
-}
-
-/// Returns true if the input is one plain header ([`see`](crate::see) says what that is). Allocates
-/// nothing.
-///
-/// False doesn't mean that the header is invalid: the facade may decode it all the same.
-pub fn is_plain_header(input: &[u8]) -> bool
-    ensures { IsTrue result → DescribesHeader input.now }
-{
-    whole_header(input).is_some()
 }

@@ -1,10 +1,9 @@
 //! The kinds of messages.
 
 ghost use Rattle.std.specs.Prelude.{◌≡◌};
-ghost use Rattle.coset_seen.specs.Kinds.{elements_of, tag_of};
+ghost use Rattle.coset_seen.specs.Kinds.{elements_of, has_recipients, tag_of};
 
-/// A kind of message without recipients and without a list of signatures (RFC 8152, sections 4.2,
-/// 5.2 and 6.2).
+/// A kind of message without a list of signatures (RFC 8152, sections 4.2, 5 and 6).
 #[derive(Clone, Copy, Debug, PartialEq, Eq)]
 pub enum Kind {
     /// `COSE_Sign1`: a message with one signature.
@@ -13,6 +12,10 @@ pub enum Kind {
     Mac0,
     /// `COSE_Encrypt0`: an encrypted message.
     Encrypt0,
+    /// `COSE_Mac`: a message with a MAC and recipients. [`see`](crate::see) finds none.
+    Mac,
+    /// `COSE_Encrypt`: an encrypted message with recipients. [`see`](crate::see) finds none.
+    Encrypt,
 }
 
 impl Kind {
@@ -24,6 +27,8 @@ impl Kind {
             Kind::Sign1 => 18,
             Kind::Mac0 => 17,
             Kind::Encrypt0 => 16,
+            Kind::Mac => 97,
+            Kind::Encrypt => 96,
         }
     }
 
@@ -32,8 +37,19 @@ impl Kind {
         ensures { result ≡ elements_of self }
     {
         match self {
-            Kind::Sign1 | Kind::Mac0 => 4,
             Kind::Encrypt0 => 3,
+            Kind::Sign1 | Kind::Mac0 | Kind::Encrypt => 4,
+            Kind::Mac => 5,
+        }
+    }
+
+    /// Returns true if messages of the kind have recipients.
+    pub(crate) fn has_recipients(self) -> bool
+        ensures { result ≡ has_recipients self }
+    {
+        match self {
+            Kind::Sign1 | Kind::Mac0 | Kind::Encrypt0 => false,
+            Kind::Mac | Kind::Encrypt => true,
         }
     }
 }

@@ -7,17 +7,21 @@
 //!
 //! `None` doesn't mean that the bytes are no such message. The caller then decodes them with the
 //! facade `coset`. [`see`] says which messages it finds, and which headers are plain.
+//!
+//! [`layout_of`] finds the same parts, whatever the headers are, also of a `COSE_Mac` or
+//! `COSE_Encrypt`. [`Layout::is_valid`] decodes the headers that aren't plain.
 #![tactic(auto)]
 
 mod elements;
 mod forward;
 mod header;
 mod kind;
+mod labels;
 pub mod laws;
 mod message;
 mod structure;
 
-pub use header::is_plain_header;
 pub use kind::Kind;
-pub use message::{KeyId, Part, Seen, see};
+pub use labels::is_plain_header;
+pub use message::{KeyId, Layout, Part, Seen, layout_of, see};
 pub use structure::{StructureError, put_texts};

@@ -1,17 +1,25 @@
 //! Messages, seen in the bytes that encode them.
 
 ghost use Rattle.std.specs.Option.{option_copied};
-ghost use Rattle.std.specs.Prelude.{◌≡◌, ◌<◌, ◌^◌, ℕ, List, IfSome, length};
+ghost use Rattle.std.specs.Prelude.{◌≡◌, ◌<◌, ◌^◌, ℕ, List, IfSome, IsTrue, false, length};
+ghost use Rattle.coset.specs.Headers.{HeaderView, ProtectedView, header, protected};
+ghost use Rattle.coset.specs.Item.{bytes, dict};
+ghost use Rattle.coset.specs.Pulls.{pull_item};
 ghost use Rattle.coset_seen.specs.Begins.{IsAhead};
-ghost use Rattle.coset_seen.specs.Seen.{FindsKeyId, GivesContent, IsContentOf, IsPart, IsSeen, LiesIn, MakesStructure, PutsStructure};
+ghost use Rattle.coset_seen.specs.Layout.{IsDescribed, IsLayout};
+ghost use Rattle.coset_seen.specs.Seen.{FindsKeyId, GivesContent, IsContentOf, IsPart, IsSeen, IsTakenFrom, LiesIn, MakesStructure, PutsStructure};
+ghost use Rattle.coset_seen.specs.declared.kind.Kind.{Kind};
 
 use crate::elements::{Elements, elements_of};
 use crate::forward::Ahead;
 use crate::kind::Kind;
 use crate::structure::{StructureError, put_structure, structure_of};
+use coset::cbor::de::Pull;
+use coset::laws::one_item;
+use coset::{FromPull, Header, ProtectedHeader};
 use std::alloc::Global;
 
-/// Bytes of a message, and their place in the input of [`see`].
+/// Bytes of a message, and their place in the input of [`see`] or [`layout_of`].
 #[derive(Clone, Copy, Debug)]
 pub struct Part<'a> {
     /// The bytes of the part. There may be none.
@@ -24,19 +32,20 @@ pub struct Part<'a> {
 /// A key identifier (`kid`, RFC 8152, section 3.1).
 #[derive(Clone, Copy, Debug)]
 pub struct KeyId<'a> {
-    /// The bytes of the identifier. They aren't empty.
+    /// The bytes of the identifier. They aren't empty if the header is valid.
     pub part: Part<'a>,
     /// Whether the protected header has it. Otherwise the unprotected header has it.
     pub is_protected: bool,
 }
 
-/// A message that [`see`] found, borrowed from the bytes that encode it. Nothing in it is verified.
+/// A message that [`see`] or [`layout_of`] found, borrowed from the bytes that encode it. Nothing
+/// in it is verified.
 ///
 /// The fields are described as `see` returns them; a caller can also set others. Other header
 /// parameters, such as the IV, aren't included: decode the message for them.
 #[derive(Clone, Copy, Debug)]
 pub struct Seen<'a> {
-    /// The kind that the caller gave to [`see`].
+    /// The kind that the caller gave.
     pub kind: Kind,
     /// Whether the message is under its CBOR tag (RFC 8152, section 2).
     pub is_tagged: bool,
@@ -53,7 +62,7 @@ pub struct Seen<'a> {
     /// place: the content is then detached or absent.
     pub content: Option<Part<'a>>,
     /// The signature or the MAC's tag, which may be empty. An encrypted message has neither, and an
-    /// empty part at the end of the input.
+    /// empty part after its content.
     pub proof: Part<'a>,
 }
 
@@ -82,17 +91,18 @@ fn within<'a>(outer: Part<'_>, inner: Part<'a>) -> Part<'a>
 }
 
 /// Returns the key identifier of a message.
-fn key_id_of<'a>(elements: Elements<'a>, protected: Part<'a>, input: &[u8]) -> Option<KeyId<'a>>
-    ensures { FindsKeyId input.now protected.entry elements.entry.first.key_id
-        elements.entry.second.key_id result }
+#[inline(always)]
+fn key_id_of<'a>(elements: &Elements<'a>, protected: Part<'a>, input: &[u8]) -> Option<KeyId<'a>>
+    ensures { FindsKeyId input.now protected.entry elements.now.first.named.key_id
+        elements.now.second.named.key_id result }
 {
-    if let Some(found) = elements.first.key_id {
+    if let Some(found) = elements.first.named.key_id {
         return Some(KeyId {
             part: within(protected, part_of(found, protected.bytes)),
             is_protected: true,
         });
     }
-    match elements.second.key_id {
+    match elements.second.named.key_id {
         Some(found) => Some(KeyId {
             part: part_of(found, input),
             is_protected: false,
@@ -102,12 +112,30 @@ fn key_id_of<'a>(elements: Elements<'a>, protected: Part<'a>, input: &[u8]) -> O
 }
 
 /// Returns the content of a message.
-fn content_of<'a>(elements: Elements<'a>, input: &[u8]) -> Option<Part<'a>>
-    ensures { IsContentOf input.now elements.entry.content result }
+#[inline(always)]
+fn content_of<'a>(elements: &Elements<'a>, input: &[u8]) -> Option<Part<'a>>
+    ensures { IsContentOf input.now elements.now.content result }
 {
     match elements.content {
         Some(found) => Some(part_of(found, input)),
         None => None,
+    }
+}
+
+/// Returns the parts of a message.
+#[inline(always)]
+fn taken_from<'a>(kind: Kind, is_tagged: bool, elements: &Elements<'a>, input: &'a [u8]) -> Seen<'a>
+    ensures { IsTakenFrom kind input.now is_tagged elements.now result }
+{
+    let protected = part_of(elements.protected, input);
+    Seen {
+        kind,
+        is_tagged,
+        protected,
+        algorithm: elements.first.named.algorithm,
+        key_id: key_id_of(elements, protected, input),
+        content: content_of(elements, input),
+        proof: part_of(elements.proof, input),
     }
 }
 
@@ -135,17 +163,128 @@ pub fn see(kind: Kind, input: &[u8]) -> Option<Seen<'_>>
     // The items that the bytes encode.
     ensures lies { IfSome result (LiesIn kind input.now) }
 {
+    if kind.has_recipients() {
+        return None;
+    }
     let (is_tagged, elements) = elements_of(kind, input)?;
-    let protected = part_of(elements.protected, input);
-    Some(Seen {
-        kind,
-        is_tagged,
-        protected,
-        algorithm: elements.first.algorithm,
-        key_id: key_id_of(elements, protected, input),
-        content: content_of(elements, input),
-        proof: part_of(elements.proof, input),
+    if !elements.is_plain {
+        return None;
+    }
+    Some(taken_from(kind, is_tagged, &elements, input))
+}
+
+/// The parts of a message, whatever its headers are. They may be invalid.
+#[derive(Clone, Copy)]
+pub struct Layout<'a> {
+    /// The parts. If the algorithm isn't an integer in the range of `i64`, it is `None` here.
+    pub seen: Seen<'a>,
+    /// Whether the protected header's algorithm isn't an integer in the range of `i64`. If the
+    /// header is valid, the algorithm is then a text.
+    pub has_text: bool,
+    /// Whether one of the headers has `crit`.
+    pub is_critical: bool,
+    /// The bytes from the protected header's byte string on, and those from the unprotected header
+    /// on.
+    fronts: (&'a [u8], &'a [u8]),
+    is_first_plain: bool,
+    is_second_plain: bool,
+}
+
+/// Returns true if one of the two is true.
+fn is_either(first: bool, second: bool) -> bool
+    ensures { result ≡ false → (first ≡ false) × (second ≡ false) }
+{
+    first || second
+}
+
+/// Returns true if the item is a valid protected header. False may also mean that an allocation
+/// failed.
+fn is_protected(alloc: Global, place: Pull<'_>) -> bool
+    ensures { IsTrue result
+        → (x : ProtectedView) × protected.describes (pull_item place.entry) x }
+{
+    ProtectedHeader::from_pull_bstr(alloc, place).is_ok()
+}
+
+/// Returns true if the item is a valid unprotected header. False may also mean that an allocation
+/// failed.
+fn is_unprotected(alloc: Global, place: Pull<'_>) -> bool
+    ensures { IsTrue result → (x : HeaderView) × header.describes (pull_item place.entry) x }
+{
+    Header::from_pull(alloc, place).is_ok()
+}
+
+/// Finds the parts of a message of this kind, with or without its tag, in the bytes that encode it.
+/// Allocates nothing.
+///
+/// The headers and the recipients aren't checked: [`Layout::is_valid`] checks the headers, and the
+/// facade decodes recipients. Verifies and decrypts nothing.
+///
+/// `None` doesn't mean that the message is invalid. It is returned unless the message is the whole
+/// input, and the protected header, the content, the signature or tag, and the key identifiers are
+/// byte strings of definite length (RFC 8949, section 3.2.3).
+pub fn layout_of(kind: Kind, input: &[u8]) -> Option<Layout<'_>>
+    ensures { IfSome result (IsLayout kind input.now) }
+{
+    let (is_tagged, elements) = elements_of(kind, input)?;
+    Some(Layout {
+        seen: taken_from(kind, is_tagged, &elements, input),
+        has_text: elements.first.has_text,
+        is_critical: is_either(elements.first.is_critical, elements.second.is_critical),
+        fronts: (elements.front, elements.protected.behind),
+        is_first_plain: elements.first.is_plain,
+        is_second_plain: elements.second.is_plain,
     })
+}
+
+impl Layout<'_> {
+    /// Returns true if the protected header is valid.
+    fn is_first_valid(&self, alloc: Global) -> bool
+        ensures { (k : Kind) (b : List ℕ) (x : IsLayout k b self.now) → IsTrue result
+            → (p : ProtectedView)
+            × protected.describes (bytes self.now.seen.protected.bytes.now) p }
+    {
+        one_item();
+        if self.is_first_plain {
+            return true;
+        }
+        match Pull::new(self.fronts.0) {
+            Ok((protected, _)) => is_protected(alloc, protected),
+            Err(_) => false,
+        }
+    }
+
+    /// Returns true if the unprotected header is valid.
+    fn is_second_valid(&self, alloc: Global) -> bool
+        ensures { (k : Kind) (b : List ℕ) (x : IsLayout k b self.now) → IsTrue result
+            → (u : HeaderView) × header.describes (dict x.second) u }
+    {
+        one_item();
+        if self.is_second_plain {
+            return true;
+        }
+        match Pull::new(self.fronts.1) {
+            Ok((unprotected, _)) => is_unprotected(alloc, unprotected),
+            Err(_) => false,
+        }
+    }
+
+    /// Returns true if both headers are valid and the message has no recipients. The bytes then
+    /// describe the message. Headers that aren't plain are decoded by the facade.
+    ///
+    /// False may also mean that an allocation failed.
+    pub fn is_valid(&self, alloc: Global) -> bool
+        ensures { (k : Kind) (b : List ℕ) → IsLayout k b self.now → IsTrue result
+            → IsDescribed k b self.now.seen }
+    {
+        if self.seen.kind.has_recipients() {
+            return false;
+        }
+        if self.is_first_valid(alloc) {
+            return self.is_second_valid(alloc);
+        }
+        false
+    }
 }
 
 impl Seen<'_> {

@@ -118,6 +118,8 @@ fn front_of(kind: Kind) -> &'static [u8]
         Kind::Sign1 => b"\x84\x6aSignature1",
         Kind::Mac0 => b"\x84\x64MAC0",
         Kind::Encrypt0 => b"\x83\x68Encrypt0",
+        Kind::Mac => b"\x84\x63MAC",
+        Kind::Encrypt => b"\x83\x67Encrypt",
     }
 }
 
@@ -217,8 +219,8 @@ pub(crate) fn put_structure(
         content,
     };
     match kind {
-        Kind::Sign1 | Kind::Mac0 => put_three(front, first, second, third, out),
-        Kind::Encrypt0 => put_two(front, first, second, out),
+        Kind::Sign1 | Kind::Mac0 | Kind::Mac => put_three(front, first, second, third, out),
+        Kind::Encrypt0 | Kind::Encrypt => put_two(front, first, second, out),
     }
 }
 
@@ -259,6 +261,14 @@ pub(crate) fn structure_of<'a>(
         Kind::Encrypt0 => {
             let parts = [protected, external_aad];
             or_out_of_memory(structure_bytes(alloc, "Encrypt0", &parts))
+        }
+        Kind::Mac => {
+            let parts = [protected, external_aad, content];
+            or_out_of_memory(structure_bytes(alloc, "MAC", &parts))
+        }
+        Kind::Encrypt => {
+            let parts = [protected, external_aad];
+            or_out_of_memory(structure_bytes(alloc, "Encrypt", &parts))
         }
     }
 }

@@ -1,29 +1,26 @@
 -- Items that are found to be messages.
-use Rattle.std.proofs.Common.{◌≡◌, ◌∙◌, ℕ, List, [], ◌∷◌, Option, Some, None, Bool, false, true, true≢false, cond, not, ap, sym, subst, refl}
-use Rattle.std.specs.Prelude.{IfSome}
+use Rattle.std.proofs.Common.{◌≡◌, ◌∙◌, ℕ, List, Option, Some, None, Bool, false, true, cond, ap, sym, subst, refl}
+use Rattle.coset.specs.Elements.{items_left}
 use Rattle.coset.specs.Encrypt0.{encrypt0, encrypt0_of}
+use Rattle.coset.specs.Headers.{HeaderView, ProtectedView}
 use Rattle.coset.specs.Item.{Item, integer, bytes, float, text, boolean, null, tag, array, dict, Items, item}
 use Rattle.coset.specs.Mac0.{mac0, mac0_of}
-use Rattle.coset.specs.ShapeLaws.{some-none}
-use Rattle.coset.specs.Sign1.{sign1, sign1_of}
-use Rattle.coset.specs.Grammar.{IsItem}
-use Rattle.coset.specs.Headers.{HeaderView, ProtectedView, empty_header, layered_header, layered_protected, protected}
 use Rattle.coset.specs.Messages.{with_headers}
 use Rattle.coset.specs.Parts.{as_bytes, as_tag}
 use Rattle.coset.specs.PerhapsTagged.{untagged}
-use Rattle.coset.specs.Shape.{◌then◌, Elements, Shape, bstr, end, is_nil, or_nil}
 use Rattle.coset.specs.Results.{Describes, IsOnlyItem}
+use Rattle.coset.specs.Shape.{◌then◌, Elements, Shape, bstr, end, is_nil, or_nil}
+use Rattle.coset.specs.ShapeLaws.{some-none}
+use Rattle.coset.specs.Sign1.{sign1, sign1_of}
+use Rattle.ffi_query.specs.declared.fits.Three.{Three}
 use Rattle.ffi_query.specs.declared.kind.Form as forms
 use Rattle.ffi_query.specs.declared.kind.Form.TheVariants.{Plain, Tagged, Either}
 use Rattle.ffi_query.specs.declared.kind.Kind as kinds
 use Rattle.ffi_query.specs.declared.kind.Kind.TheVariants.{Sign1, Sign, Mac0, Mac, Encrypt0, Encrypt, Signature, Recipient}
 use Rattle.ffi_query.specs.declared.kind.Kind.TheVariants.{Header, Key, KeySet, Claims, Any, KdfContext}
-use Rattle.ffi_query.specs.declared.three.Three.{Three}
-use Rattle.ffi_query.specs.Fits.{Fits, FitsElements, FitsForm, FitsKind, FitsThree, IsHeaderContent, IsInForm}
+use Rattle.ffi_query.specs.Fits.{Fits, FitsElements, FitsForm, FitsKind, FitsThree, IsThree}
 use Rattle.ffi_query.specs.Kinds.{HoldsOf, IsOf, in_form, is_under}
-use Rattle.ffi_query.specs.Located.{elements_left}
-use Rattle.ffi_query.specs.Three.{IsThree}
-use Rattle.ffi_query.proofs.Valued.{OneItem, same_item}
+use Rattle.ffi_query.specs.Seen.{IsAllowed}
 use Rattle.ffi_query.proofs.Viewed.{same_number, under_some}
 
 none_is : {A : Type 0} {x : A} → None ≡ Some x → ⊥
@@ -44,7 +41,7 @@ not_nil (dict ps) s e = refl
 -- The first three elements, and the elements after them.
 pub begins :
     {A : Type 0} (ps : Elements A) (v : Item) (t : Three) (b : Bool) → b ≡ true → IsThree v t → FitsThree t b
-    → (x : A) × ps.describes (elements_left t.behind) x
+    → (x : A) × ps.describes (items_left t.behind) x
     → (x : ProtectedView × (HeaderView × (Option (List ℕ) × A))) × (with_headers (or_nil bstr then ps)).describes v x
 begins ps v t b e is f x =
     let p = f.0 e in
@@ -80,42 +77,33 @@ under n v e =
     let inside = ap (untagged n) u.1 ∙ ap (λ b. cond b u.0 (tag n u.0)) (same_number n) in
     ap as_tag u.1 ∙ ap (λ x. Some (n, x)) (sym inside)
 
-pub in_plain : (n : ℕ) (v : Item) (t : Bool) → t ≡ is_under n v → not t ≡ true → untagged n v ≡ v
-in_plain n v false is e = not_under n v (sym is)
-in_plain n v true is e = absurd (true≢false (sym e))
-
-pub in_tagged : (n : ℕ) (v : Item) (t : Bool) → t ≡ is_under n v → t ≡ true → as_tag v ≡ Some (n, untagged n v)
-in_tagged n v t is e = under n v (sym is ∙ e)
-
-pub in_form_of :
-    {A : Type 0} (ps : Elements A) (f : forms.Form) (n : ℕ) (v w : Item) → IsInForm f n v (untagged n v) → w ≡ untagged n v
-    → (x : ProtectedView × (HeaderView × A)) × (with_headers ps).describes w x
-    → FitsForm f n ps v w
-in_form_of ps f n v w i e d = (subst (IsInForm f n v) (sym e) i, d)
-
--- A message in a form.
-pub in_its_form :
-    {A : Type 0} (s : Shape A) (f : forms.Form) (n : ℕ) (v w : Item) → IsInForm f n v w → (x : A) × s.describes w x
-    → (x : A) × (in_form f n s).describes v x
-in_its_form s Plain n v w e d = (d.0, subst (λ u. s.describes u d.0) e d.1)
-in_its_form s Tagged n v w e d = (d.0, (w, e, d.1))
-in_its_form s Either n v w e d = (d.0, subst (λ u. s.describes u d.0) e d.1)
+-- A message in its form. It is in the item v, and w without its tag.
+in_its_form :
+    {A : Type 0} (s : Shape A) (f : forms.Form) (n : ℕ) (v w : Item) (t : Bool) → w ≡ untagged n v → t ≡ is_under n v
+    → IsAllowed f t × ((x : A) × s.describes w x) → (x : A) × (in_form f n s).describes v x
+in_its_form s Plain n v w t same is d = (d.1.0, subst (λ u. s.describes u d.1.0) (same ∙ not_under n v (sym is ∙ d.0)) d.1.1)
+in_its_form s Tagged n v w t same is d = (d.1.0, (w, under n v (sym is ∙ d.0) ∙ ap (λ u. Some (n, u)) (sym same), d.1.1))
+in_its_form s Either n v w t same is d = (d.1.0, subst (λ u. s.describes u d.1.0) same d.1.1)
 
 -- ---- the three kinds
 
--- A consequence of having found the first three elements.
-pub known_by : {P Q : Type 0} (r : Option Three) → (P → Q) → IfSome r (λ t. P) → IfSome r (λ t. Q)
-known_by (Some t) h p = h p
-known_by None h p = p
+pub fits_sign1 :
+    (k : kinds.Kind) (f : forms.Form) (v w : Item) (t b : Bool) → k ≡ Sign1 f → w ≡ untagged 18 v → t ≡ is_under 18 v
+    → FitsForm f t (with_headers (or_nil bstr then bstr then end)) w b → b ≡ true → FitsKind k v
+fits_sign1 k f v w t b e same is fits found =
+    let d = fits found in subst (λ j. FitsKind j v) (sym e) (in_its_form sign1 f 18 v w t same is (d.0, (sign1_of d.1.0, d.1.1)))
 
-pub fits_sign1 : (k : kinds.Kind) (f : forms.Form) (v w : Item) → k ≡ Sign1 f → FitsForm f 18 (or_nil bstr then bstr then end) v w → FitsKind k v
-fits_sign1 k f v w e d = subst (λ j. FitsKind j v) (sym e) (in_its_form sign1 f 18 v w d.0 (sign1_of d.1.0, d.1.1))
+pub fits_mac0 :
+    (k : kinds.Kind) (f : forms.Form) (v w : Item) (t b : Bool) → k ≡ Mac0 f → w ≡ untagged 17 v → t ≡ is_under 17 v
+    → FitsForm f t (with_headers (or_nil bstr then bstr then end)) w b → b ≡ true → FitsKind k v
+fits_mac0 k f v w t b e same is fits found =
+    let d = fits found in subst (λ j. FitsKind j v) (sym e) (in_its_form mac0 f 17 v w t same is (d.0, (mac0_of d.1.0, d.1.1)))
 
-pub fits_mac0 : (k : kinds.Kind) (f : forms.Form) (v w : Item) → k ≡ Mac0 f → FitsForm f 17 (or_nil bstr then bstr then end) v w → FitsKind k v
-fits_mac0 k f v w e d = subst (λ j. FitsKind j v) (sym e) (in_its_form mac0 f 17 v w d.0 (mac0_of d.1.0, d.1.1))
-
-pub fits_encrypt0 : (k : kinds.Kind) (f : forms.Form) (v w : Item) → k ≡ Encrypt0 f → FitsForm f 16 (or_nil bstr then end) v w → FitsKind k v
-fits_encrypt0 k f v w e d = subst (λ j. FitsKind j v) (sym e) (in_its_form encrypt0 f 16 v w d.0 (encrypt0_of d.1.0, d.1.1))
+pub fits_encrypt0 :
+    (k : kinds.Kind) (f : forms.Form) (v w : Item) (t b : Bool) → k ≡ Encrypt0 f → w ≡ untagged 16 v → t ≡ is_under 16 v
+    → FitsForm f t (with_headers (or_nil bstr then end)) w b → b ≡ true → FitsKind k v
+fits_encrypt0 k f v w t b e same is fits found =
+    let d = fits found in subst (λ j. FitsKind j v) (sym e) (in_its_form encrypt0 f 16 v w t same is (d.0, (encrypt0_of d.1.0, d.1.1)))
 
 -- ---- consequences for each shape
 
@@ -140,22 +128,3 @@ follows KdfContext P Q h p = h _ _ p
 pub of_kind : (k : kinds.Kind) (b : List ℕ) (w : Item) → IsOnlyItem b w → FitsKind k w → IsOf k b
 of_kind k b w is =
     follows k (λ A s. (x : A) × s.describes w x) (λ A s. (x : A) × Describes s b x) (λ A s d. (d.0, (w, is.0, d.1)))
-
--- ---- the content of a protected header
-
-pub no_content : (b : List ℕ) → b ≡ [] → IsHeaderContent b
-no_content b e = subst IsHeaderContent (sym e) (empty_header, refl)
-
-pub header_content : (b : List ℕ) → (h : HeaderView) × Describes (layered_header 15) b h → IsHeaderContent b
-header_content [] d = (empty_header, refl)
-header_content (c ∷ b) d = d
-
--- The item that bytes are, if they describe a header.
-pub header_in :
-    OneItem → (k : ℕ) (v : Item) (b : List ℕ) → IsItem b v → (h : HeaderView) × Describes (layered_header k) b h
-    → (h : HeaderView) × (layered_header k).describes v h
-header_in one k v b is d = (d.0, subst (λ w. (layered_header k).describes w d.0) (same_item one b d.1.0 v d.1.1 is) d.1.2)
-
-pub protected_header : (v : Item) (b : List ℕ) → as_bytes v ≡ Some b → IsHeaderContent b → (x : ProtectedView) × protected.describes v x
-unfolding layered_protected
-protected_header v b e h = (record { original = Some b; header = h.0 }, (b, e, refl, h.1))

@@ -1,13 +1,10 @@
 -- The parts borrowed from the input b to verify or decrypt a message.
-use Rattle.std.proofs.Common.{◌≡◌, ◌∙◌, ◌++◌, ◌+◌, ℕ, ℤ, List, [], length, Option, Some}
-use Rattle.std.proofs.Common.{None, Result, Ok, Err, Bool, Bor, true, false, ap, sym, subst, refl, inl, inr, arith}
+use Rattle.std.proofs.Common.{◌≡◌, ◌∙◌, ◌++◌, ◌+◌, ℕ, ℤ, List, length, Option, Some}
+use Rattle.std.proofs.Common.{None, Result, Ok, Err, Bool, true, false, ap, sym, subst, refl, inl, inr, arith}
 use Rattle.std.proofs.lemmas.List.{length-append}
 use Rattle.std.specs.Option.{option_copied}
-use Rattle.std.specs.Prelude.{IfOk, IfSome, codes, option_and_then, option_map}
-use Rattle.coset.specs.Results.{IsOnlyItem}
-use Rattle.coset.specs.Grammar.{IsItem}
+use Rattle.std.specs.Prelude.{IfOk, IfSome, codes, option_and_then}
 use Rattle.coset.specs.Item.{Item, integer, bytes, float, text, boolean, null, tag, array, dict}
-use Rattle.coset.specs.LabelData.{LabelView}
 use Rattle.coset.specs.Parts.{as_bytes}
 use Rattle.coset.specs.ShapeLaws.{some-none}
 use Rattle.ffi_query.specs.declared.kind.Kind as kinds
@@ -15,88 +12,25 @@ use Rattle.ffi_query.specs.declared.kind.Kind.TheVariants.{Sign1, Sign, Mac0, Ma
 use Rattle.ffi_query.specs.declared.kind.Kind.TheVariants.{Header, Key, KeySet, Claims, Any, KdfContext}
 use Rattle.ffi_query.specs.declared.borrowed.Borrowed as declared
 use Rattle.ffi_query.specs.declared.borrowed.Texts.{Texts}
-use Rattle.ffi_query.specs.declared.located.Located.{Located}
 use Rattle.ffi_query.specs.declared.located.Text.{Text}
 use Rattle.ffi_query.specs.declared.view.Algorithm as algorithms
 use Rattle.ffi_query.specs.declared.view.Algorithm.TheVariants as named
 use Rattle.ffi_query.specs.declared.view.KeyIdPlace as places
 use Rattle.ffi_query.specs.declared.view.KeyIdPlace.TheVariants as found
 use Rattle.ffi_query.specs.declared.view.MessageView.{MessageView}
-use Rattle.ffi_query.specs.Results.{Finds, IsEncodingOf}
+use Rattle.ffi_query.specs.Results.{IsEncodingOf}
 use Rattle.ffi_query.specs.Critical.{IsCriticalIn, IsCriticalOf}
 use Rattle.ffi_query.specs.Kinds.{IsItemOf, TellsTagOf, tag_of}
-use Rattle.ffi_query.specs.Labels.{IsProtected, IsUnderIn, unprotected_value, value_under}
-use Rattle.ffi_query.specs.Borrowed.{AreTexts, HasNoCritical, IsAttached, IsBorrowed, IsBorrowedOf, IsEmptyIn, IsSigned, KnowsAlgorithm}
+use Rattle.ffi_query.specs.Borrowed.{AreTexts, HasNoCritical, IsAttached, IsBorrowed, IsBorrowedOf, IsSigned, KnowsAlgorithm}
 use Rattle.ffi_query.specs.Borrowed.{KnowsKeyId, Says, structure_by}
-use Rattle.ffi_query.specs.Located.{AreLocated, located_item}
 use Rattle.ffi_query.specs.Parts.{content_part, has_headers, place_of}
 use Rattle.ffi_query.specs.Places.{bytes_in, element, string_in}
-use Rattle.ffi_query.specs.Structures.{IsStructure, is_given_twice, content_at, content_in, content_structure, encryption_structure}
+use Rattle.ffi_query.specs.Structures.{IsStructure, is_given_twice, content_in, content_structure, encryption_structure}
 use Rattle.ffi_query.specs.Structures.{structure_of_one, structure_of_two}
-use Rattle.ffi_query.specs.View.{HasAlgorithm, IsAlgorithm, IsContent, IsKeyId, alg_label, bearer, kind_of_bearer, proof_at, proof_in}
+use Rattle.ffi_query.specs.View.{HasAlgorithm, IsContent, IsKeyId, bearer, kind_of_bearer, proof_in}
 
 none_is : {A : Type 0} {x : A} → None ≡ Some x → ⊥
 none_is p = some-none refl (sym p)
-
-pub if_both :
-    {T : Type 0} (r : Option T) (P Q R : T → Type 0) → ((x : T) → P x → Q x → R x) → IfSome r P → IfSome r Q → IfSome r R
-if_both (Some x) P Q R h p q = h x p q
-if_both None P Q R h p q = p
-
-pub proof_found : (o : Option ℕ) (n : ℕ) (v w : Item) → Some n ≡ o → Some w ≡ element n v → proof_at o v ≡ as_bytes w
-proof_found o n v w e f = ap (λ p. proof_at p v) (sym e) ∙ ap (option_and_then as_bytes) (sym f)
-
-pub knows_algorithm :
-    (v w : Item) (a : algorithms.Algorithm) → IsProtected alg_label (bytes_in 0 v) w → IsAlgorithm w a → KnowsAlgorithm v a
-knows_algorithm v w named.Absent u h = absurd h
-knows_algorithm v w (named.Number n) u h = (w, u, h)
-knows_algorithm v w named.Text u h = (w, u, h)
-
--- ---- the values under labels in headers
-
-found_within :
-    (l : LabelView) (p : List ℕ) (m : Item) (o : Option Located) → IsOnlyItem p m → option_map located_item o ≡ value_under l m
-    → Finds located_item (IsUnderIn l p) o
-found_within l p m (Some x) only e = (m, only.0, sym e)
-found_within l p m None only e = λ w u. none_is (e ∙ (ap (value_under l) (sym (only.1 u.0 u.1)) ∙ u.2))
-
-pub protected_found :
-    (v m : Item) (p : List ℕ) (l : LabelView) (o : Option Located) → bytes_in 0 v ≡ Some p → IsOnlyItem p m
-    → option_map located_item o ≡ value_under l m → Finds located_item (IsProtected l (bytes_in 0 v)) o
-protected_found v m p l o is only e = subst (λ q. Finds located_item (IsProtected l q) o) (sym is) (found_within l p m o only e)
-
-pub protected_none :
-    (v : Item) (p : List ℕ) (l : LabelView) (o : Option Located) → bytes_in 0 v ≡ Some p → ((m : Item) → IsItem p m → ⊥)
-    → option_map located_item o ≡ None → Finds located_item (IsProtected l (bytes_in 0 v)) o
-protected_none v p l (Some x) is none e = absurd (none_is (sym e))
-protected_none v p l None is none e = subst (λ q. Finds located_item (IsProtected l q) None) (sym is) (λ w u. none u.0 u.1)
-
-pub unprotected_found :
-    (v u : Item) (l : LabelView) (o : Option Located) → element 1 v ≡ Some u → option_map located_item o ≡ value_under l u
-    → Finds located_item (λ w. unprotected_value l v ≡ Some w) o
-unprotected_found v u l (Some x) is e = ap (option_and_then (value_under l)) is ∙ sym e
-unprotected_found v u l None is e = λ w f. none_is (e ∙ (sym (ap (option_and_then (value_under l)) is) ∙ f))
-
-pub none_found : (o : Option Item) → ((w : Item) → o ≡ Some w → ⊥) → o ≡ None
-none_found None h = refl
-none_found (Some w) h = absurd (h w refl)
-
-pub empty_in : (b s r : List ℕ) (t : Text) → t.bytes.now ≡ [] → t.rest.now ≡ r → AreLocated b s r → IsEmptyIn b t
-empty_in b s r t e f l = (
-  e,
-  record {
-    before = l.before;
-    behind = t.rest.now;
-    ends = l.ends ∙ ap (λ x. l.before ++ x) (sym f);
-    begins = ap (λ x. x ++ t.rest.now) (sym e);
-  },
-)
-
-pub signed_is :
-    (place : Item) (d : Option (List ℕ)) (r : Option (Bor (List ℕ))) → IfSome r (λ c. content_at place d ≡ Some c.now)
-    → IsSigned place d (option_copied r)
-signed_is place d (Some c) h = h
-signed_is place d None h = tt
 
 -- ---- the algorithm, crit and the key identifier of an item with two headers
 
@@ -245,7 +179,8 @@ module _
 both_made :
     {T E : Type 0} (r : Result (Option T) E) (P Q R : T → Type 0) → ((x : T) → P x → Q x → R x) → IfOk r (λ o. IfSome o P) → IfOk r (λ o. IfSome o Q)
     → IfOk r (λ o. IfSome o R)
-both_made (Ok o) P Q R f p q = if_both o P Q R f p q
+both_made (Ok (Some x)) P Q R f p q = f x p q
+both_made (Ok None) P Q R f p q = p
 both_made (Err e) P Q R f p q = p
 
 pub borrowed_of :

@@ -6,9 +6,8 @@ pub mod Known
 pub mod Locating
 pub mod Fitting
 pub mod Finding
-pub mod Naming
 pub mod Lending
 pub mod Spanning
 pub mod Placing
 pub mod Missing
-pub mod PlainMessages
+pub mod Laid

@@ -1,32 +1,33 @@
 -- Texts that are given by their places.
 use Rattle.std.proofs.Common.{◌≡◌, ◌∙◌, ◌++◌, ◌-◌, ◌+◌, ℕ, ℤ, List, [], length}
-use Rattle.std.proofs.Common.{Option, Some, Result, Ok, Err, Bool, true, false, ap, sym, subst, refl, arith}
+use Rattle.std.proofs.Common.{Option, Some, Result, Ok, Err, Bool, true, false, true≢false, ap, sym, subst, refl, arith}
 use Rattle.std.proofs.lemmas.List.{append-nil, append_assoc, length-append}
 use Rattle.std.specs.Prelude.{if◌then◌else◌}
 use Rattle.coset.specs.Item.{Item}
 use Rattle.ffi_query.specs.declared.kind.Kind as kinds
-use Rattle.ffi_query.specs.declared.borrowed.Borrowed as declared
+use Rattle.ffi_query.specs.declared.kind.Kind.TheVariants.{Encrypt0, Encrypt}
 use Rattle.ffi_query.specs.declared.borrowed.Texts.{Texts}
 use Rattle.ffi_query.specs.declared.refusal.Refusal as refusals
 use Rattle.ffi_query.specs.declared.refusal.Refusal.TheVariants.{Short, Absent, WrongType, Empty, Misuse, Cose}
 use Rattle.ffi_query.specs.declared.spans.MessageSpans.{MessageSpans}
 use Rattle.ffi_query.specs.declared.spans.Start.{Start}
 use Rattle.ffi_query.specs.declared.view.MessageView.{MessageView}
-use Rattle.ffi_query.specs.Results.{IsEncodingOf, ReturnsWith, PutsTexts}
+use Rattle.ffi_query.specs.Results.{IsEncodingOf, ReturnsWith}
 use Rattle.ffi_query.specs.Kinds.{TellsTagOf, tag_of}
-use Rattle.ffi_query.specs.Borrowed.{AreTexts, IsBorrowed, IsBorrowedOf, KnowsAlgorithm, Says, structure_by}
+use Rattle.ffi_query.specs.Borrowed.{AreTexts, KnowsAlgorithm, structure_by}
 use Rattle.ffi_query.specs.Located.{AreLocated}
-use Rattle.ffi_query.specs.Spans.{AreBorrowedSpans, AreUnsizedSpans, IsAt, IsMessageSpans, IsStart, copied, copied_spans, refusal_of, with_structure}
+use Rattle.ffi_query.specs.Spans.{AreUnsizedSpans, HasStructureOf, IsAt, IsMessageSpans, IsStart, copied}
+use Rattle.ffi_query.specs.Spans.{copied_spans, is_encrypted, refusal_of, with_structure}
 use Rattle.ffi_query.specs.Structures.{is_given_twice}
 use Rattle.ffi_query.specs.View.{IsMessageView}
 use Rattle.std.specs.Option.{option_copied}
 use Rattle.coset.specs.ShapeLaws.{some-none, some-one}
-use Rattle.coset_seen.specs.declared.message.Seen.{Seen}
+use Rattle.coset_seen.specs.declared.message.Layout.{Layout}
 use Rattle.coset_seen.specs.declared.structure.StructureError.{StructureError}
 use Rattle.coset_seen.specs.declared.structure.StructureError.TheVariants as seen
 use Rattle.coset_seen.specs.Seen.{PutsStructure, bytes_of}
 use Rattle.ffi_query.specs.Seen.{IsSeenOf, seen_item, signed_of}
-use Rattle.ffi_query.proofs.PlainMessages.{item_of, structure_of_plain}
+use Rattle.ffi_query.proofs.Laid.{item_of, structure_of_seen}
 use Rattle.ffi_query.proofs.Lending.{says_of}
 use Rattle.ffi_query.proofs.EachKind.{memory_refuses}
 
@@ -49,41 +50,6 @@ at_front t s e = record { before = []; behind = []; parts = sym (append-nil s �
 module _
     (k : kinds.Kind) (i : ℕ) (aad : List ℕ) (d : Option (List ℕ)) (ns : List ℤ) (b old new : List ℕ) (Q : Item → refusals.Refusal → Type 0)
   where
-    -- Borrowed texts, by their places.
-    lent_is :
-        (v : Item) (x : declared.Borrowed) (m : MessageSpans) → IsBorrowed k i aad d ns b v x → TellsTagOf (tag_of k) b x.view.is_tagged
-        → is_given_twice k d v ≡ false → AreBorrowedSpans b x m
-        → IsMessageSpans k i aad d ns b v m (x.structure.front.items ++ x.structure.end.now)
-    lent_is v x m l tagged once spans =
-        let t = x.structure.front.items ++ x.structure.end.now in
-        let says : Says k i aad d ns v m.view t x.proof.bytes.now x.content.bytes.now x.key_id.bytes.now =
-        subst (λ n. Says k i aad d ns v n t x.proof.bytes.now x.content.bytes.now x.key_id.bytes.now) (sym spans.view) l.says in record {
-          text = says.text;
-          view = says.view;
-          is_tagged = subst (λ n. TellsTagOf (tag_of k) b n.is_tagged) (sym spans.view) tagged;
-          is_once = once;
-          structure = at_front t says.view.signed says.is_signed;
-          proof = in_input b t x.proof.bytes.now says.view.proof m.proof spans.proof.0 says.is_proof (spans.proof.1 l.proof_in_b);
-          content = in_input b t x.content.bytes.now says.view.content m.content spans.content.0 says.is_content (spans.content.1 l.content_in_b);
-          key_id = in_input b t x.key_id.bytes.now says.view.key_id m.key_id spans.key_id.0 says.is_key_id (spans.key_id.1 l.key_id_in_b);
-          len = spans.len ∙ (sym (ap (λ n. n.structure_len) spans.view) ∙ (says.view.structure_len ∙ ap length says.is_signed));
-        }
-
-    pub lent_answered :
-        (x : declared.Borrowed) (m : MessageSpans) (r : Result MessageSpans refusals.Refusal) → IsBorrowedOf k i aad d ns b x → AreBorrowedSpans b x m
-        → PutsTexts m (x.structure.front.items ++ x.structure.end.now) old new r
-        → ReturnsWith k b (IsMessageSpans k i aad d ns b) Q old new r
-    lent_answered x m (Ok n) l spans w =
-        let t = x.structure.front.items ++ x.structure.end.now in
-        (l.item, l.is_item, (t, subst (λ y. IsMessageSpans k i aad d ns b l.item y t) (sym w.0) (lent_is l.item x m l.lent l.is_tagged l.is_once spans), w.1))
-    lent_answered x m (Err (Short n)) l spans w =
-        (l.item, l.is_item, (m, (x.structure.front.items ++ x.structure.end.now, lent_is l.item x m l.lent l.is_tagged l.is_once spans, w)))
-    lent_answered x m (Err (Cose e)) l spans w = (memory_refuses k b e w.0, w.1)
-    lent_answered x m (Err Absent) l spans w = absurd w
-    lent_answered x m (Err WrongType) l spans w = absurd w
-    lent_answered x m (Err Empty) l spans w = absurd w
-    lent_answered x m (Err Misuse) l spans w = absurd w
-
     -- Texts that were written one after another, by their places.
     copied_is : (v : Item) (n : MessageView) (t : List ℕ) → IsMessageView k i aad d ns b v n t → IsMessageSpans k i aad d ns b v (copied_spans n) t
     copied_is v n t h =
@@ -134,7 +100,7 @@ module _
     copied_answered (Err Empty) h = h
     copied_answered (Err Misuse) h = h
 
--- ---- messages with plain headers
+-- ---- texts in the input
 
 -- The view and the places of texts, once the structure is written.
 pub plain_spans_are :
@@ -161,27 +127,43 @@ plain_spans_are k i aad d ns b t v x tagged sum m texts spans sums encoded tells
       len = refl;
     }
 
+-- An encrypted message has the same structure over any content.
+pub encrypted_same : (k : kinds.Kind) → is_encrypted k ≡ true → (c e d : Option (List ℕ)) → HasStructureOf k c e d
+encrypted_same (Encrypt0 f) is c e d = λ aad p. refl
+encrypted_same (Encrypt f) is c e d = λ aad p. refl
+encrypted_same k is c e d = absurd (true≢false (sym is))
+
+-- The structure over the texts x, from the one that was written over the content that e gives.
+pub structure_is :
+    (k : kinds.Kind) (b aad t : List ℕ) (d e : Option (List ℕ)) (y : Layout) (x : Texts) → x.protected.now ≡ y.seen.protected.bytes.now
+    → option_copied x.signed ≡ signed_of (bytes_of y.seen.content) d → HasStructureOf k (bytes_of y.seen.content) e d
+    → IsEncodingOf (structure_by k aad y.seen.protected.bytes.now (signed_of (bytes_of y.seen.content) e)) t
+    → IsEncodingOf (structure_by k aad x.protected.now (option_copied x.signed)) t
+structure_is k b aad t d e y x protected signed same encoded =
+    subst (λ o. IsEncodingOf (structure_by k aad x.protected.now o) t) (sym signed)
+    (subst (λ p. IsEncodingOf (structure_by k aad p (signed_of (bytes_of y.seen.content) d)) t) (sym protected)
+    (subst (λ o. IsEncodingOf o t) (same aad y.seen.protected.bytes.now) encoded))
+
 -- A structure that couldn't be written.
 pub plain_refused :
-    (k : kinds.Kind) (i : ℕ) (aad : List ℕ) (d : Option (List ℕ)) (ns : List ℤ) (b : List ℕ) (s : Seen) (h : IsSeenOf k b s) (x : Texts) (sum : ℕ)
+    (k : kinds.Kind) (i : ℕ) (aad : List ℕ) (d given : Option (List ℕ)) (ns : List ℤ) (b : List ℕ) (y : Layout) (h : IsSeenOf k b y) (x : Texts) (sum : ℕ)
     (m : MessageSpans) (old new : List ℕ) (Q : Item → refusals.Refusal → Type 0) (e : StructureError) (r : refusals.Refusal)
-    → AreTexts k d b (seen_item h) x → x.protected.now ≡ s.protected.bytes.now → option_copied x.signed ≡ signed_of (bytes_of s.content) d
-    → AreUnsizedSpans b x s.is_tagged sum m
-    → sum ≡ 0 + (length x.proof.bytes.now + (length x.content.bytes.now + length x.key_id.text.bytes.now)) → TellsTagOf (tag_of k) b s.is_tagged
-    → is_given_twice k d (seen_item h) ≡ false → PutsStructure s aad s.content d old new (Err e) → refusal_of e ≡ Some r
+    → AreTexts k d b (seen_item h) x → x.protected.now ≡ y.seen.protected.bytes.now → option_copied x.signed ≡ signed_of (bytes_of y.seen.content) d
+    → HasStructureOf k (bytes_of y.seen.content) given d → AreUnsizedSpans b x y.seen.is_tagged sum m
+    → sum ≡ 0 + (length x.proof.bytes.now + (length x.content.bytes.now + length x.key_id.text.bytes.now)) → TellsTagOf (tag_of k) b y.seen.is_tagged
+    → is_given_twice k d (seen_item h) ≡ false → PutsStructure y.seen aad y.seen.content given old new (Err e) → refusal_of e ≡ Some r
     → ReturnsWith k b (IsMessageSpans k i aad d ns b) Q old new (Err r)
-plain_refused k i aad d ns b s h x sum m old new Q (seen.Short n) r texts protected signed spans sums tells once puts is =
-    let found = structure_of_plain k b s h aad old new d (Err (seen.Short n)) puts ((λ e. absurd (cc)), (λ e. absurd (cc))) in
+plain_refused k i aad d given ns b y h x sum m old new Q (seen.Short n) r texts protected signed same spans sums tells once puts is =
+    let found = structure_of_seen k b y h aad old new given (Err (seen.Short n)) puts ((λ e. absurd (cc)), (λ e. absurd (cc))) in
     let t = found.0 in
-    let encoded = subst (λ o. IsEncodingOf (structure_by k aad x.protected.now o) t) (sym signed)
-    (subst (λ p. IsEncodingOf (structure_by k aad p (signed_of (bytes_of s.content) d)) t) (sym protected) found.1) in
-    let are = plain_spans_are k i aad d ns b t (seen_item h) x s.is_tagged sum m texts spans sums encoded tells once in
+    let encoded = structure_is k b aad t d given y x protected signed same found.1 in
+    let are = plain_spans_are k i aad d ns b t (seen_item h) x y.seen.is_tagged sum m texts spans sums encoded tells once in
     subst (λ q. ReturnsWith k b (IsMessageSpans k i aad d ns b) Q old new (Err q)) (some-one refl is)
-    (seen_item h, item_of k b s h, (with_structure m (length t), (t, are, found.2)))
-plain_refused k i aad d ns b s h x sum m old new Q seen.OutOfMemory r texts protected signed spans sums tells once puts is =
-    let found = structure_of_plain k b s h aad old new d (Err seen.OutOfMemory) puts ((λ e. absurd (cc)), (λ e. absurd (cc))) in
+    (seen_item h, item_of k b y h, (with_structure m (length t), (t, are, found.2)))
+plain_refused k i aad d given ns b y h x sum m old new Q seen.OutOfMemory r texts protected signed same spans sums tells once puts is =
+    let found = structure_of_seen k b y h aad old new given (Err seen.OutOfMemory) puts ((λ e. absurd (cc)), (λ e. absurd (cc))) in
     subst (λ q. ReturnsWith k b (IsMessageSpans k i aad d ns b) Q old new (Err q)) (some-one refl is) (memory_refuses k b _ refl, found.2.1)
-plain_refused k i aad d ns b s h x sum m old new Q seen.NoContent r texts protected signed spans sums tells once puts is =
+plain_refused k i aad d given ns b y h x sum m old new Q seen.NoContent r texts protected signed same spans sums tells once puts is =
     absurd (some-none refl (sym is))
-plain_refused k i aad d ns b s h x sum m old new Q seen.TwoContents r texts protected signed spans sums tells once puts is =
+plain_refused k i aad d given ns b y h x sum m old new Q seen.TwoContents r texts protected signed same spans sums tells once puts is =
     absurd (some-none refl (sym is))

@@ -1,29 +1,25 @@
 -- The parts borrowed from the input b to verify or decrypt a message.
-use Rattle.std.specs.Prelude.{◌≡◌, ◌⊎◌, ◌++◌, ℕ, ℤ, List, [], Option, Some, None, Bool, false, IfSome, codes, ⊤, if◌then◌else◌}
+use Rattle.std.specs.Prelude.{◌≡◌, ◌⊎◌, ◌++◌, ℕ, ℤ, List, [], Option, Some, None, false, codes, ⊤}
 use Rattle.std.specs.Option.{option_copied}
 use Rattle.coset.specs.Results.{IsOnlyItem}
 use Rattle.coset.specs.Grammar.{IsItem}
-use Rattle.coset.specs.Item.{Item, Items, item, null}
-use Rattle.coset.specs.LabelData.{LabelView}
-use Rattle.coset.specs.Parts.{as_array, as_bytes}
+use Rattle.coset.specs.Item.{Item, item, null}
+use Rattle.coset.specs.Parts.{as_bytes}
 use Rattle.ffi_query.specs.declared.kind.Kind as kinds
 use Rattle.ffi_query.specs.declared.kind.Kind.TheVariants.{Sign1, Mac0, Mac, Encrypt0, Encrypt}
-use Rattle.ffi_query.specs.declared.borrowed.Headers.{Headers}
 use Rattle.ffi_query.specs.declared.borrowed.Borrowed as declared
 use Rattle.ffi_query.specs.declared.borrowed.Texts.{Texts}
 use Rattle.ffi_query.specs.declared.located.Located.{Located}
 use Rattle.ffi_query.specs.declared.located.Text.{Text}
-use Rattle.ffi_query.specs.declared.named.Named.{Named}
 use Rattle.ffi_query.specs.declared.view.Algorithm as algorithms
 use Rattle.ffi_query.specs.declared.view.Algorithm.TheVariants as named
 use Rattle.ffi_query.specs.declared.view.KeyIdPlace as places
 use Rattle.ffi_query.specs.declared.view.KeyIdPlace.TheVariants as found
 use Rattle.ffi_query.specs.declared.view.MessageView.{MessageView}
-use Rattle.ffi_query.specs.Results.{Finds}
 use Rattle.ffi_query.specs.Critical.{crit_label}
 use Rattle.ffi_query.specs.Kinds.{IsItemOf, TellsTagOf, tag_of}
 use Rattle.ffi_query.specs.Labels.{IsNumber, IsProtected, unprotected_value}
-use Rattle.ffi_query.specs.Located.{IsLocated, IsTextIn, located_item}
+use Rattle.ffi_query.specs.Located.{IsTextIn, located_item}
 use Rattle.ffi_query.specs.Places.{bytes_in, element}
 use Rattle.ffi_query.specs.Structures.{content_at, is_given_twice, structure_of_one, structure_of_two}
 use Rattle.ffi_query.specs.View.{IsViewOf, alg_label, kid_label, proof_in}
@@ -32,34 +28,6 @@ use Rattle.ffi_query.specs.View.{IsViewOf, alg_label, kid_label, proof_in}
 abbrev pub IsMapOf : List ℕ → Option Located → Type 0
 IsMapOf p None = (m : Item) → IsItem p m → ⊥
 IsMapOf p (Some l) = IsOnlyItem p (located_item l)
-
--- es are the elements after the third of the array v.
-abbrev pub IsBehindThree : Item → Items → Type 0
-IsBehindThree v es = (x : Item) × (y : Item) × (z : Item) × (as_array v ≡ Some (item x (item y (item z es))))
-
--- The headers are those of the item v.
-pub record AreHeaders (b : List ℕ) (v : Item) (h : Headers) : Type 0 where
-  pub protected : bytes_in 0 v ≡ Some h.protected.bytes.now
-  pub protected_in : IsTextIn b h.protected
-  pub map : IsMapOf h.protected.bytes.now h.map
-  pub map_in : IfSome h.map (IsLocated b)
-  pub unprotected : element 1 v ≡ Some (located_item h.unprotected)
-  pub unprotected_in : IsLocated b h.unprotected
-
--- The value, if the test is true.
-abbrev pub value_if : Bool → Item → Option Item
-value_if t v = if t then Some v else None
-
--- The values under alg, crit and kid in a header. P tells which value is under a label.
-pub record AreNamed (b : List ℕ) (P : LabelView → Item → Type 0) (n : Named) : Type 0 where
-  pub algorithm : Finds located_item (P alg_label) n.algorithm
-  pub critical : Finds located_item (P crit_label) n.critical
-  pub key_id : Finds located_item (P kid_label) n.key_id
-  pub key_id_in : IfSome n.key_id (IsLocated b)
-
--- An empty text in b.
-abbrev pub IsEmptyIn : List ℕ → Text → Type 0
-IsEmptyIn b t = (t.bytes.now ≡ []) × IsTextIn b t
 
 -- The algorithm of an item that begins with two headers.
 abbrev pub KnowsAlgorithm : Item → algorithms.Algorithm → Type 0

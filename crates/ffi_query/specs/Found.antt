@@ -1,16 +1,12 @@
 -- Facts about bytes that are an item of a kind.
-use Rattle.std.specs.Prelude.{ℕ, List, IfSome}
+use Rattle.std.specs.Prelude.{ℕ, List}
 use Rattle.ffi_query.specs.declared.found.Found as declared
 use Rattle.ffi_query.specs.declared.kind.Kind as kinds
 use Rattle.ffi_query.specs.Kinds.{IsItemOf, TellsTagOf, tag_of}
 use Rattle.ffi_query.specs.Located.{IsLocated, located_item}
-use Rattle.ffi_query.specs.Three.{AreThreeIn, IsThree}
 
--- x has the item of kind k that the bytes b encode, and says whether they are under its tag. If x has three elements,
--- the item begins with them.
+-- x has the item of kind k that the bytes b encode, and says whether they are under its tag.
 pub record IsFound (k : kinds.Kind) (b : List ℕ) (x : declared.Found) : Type 0 where
   pub is_item : IsItemOf k b (located_item x.item)
   pub is_tagged : TellsTagOf (tag_of k) b x.is_tagged
   pub item_in : IsLocated b x.item
-  pub three : IfSome x.three (IsThree (located_item x.item))
-  pub three_in : IfSome x.three (AreThreeIn b)

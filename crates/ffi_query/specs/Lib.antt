@@ -12,10 +12,9 @@ pub mod Countersigns
 pub mod Critical
 pub mod View
 pub mod Located
-pub mod Three
-pub mod Fits
 pub mod Found
 pub mod Borrowed
 pub mod Spans
 pub mod Elements
 pub mod Seen
+pub mod Fits

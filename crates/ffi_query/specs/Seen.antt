@@ -1,11 +1,12 @@
--- Messages with plain headers, as `coset_seen` finds them.
+-- Messages, as `coset_seen` lays them out.
 use Rattle.std.specs.Prelude.{◌≡◌, ℕ, ℤ, List, [], Option, Some, None, Bool, true, false, ⊤}
 use Rattle.coset_seen.specs.declared.kind.Kind as seen
 use Rattle.coset_seen.specs.declared.kind.Kind.TheVariants as plain
-use Rattle.coset_seen.specs.declared.message.Seen.{Seen}
+use Rattle.coset_seen.specs.declared.message.Layout.{Layout}
 use Rattle.coset_seen.specs.declared.message.KeyId.{KeyId}
-use Rattle.coset_seen.specs.Elements.{message_items}
-use Rattle.coset_seen.specs.Seen.{IsSeen, LiesIn, bytes_of}
+use Rattle.coset_seen.specs.Elements.{laid_items}
+use Rattle.coset_seen.specs.Layout.{IsLayout}
+use Rattle.coset_seen.specs.Seen.{bytes_of}
 use Rattle.coset.specs.Item.{Item, array}
 use Rattle.ffi_query.specs.declared.view.Algorithm as algorithms
 use Rattle.ffi_query.specs.declared.view.Algorithm.TheVariants as named
@@ -14,13 +15,16 @@ use Rattle.ffi_query.specs.declared.view.KeyIdPlace.TheVariants as found
 use Rattle.ffi_query.specs.declared.kind.Form as forms
 use Rattle.ffi_query.specs.declared.kind.Form.TheVariants.{Plain, Tagged, Either}
 use Rattle.ffi_query.specs.declared.kind.Kind as kinds
-use Rattle.ffi_query.specs.declared.kind.Kind.TheVariants.{Sign1, Mac0, Encrypt0}
+use Rattle.ffi_query.specs.declared.kind.Kind.TheVariants.{Sign1, Mac0, Mac, Encrypt0, Encrypt}
+use Rattle.ffi_query.specs.Kinds.{IsOf}
 
--- The kind and the form of a message without recipients and without a list of signatures.
+-- The kind and the form of a message without a list of signatures.
 abbrev pub kind_in : kinds.Kind → Option (seen.Kind × forms.Form)
 kind_in (Sign1 f) = Some (plain.Sign1, f)
 kind_in (Mac0 f) = Some (plain.Mac0, f)
 kind_in (Encrypt0 f) = Some (plain.Encrypt0, f)
+kind_in (Mac f) = Some (plain.Mac, f)
+kind_in (Encrypt f) = Some (plain.Encrypt, f)
 kind_in k = None
 
 -- The form allows a message that is or isn't under its tag.
@@ -29,23 +33,30 @@ IsAllowed Plain t = t ≡ false
 IsAllowed Tagged t = t ≡ true
 IsAllowed Either t = ⊤
 
--- The bytes b describe the message s, of kind k.
-pub record IsSeenOf (k : kinds.Kind) (b : List ℕ) (s : Seen) : Type 0 where
+-- The bytes b may describe the message x, of kind k: its headers and its recipients may be invalid.
+pub record IsLaidOf (k : kinds.Kind) (b : List ℕ) (x : Layout) : Type 0 where
   pub kind : seen.Kind
   pub form : forms.Form
   pub is_kind : kind_in k ≡ Some (kind, form)
-  pub allowed : IsAllowed form s.is_tagged
-  pub is_seen : IsSeen kind b s
-  pub lies : LiesIn kind b s
+  pub allowed : IsAllowed form x.seen.is_tagged
+  pub lies : IsLayout kind b x
+
+-- The bytes b describe the message x, of kind k. It has no crit.
+pub record IsSeenOf (k : kinds.Kind) (b : List ℕ) (x : Layout) : Type 0 where
+  pub laid : IsLaidOf k b x
+  pub is_of : IsOf k b
+  pub is_uncritical : x.is_critical ≡ false
 
 -- The message without its tag.
-abbrev pub seen_item : {k : kinds.Kind} {b : List ℕ} {s : Seen} → IsSeenOf k b s → Item
-seen_item {s = s} h = array (message_items h.kind s.protected.bytes.now h.lies.second (bytes_of s.content) s.proof.bytes.now)
+abbrev pub seen_item : {k : kinds.Kind} {b : List ℕ} {x : Layout} → IsSeenOf k b x → Item
+seen_item {x = x} h =
+    let l = h.laid.lies in array (laid_items h.laid.kind x.seen.protected.bytes.now l.second (bytes_of x.seen.content) x.seen.proof.bytes.now l.recipients)
 
--- The algorithm of that number, if there is one.
-abbrev pub algorithm_of : Option ℤ → algorithms.Algorithm
-algorithm_of None = named.Absent
-algorithm_of (Some n) = named.Number n
+-- The algorithm of that number, if there is one. Otherwise it is a text if the bool is true.
+abbrev pub algorithm_of : Option ℤ → Bool → algorithms.Algorithm
+algorithm_of (Some n) t = named.Number n
+algorithm_of None true = named.Text
+algorithm_of None false = named.Absent
 
 -- The header that has the key identifier, and its content. The content is empty if there is none.
 abbrev pub place_by : Bool → places.KeyIdPlace

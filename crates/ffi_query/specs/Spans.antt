@@ -2,7 +2,7 @@
 use Rattle.std.specs.Prelude.{◌≡◌, ◌++◌, ◌-◌, ◌+◌, ℕ, ℤ, List, length, Option, Some, None, Bool, true, false, Result, Ok, Err, if◌then◌else◌}
 use Rattle.coset.specs.Item.{Item}
 use Rattle.ffi_query.specs.declared.kind.Kind as kinds
-use Rattle.ffi_query.specs.declared.borrowed.Borrowed as declared
+use Rattle.ffi_query.specs.declared.kind.Kind.TheVariants.{Encrypt0, Encrypt}
 use Rattle.ffi_query.specs.declared.borrowed.Texts.{Texts}
 use Rattle.ffi_query.specs.declared.located.Text.{Text}
 use Rattle.coset.specs.CoseError.TheVariants as memory
@@ -13,8 +13,10 @@ use Rattle.ffi_query.specs.declared.refusal.Refusal.TheVariants as refused
 use Rattle.ffi_query.specs.declared.spans.MessageSpans.{MessageSpans}
 use Rattle.ffi_query.specs.declared.spans.Start.{Start}
 use Rattle.ffi_query.specs.declared.view.MessageView.{MessageView}
+use Rattle.ffi_query.specs.Borrowed.{structure_by}
 use Rattle.ffi_query.specs.Kinds.{TellsTagOf, tag_of}
 use Rattle.ffi_query.specs.Located.{IsTextIn}
+use Rattle.ffi_query.specs.Seen.{signed_of}
 use Rattle.ffi_query.specs.Structures.{is_given_twice}
 use Rattle.ffi_query.specs.View.{IsViewOf}
 
@@ -44,14 +46,6 @@ pub record IsMessageSpans (k : kinds.Kind) (i : ℕ) (aad : List ℕ) (d : Optio
   pub key_id : IsStart b t m.key_id view.key_id
   pub len : m.len ≡ length t
 
--- The places of texts that are in the input.
-pub record AreBorrowedSpans (b : List ℕ) (x : declared.Borrowed) (m : MessageSpans) : Type 0 where
-  pub view : m.view ≡ x.view
-  pub proof : (m.proof.is_input ≡ true) × (IsTextIn b x.proof → IsAt b m.proof.at x.proof.bytes.now)
-  pub content : (m.content.is_input ≡ true) × (IsTextIn b x.content → IsAt b m.content.at x.content.bytes.now)
-  pub key_id : (m.key_id.is_input ≡ true) × (IsTextIn b x.key_id → IsAt b m.key_id.at x.key_id.bytes.now)
-  pub len : m.len ≡ x.view.structure_len
-
 -- The text s of the input b is at that place.
 abbrev pub IsBorrowedStart : List ℕ → Start → Text → Type 0
 IsBorrowedStart b p s = (p.is_input ≡ true) × (IsTextIn b s → IsAt b p.at s.bytes.now)
@@ -71,6 +65,16 @@ pub record AreUnsizedSpans (b : List ℕ) (x : Texts) (t : Bool) (n : ℕ) (m : 
   pub proof : IsBorrowedStart b m.proof x.proof
   pub content : IsBorrowedStart b m.content x.content
   pub key_id : IsBorrowedStart b m.key_id x.key_id.text
+
+-- Items of the kind are encrypted messages.
+abbrev pub is_encrypted : kinds.Kind → Bool
+is_encrypted (Encrypt0 f) = true
+is_encrypted (Encrypt f) = true
+is_encrypted k = false
+
+-- The message that carries the content c has the same structure with the given content e as with d.
+abbrev pub HasStructureOf : kinds.Kind → Option (List ℕ) → Option (List ℕ) → Option (List ℕ) → Type 0
+HasStructureOf k c e d = (aad p : List ℕ) → structure_by k aad p (signed_of c e) ≡ structure_by k aad p (signed_of c d)
 
 -- The same with a structure of length n.
 abbrev pub with_structure : MessageSpans → ℕ → MessageSpans

@@ -1,48 +1,29 @@
 //! Everything that verifying or decrypting a message takes, borrowed from the input.
 //!
 //! This covers messages without a list of signatures and without `crit`, whose strings have
-//! definite lengths. A message with plain headers is found in one walk (`seen`). All other messages
-//! are read by copies (`view`).
+//! definite lengths. All other messages are read by copies (`view`).
 
 ghost use Rattle.std.specs.Prelude.{◌≡◌, ◌<◌, ◌+◌, ◌^◌, ◌++◌, ◌∷◌, [], ℕ, ℤ, List, Option, Some, IfOk, IfErr, IfSome, OnOk, false, length};
 ghost use Rattle.std.specs.Option.{option_copied};
 ghost use Rattle.coset.specs.CoseError.TheVariants.{OutOfMemory};
 ghost use Rattle.coset.specs.Item.{Item};
-ghost use Rattle.coset.specs.Pulls.{pull_item};
 ghost use Rattle.coset.specs.Shortest.{IsShortest};
 ghost use Rattle.coset.specs.Structure.{structure};
 ghost use Rattle.coset_cbor.specs.Least.{least_head};
 ghost use Rattle.ffi_query.specs.Results.{IsEncodingOf};
-ghost use Rattle.ffi_query.specs.Labels.{IsProtected, unprotected_value};
-ghost use Rattle.ffi_query.specs.Found.{IsFound};
-ghost use Rattle.ffi_query.specs.Borrowed.{AreHeaders, AreNamed, AreTexts, HasNoCritical, IsBehindThree, IsAttached, IsBorrowed, IsEmptyIn, IsBorrowedOf, IsMapOf, KnowsAlgorithm, KnowsKeyId, structure_by};
-ghost use Rattle.ffi_query.specs.Located.{AreElementsIn, IsLocated, IsTextIn, elements_left, located_item};
-ghost use Rattle.ffi_query.specs.Places.{bytes_in, element};
-ghost use Rattle.ffi_query.specs.Structures.{content_at, is_given_twice, structure_of_one, structure_of_two};
-ghost use Rattle.ffi_query.specs.View.{IsAlgorithm, proof_in};
+ghost use Rattle.ffi_query.specs.Borrowed.{AreTexts, IsBorrowed, IsBorrowedOf, IsMapOf, structure_by};
+ghost use Rattle.ffi_query.specs.Located.{IsLocated, IsTextIn};
+ghost use Rattle.ffi_query.specs.Structures.{structure_of_one, structure_of_two};
 
-use crate::found::Found;
 use crate::kind::Kind;
-use crate::located::{Elements, Located, Text, bytes_located, next_located, number_of};
-use crate::named::{Named, named_in, nothing_named};
-use crate::part::Part;
-use crate::seen::{has_both, seen_of, texts_of_seen};
-use crate::structure::is_given_twice;
+use crate::located::{Located, Text};
+use crate::seen::{can_borrow, has_both, laid_of, texts_of_seen};
 use crate::view::{Algorithm, KeyIdPlace, MessageView};
 use coset::Result;
-use coset::cbor::de::Pull;
 use coset_cbor::laws::{least_encoding_is_shortest, one_item};
 use coset_codec::traits::whole_item;
 use coset_core::structure::{begin_structure, structure_bytes};
 use std::alloc::Global;
-
-/// A message's headers: the protected bytes, the map encoded in them, and the unprotected map.
-#[derive(Clone, Copy)]
-struct Headers<'a> {
-    protected: Text<'a>,
-    map: Option<Located<'a>>,
-    unprotected: Located<'a>,
-}
 
 /// A key identifier, and where it is.
 #[derive(Clone, Copy)]
@@ -79,171 +60,6 @@ pub(crate) fn map_located(protected: Text<'_>) -> Option<Located<'_>>
             rest: protected.rest,
         }),
         Err(_) => None,
-    }
-}
-
-/// Returns the headers that these two elements are. Returns `None` if the protected header's byte
-/// string has indefinite length.
-fn headers_of<'a>(first: Located<'a>, second: Located<'a>) -> Option<Headers<'a>>
-    ensures { (b : List ℕ) (v : Item) → IsLocated b first.entry → IsLocated b second.entry
-        → element 0 v ≡ Some (located_item first.entry)
-        → element 1 v ≡ Some (located_item second.entry) → IfSome result (AreHeaders b v) }
-{
-    let protected = bytes_located(first)?;
-    Some(Headers {
-        protected,
-        map: map_located(protected),
-        unprotected: second,
-    })
-}
-
-/// Returns the protected header's values under `alg`, `crit` and `kid`.
-fn protected_named(headers: Headers<'_>) -> Named<'_>
-    ensures { (b : List ℕ) (v : Item) → AreHeaders b v headers.entry
-        → AreNamed b (λ l. IsProtected l (bytes_in 0 v)) result }
-{
-    match headers.map {
-        Some(map) => named_in(map),
-        None => nothing_named(),
-    }
-}
-
-/// Returns the unprotected header's values under `alg`, `crit` and `kid`.
-fn unprotected_named(headers: Headers<'_>) -> Named<'_>
-    ensures { (b : List ℕ) (v : Item) → AreHeaders b v headers.entry
-        → AreNamed b (λ l w. unprotected_value l v ≡ Some w) result }
-{
-    named_in(headers.unprotected)
-}
-
-/// Returns the algorithm that this value names.
-fn algorithm_by(value: Pull<'_>) -> Algorithm
-    ensures { IsAlgorithm (pull_item value.entry) result }
-{
-    match number_of(value) {
-        Some(number) => Algorithm::Number(number),
-        None => Algorithm::Text,
-    }
-}
-
-/// Returns the algorithm that the protected header names.
-fn algorithm_in(protected: &Named<'_>) -> Algorithm
-    ensures { (b : List ℕ) (v : Item)
-        → AreNamed b (λ l. IsProtected l (bytes_in 0 v)) protected.now
-        → KnowsAlgorithm v result }
-{
-    match protected.algorithm {
-        Some(found) => algorithm_by(found.item),
-        None => Algorithm::Absent,
-    }
-}
-
-/// Returns the key identifier, from the protected header if that has one. If neither header has
-/// one, it is `nothing`. Returns `None` if it isn't a byte string of definite length.
-fn key_id_in<'a>(
-    protected: &Named<'a>,
-    unprotected: &Named<'a>,
-    nothing: Text<'a>,
-) -> Option<KeyId<'a>>
-    ensures { (b : List ℕ) (v : Item)
-        → AreNamed b (λ l. IsProtected l (bytes_in 0 v)) protected.now
-        → AreNamed b (λ l w. unprotected_value l v ≡ Some w) unprotected.now
-        → IsEmptyIn b nothing.entry
-        → IfSome result (λ i. KnowsKeyId v i.place i.text.bytes.now × IsTextIn b i.text) }
-{
-    match protected.key_id {
-        Some(found) => {
-            let text = bytes_located(found)?;
-            Some(KeyId {
-                place: KeyIdPlace::Protected,
-                text,
-            })
-        }
-        None => match unprotected.key_id {
-            Some(found) => {
-                let text = bytes_located(found)?;
-                Some(KeyId {
-                    place: KeyIdPlace::Unprotected,
-                    text,
-                })
-            }
-            None => Some(KeyId {
-                place: KeyIdPlace::Absent,
-                text: nothing,
-            }),
-        },
-    }
-}
-
-/// Returns true if either header has `crit`.
-fn is_critical(protected: &Named<'_>, unprotected: &Named<'_>) -> bool
-    ensures { (b : List ℕ) (v : Item)
-        → AreNamed b (λ l. IsProtected l (bytes_in 0 v)) protected.now
-        → AreNamed b (λ l w. unprotected_value l v ≡ Some w) unprotected.now
-        → result ≡ false → HasNoCritical v }
-{
-    match (protected.critical, unprotected.critical) {
-        (None, None) => false,
-        _ => true,
-    }
-}
-
-/// Returns an empty text at the front of `rest`.
-fn nothing_at(rest: &[u8]) -> Text<'_>
-    ensures bytes { result.bytes.now ≡ [] }
-    ensures rest { result.rest.now ≡ rest.now }
-{
-    Text { bytes: &[], rest }
-}
-
-/// Returns the content that a message carries in this place, or `nothing` if the place is `nil`.
-/// Returns `None` if the content isn't a byte string of definite length.
-fn attached<'a>(place: Located<'a>, nothing: Text<'a>) -> Option<Text<'a>>
-    ensures { (b : List ℕ) → IsLocated b place.entry → IsEmptyIn b nothing.entry
-        → IfSome result (λ t. IsAttached (located_item place.entry) t.bytes.now × IsTextIn b t) }
-{
-    match bytes_located(place) {
-        Some(text) => Some(text),
-        None => {
-            if place.item.is_null() {
-                return Some(nothing);
-            }
-            None
-        }
-    }
-}
-
-/// Returns the content that is signed or authenticated: the carried one, or `detached` if the place
-/// is `nil`. Returns `None` if there are both or neither.
-fn signed_content<'a>(
-    place: Pull<'a>,
-    attached: &'a [u8],
-    detached: Option<&'a [u8]>,
-) -> Option<&'a [u8]>
-    ensures { IsAttached (pull_item place.entry) attached.now → IfSome result (λ c.
-        content_at (pull_item place.entry) (option_copied detached.entry) ≡ Some c.now) }
-{
-    match (detached, place.is_null()) {
-        (Some(content), true) => Some(content),
-        (None, false) => Some(attached),
-        _ => None,
-    }
-}
-
-/// Returns the signature or the tag, which is the first element after the third. Returns `nothing`
-/// if items of the kind have neither, and `None` if it isn't a byte string of definite length.
-fn proof_located<'a>(kind: Kind, behind: Elements<'a>, nothing: Text<'a>) -> Option<Text<'a>>
-    ensures { (b : List ℕ) (v : Item) → IsBehindThree v (elements_left behind.entry)
-        → AreElementsIn b behind.entry → IsEmptyIn b nothing.entry
-        → IfSome result (λ t. (proof_in kind v ≡ Some t.bytes.now) × IsTextIn b t) }
-{
-    match kind.place_of(Part::Proof) {
-        Some(3) => {
-            let (proof, _) = next_located(behind)?;
-            bytes_located(proof)
-        }
-        Some(_) => None,
-        None => Some(nothing),
     }
 }
 
@@ -396,34 +212,6 @@ pub(crate) struct Texts<'a> {
     pub(crate) signed: Option<&'a [u8]>,
 }
 
-/// Returns the texts of an item of this kind, if the input contains each of them and no header has
-/// `crit`.
-fn texts_of<'a>(kind: Kind, found: &Found<'a>, detached: Option<&'a [u8]>) -> Option<Texts<'a>>
-    ensures { (b : List ℕ) → IsFound kind b found.now → IfSome result
-        (AreTexts kind (option_copied detached.entry) b (located_item found.now.item)) }
-{
-    let nothing = nothing_at(found.item.rest);
-    let Some(three) = found.three else {
-        return None;
-    };
-    let headers = headers_of(three.protected, three.unprotected)?;
-    let protected = protected_named(headers);
-    let unprotected = unprotected_named(headers);
-    if is_critical(&protected, &unprotected) {
-        return None;
-    }
-    let place = three.content;
-    let content = attached(place, nothing)?;
-    Some(Texts {
-        protected: headers.protected.bytes,
-        algorithm: algorithm_in(&protected),
-        proof: proof_located(kind, three.behind, nothing)?,
-        content,
-        key_id: key_id_in(&protected, &unprotected, nothing)?,
-        signed: signed_content(place.item, content.bytes, detached),
-    })
-}
-
 /// Returns the length of the structure, and that of all four texts, if both fit in a `usize`.
 fn lengths_of(structure: &Structure<'_>, texts: &Texts<'_>) -> Option<(usize, usize)>
     ensures structure { IfSome result (λ n.
@@ -484,13 +272,13 @@ fn borrowed_by<'a>(
     }))
 }
 
-/// Returns everything that verifying or decrypting a message with plain headers takes. Returns
-/// `None` if the bytes aren't such a message of this kind. It is also `None` if there is no
-/// content, or if the content is given twice. The message is found without allocating.
+/// Returns everything that verifying or decrypting a message takes, if it can be borrowed from the
+/// input. Returns `None` if the bytes aren't such a message of this kind, if there is no content, or
+/// if the content is given twice.
 ///
 /// # Errors
 /// `OutOfMemory` if an allocation fails.
-pub(crate) fn borrowed_plain<'a>(
+pub(crate) fn find_borrowed<'a>(
     alloc: Global,
     kind: Kind,
     bytes: &'a [u8],
@@ -502,59 +290,15 @@ pub(crate) fn borrowed_plain<'a>(
     ensures memory { IfErr result (λ e. e ≡ OutOfMemory) }
 {
     one_item();
-    let Some(seen) = seen_of(kind, bytes) else {
+    let Some(layout) = laid_of(kind, bytes) else {
         return Ok(None);
     };
-    if has_both(seen.content, detached) {
+    if !can_borrow(alloc, kind, &layout, bytes) {
         return Ok(None);
     }
-    let texts = texts_of_seen(seen, bytes, detached);
-    borrowed_by(alloc, kind, texts, seen.is_tagged, external_aad)
-}
-
-/// Returns the texts of a message whose content is either carried or detached, as parts of the
-/// input. It is `None` if one isn't a part of it.
-///
-/// # Errors
-/// `OutOfMemory` if an allocation fails.
-fn borrowed_once<'a>(
-    alloc: Global,
-    kind: Kind,
-    found: &Found<'a>,
-    external_aad: &[u8],
-    detached: Option<&'a [u8]>,
-) -> Result<Option<Borrowed<'a>>>
-    ensures lent { (b : List ℕ) (i : ℕ) (ns : List ℤ) → IsFound kind b found.now
-        → is_given_twice kind (option_copied detached.entry) (located_item found.now.item) ≡ false
-        → IfOk result (λ o. IfSome o (IsBorrowedOf kind i external_aad.now
-        (option_copied detached.entry) ns b)) }
-    ensures memory { IfErr result (λ e. e ≡ OutOfMemory) }
-{
-    let Some(texts) = texts_of(kind, found, detached) else {
-        return Ok(None);
-    };
-    borrowed_by(alloc, kind, texts, found.is_tagged, external_aad)
-}
-
-/// Returns everything that verifying or decrypting the item takes, if it can be borrowed from the
-/// input.
-///
-/// # Errors
-/// `OutOfMemory` if an allocation fails.
-pub(crate) fn find_borrowed<'a>(
-    alloc: Global,
-    kind: Kind,
-    found: &Found<'a>,
-    external_aad: &[u8],
-    detached: Option<&'a [u8]>,
-) -> Result<Option<Borrowed<'a>>>
-    ensures lent { (b : List ℕ) (i : ℕ) (ns : List ℤ) → IsFound kind b found.now
-        → IfOk result (λ o. IfSome o (IsBorrowedOf kind i external_aad.now
-        (option_copied detached.entry) ns b)) }
-    ensures memory { IfErr result (λ e. e ≡ OutOfMemory) }
-{
-    if is_given_twice(kind, detached, found.item.item) {
+    if has_both(layout.seen.content, detached) {
         return Ok(None);
     }
-    borrowed_once(alloc, kind, found, external_aad, detached)
+    let texts = texts_of_seen(&layout, bytes, detached);
+    borrowed_by(alloc, kind, texts, layout.seen.is_tagged, external_aad)
 }

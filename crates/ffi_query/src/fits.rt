@@ -1,71 +1,71 @@
-//! Checks that an item is a message, without copying its content.
+//! Checks that an item is a message, also if its strings are in chunks. Its content isn't copied.
 
-ghost use Rattle.std.specs.Prelude.{◌≡◌, List, ℕ, IfSome, IsTrue, true};
+ghost use Rattle.std.specs.Prelude.{◌≡◌, IfSome, IsTrue, MatchOption};
+ghost use Rattle.coset.specs.Elements.{items_left};
 ghost use Rattle.coset.specs.Headers.{header, protected};
-ghost use Rattle.coset.specs.Item.{Item};
-ghost use Rattle.coset.specs.PerhapsTagged.{untagged};
+ghost use Rattle.coset.specs.Item.{Item, item, no_items};
+ghost use Rattle.coset.specs.Messages.{with_headers};
 ghost use Rattle.coset.specs.Pulls.{pull_item};
 ghost use Rattle.coset.specs.Shape.{◌then◌, bstr, end, or_nil};
-ghost use Rattle.ffi_query.specs.Fits.{Fits, FitsElements, FitsForm, FitsKind, FitsThree, IsHeaderContent, IsInForm};
-ghost use Rattle.ffi_query.specs.Kinds.{is_under, is_under_some, tag_of, without_tag};
-ghost use Rattle.ffi_query.specs.Located.{IsLocated, elements_left, located_item};
-ghost use Rattle.ffi_query.specs.Seen.{IsAllowed};
-ghost use Rattle.ffi_query.specs.Three.{AreThreeIn, IsThree};
+ghost use Rattle.ffi_query.specs.Fits.{Fits, FitsElements, FitsForm, FitsKind, FitsThree, IsThree};
+ghost use Rattle.ffi_query.specs.Kinds.{is_under_some, tag_of, without_tag};
 
 use crate::kind::{Form, Kind};
-use crate::located::{Elements, Located, next_located, only_bytes};
-use crate::three::{Three, three_of};
-use coset::cbor::de::Pull;
-use coset::laws::one_item;
+use crate::seen::is_in_form;
+use coset::cbor::de::{Items, Pull};
 use coset::{FromPull, Header, ProtectedHeader};
-use coset_seen::is_plain_header;
 use std::alloc::Global;
 
-/// Returns true if the form allows a message that is or isn't under its tag, as `is_tagged` says.
-pub(crate) fn is_in_form(form: Form, is_tagged: bool) -> bool
-    ensures form { (n : ℕ) (v : Item) → is_tagged ≡ is_under n v → result ≡ true
-        → IsInForm form n v (untagged n v) }
-    ensures allowed { result ≡ true → IsAllowed form is_tagged }
+/// The first three elements of an array, and the elements after them.
+#[derive(Clone, Copy)]
+struct Three<'a> {
+    protected: Pull<'a>,
+    unprotected: Pull<'a>,
+    content: Pull<'a>,
+    behind: Items<'a>,
+}
+
+/// Returns the first of the remaining elements, and the elements after it.
+fn next_of(elements: Items<'_>) -> Option<(Pull<'_>, Items<'_>)>
+    ensures { MatchOption result (items_left elements.entry ≡ no_items)
+        (λ x. items_left elements.entry ≡ item (pull_item x.0) (items_left x.1)) }
 {
-    match form {
-        Form::Plain => !is_tagged,
-        Form::Tagged => is_tagged,
-        Form::Either => true,
+    let mut elements = elements;
+    match elements.next() {
+        Some(element) => Some((element, elements)),
+        None => None,
     }
 }
 
-/// Returns true if the content of a byte string is empty or encodes a plain header.
-fn is_plain_content(content: &[u8]) -> bool
-    ensures { IsTrue result → IsHeaderContent content.now }
+/// Returns the first three elements of an array, and the elements after them.
+fn three_of(array: Pull<'_>) -> Option<Three<'_>>
+    ensures { IfSome result (IsThree (pull_item array.entry)) }
 {
-    if content.is_empty() {
-        return true;
-    }
-    is_plain_header(content)
+    let elements = array.items()?;
+    let (protected, elements) = next_of(elements)?;
+    let (unprotected, elements) = next_of(elements)?;
+    let (content, behind) = next_of(elements)?;
+    Some(Three {
+        protected,
+        unprotected,
+        content,
+        behind,
+    })
 }
 
 /// Returns true if the item is a valid protected header. False may also mean that an allocation
-/// failed. A plain header is recognised without allocating.
+/// failed.
 fn is_protected(alloc: Global, place: Pull<'_>) -> bool
     ensures { Fits protected (pull_item place.entry) result }
 {
-    if let Some(content) = only_bytes(place) {
-        if is_plain_content(content) {
-            return true;
-        }
-    }
     ProtectedHeader::from_pull_bstr(alloc, place).is_ok()
 }
 
 /// Returns true if the item is a valid unprotected header. False may also mean that an allocation
-/// failed. A plain header is recognised without allocating.
+/// failed.
 fn is_unprotected(alloc: Global, place: Pull<'_>) -> bool
     ensures { Fits header (pull_item place.entry) result }
 {
-    one_item();
-    if is_plain_header(place.slice()) {
-        return true;
-    }
     Header::from_pull(alloc, place).is_ok()
 }
 
@@ -91,31 +91,31 @@ fn is_content(place: Pull<'_>) -> bool
 fn are_headers(alloc: Global, three: &Three<'_>) -> bool
     ensures { FitsThree three.now result }
 {
-    if is_content(three.content.item) {
-        if is_protected(alloc, three.protected.item) {
-            return is_unprotected(alloc, three.unprotected.item);
+    if is_content(three.content) {
+        if is_protected(alloc, three.protected) {
+            return is_unprotected(alloc, three.unprotected);
         }
     }
     false
 }
 
 /// Returns true if no elements are left.
-fn is_end(elements: Elements<'_>) -> bool
-    ensures { FitsElements end (elements_left elements.entry) result }
+fn is_end(elements: Items<'_>) -> bool
+    ensures { FitsElements end (items_left elements.entry) result }
 {
-    match next_located(elements) {
+    match next_of(elements) {
         Some(_) => false,
         None => true,
     }
 }
 
 /// Returns true if a single byte string is left.
-fn is_one_string(elements: Elements<'_>) -> bool
-    ensures { FitsElements (bstr then end) (elements_left elements.entry) result }
+fn is_one_string(elements: Items<'_>) -> bool
+    ensures { FitsElements (bstr then end) (items_left elements.entry) result }
 {
-    match next_located(elements) {
+    match next_of(elements) {
         Some((first, behind)) => {
-            if is_string(first.item) {
+            if is_string(first) {
                 return is_end(behind);
             }
             false
@@ -124,80 +124,52 @@ fn is_one_string(elements: Elements<'_>) -> bool
     }
 }
 
-/// Returns the first three elements of an array of two headers, a content, and a signature or a
-/// tag.
-fn with_proof<'a>(
-    alloc: Global,
-    form: Form,
-    item: Located<'a>,
-    is_tagged: bool,
-) -> Option<Three<'a>>
-    ensures fits { (n : ℕ) (v : Item) → located_item item.entry ≡ untagged n v
-        → is_tagged ≡ is_under n v
-        → IfSome result (λ t. FitsForm form n (or_nil bstr then bstr then end) v
-        (located_item item.entry)) }
-    ensures elements { IfSome result (IsThree (located_item item.entry)) }
-    ensures place { (b : List ℕ) → IsLocated b item.entry → IfSome result (AreThreeIn b) }
+/// Returns true if the item is an array of two headers, a content, and a signature or a tag, and
+/// the form allows it.
+fn with_proof(alloc: Global, form: Form, item: Pull<'_>, is_tagged: bool) -> bool
+    ensures { FitsForm form is_tagged (with_headers (or_nil bstr then bstr then end))
+        (pull_item item.entry) result }
 {
-    if !is_in_form(form, is_tagged) {
-        return None;
-    }
-    let three = three_of(item)?;
-    if is_one_string(three.behind) {
-        if are_headers(alloc, &three) {
-            return Some(three);
+    let Some(three) = three_of(item) else {
+        return false;
+    };
+    if is_in_form(form, is_tagged) {
+        if is_one_string(three.behind) {
+            return are_headers(alloc, &three);
         }
     }
-    None
+    false
 }
 
-/// Returns the first three elements of an array of two headers and a content.
-fn without_proof<'a>(
-    alloc: Global,
-    form: Form,
-    item: Located<'a>,
-    is_tagged: bool,
-) -> Option<Three<'a>>
-    ensures fits { (n : ℕ) (v : Item) → located_item item.entry ≡ untagged n v
-        → is_tagged ≡ is_under n v
-        → IfSome result (λ t. FitsForm form n (or_nil bstr then end) v
-        (located_item item.entry)) }
-    ensures elements { IfSome result (IsThree (located_item item.entry)) }
-    ensures place { (b : List ℕ) → IsLocated b item.entry → IfSome result (AreThreeIn b) }
+/// Returns true if the item is an array of two headers and a content, and the form allows it.
+fn without_proof(alloc: Global, form: Form, item: Pull<'_>, is_tagged: bool) -> bool
+    ensures { FitsForm form is_tagged (with_headers (or_nil bstr then end))
+        (pull_item item.entry) result }
 {
-    if !is_in_form(form, is_tagged) {
-        return None;
-    }
-    let three = three_of(item)?;
-    if is_end(three.behind) {
-        if are_headers(alloc, &three) {
-            return Some(three);
+    let Some(three) = three_of(item) else {
+        return false;
+    };
+    if is_in_form(form, is_tagged) {
+        if is_end(three.behind) {
+            return are_headers(alloc, &three);
         }
     }
-    None
+    false
 }
 
-/// Returns the first three elements of a message, if the item is found to be one of this kind.
+/// Returns true if the item is found to be a message of this kind.
 ///
 /// The messages found here are `COSE_Sign1`, `COSE_Mac0` and `COSE_Encrypt0`. `item` is without the
-/// message's tag, and `is_tagged` says whether the message had it. Headers that aren't plain are
-/// decoded, and the content isn't copied. If the result is `None`, the item may be a message all
-/// the same.
-pub(crate) fn fits<'a>(
-    alloc: Global,
-    kind: Kind,
-    item: Located<'a>,
-    is_tagged: bool,
-) -> Option<Three<'a>>
-    ensures fits { (v : Item) → located_item item.entry ≡ without_tag (tag_of kind) v
-        → is_tagged ≡ is_under_some (tag_of kind) v → IfSome result (λ t. FitsKind kind v) }
-    ensures elements { IfSome result (IsThree (located_item item.entry)) }
-    ensures place { (b : List ℕ) → IsLocated b item.entry → IfSome result (AreThreeIn b) }
+/// message's tag, and `is_tagged` says whether the message had it. The headers are decoded, and the
+/// content isn't copied. If the result is false, the item may be a message all the same.
+pub(crate) fn fits(alloc: Global, kind: Kind, item: Pull<'_>, is_tagged: bool) -> bool
+    ensures { (v : Item) → pull_item item.entry ≡ without_tag (tag_of kind) v
+        → is_tagged ≡ is_under_some (tag_of kind) v → IsTrue result → FitsKind kind v }
 {
     match kind {
         Kind::Sign1(form) => with_proof(alloc, form, item, is_tagged),
         Kind::Mac0(form) => with_proof(alloc, form, item, is_tagged),
         Kind::Encrypt0(form) => without_proof(alloc, form, item, is_tagged),
-        _ => None,
+        _ => false,
     }
 }

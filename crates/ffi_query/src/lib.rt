@@ -27,14 +27,12 @@ mod kind;
 mod label;
 mod located;
 mod message;
-mod named;
 mod pair;
 mod part;
 mod refusal;
 mod seen;
 mod spans;
 mod structure;
-mod three;
 mod view;
 mod written;
 

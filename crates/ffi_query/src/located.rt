@@ -3,15 +3,14 @@
 
 ghost use Rattle.std.specs.Ordering.{int_eq};
 ghost use Rattle.std.specs.Prelude.{◌≡◌, ⊤, List, ℕ, Bool, IfSome, MatchOption, drop, false, option_map, true, Some};
-ghost use Rattle.coset.specs.Elements.{items_bytes, items_left, pairs_bytes, pairs_left};
-ghost use Rattle.coset.specs.Item.{item, no_items};
+ghost use Rattle.coset.specs.Item.{item};
 ghost use Rattle.coset.specs.LabelData.{number};
 ghost use Rattle.coset.specs.Parts.{as_array, as_bytes, as_map};
 ghost use Rattle.coset.specs.Pulls.{pull_bytes, pull_item};
 ghost use Rattle.ffi_query.specs.Kinds.{is_under, is_under_some, without_tag};
 ghost use Rattle.coset_seen.specs.Named.{first_value, is_same};
 ghost use Rattle.ffi_query.specs.Labels.{IsNumber, is_label, value_under};
-ghost use Rattle.ffi_query.specs.Located.{AreElementsIn, AreEntriesIn, AreLocated, IsContentOf, IsLocated, IsNoContent, IsNoString, IsTextIn, elements_left, entries_left, head_len, located_item, opens_chunks};
+ghost use Rattle.ffi_query.specs.Located.{AreElementsIn, AreEntriesIn, IsContentOf, IsLocated, IsNoContent, IsNoString, IsTextIn, elements_left, entries_left, head_len, located_item, opens_chunks};
 ghost use Rattle.ffi_query.specs.Pairs.{nth_pair, pair_in};
 ghost use Rattle.ffi_query.specs.Places.{array_in, element, member_at, members, nth, string_in};
 ghost use Rattle.ffi_query.specs.Results.{Finds};
@@ -118,25 +117,6 @@ pub(crate) fn elements_located(array: Located<'_>) -> Option<Elements<'_>>
         Some(members) => {
             let rest = after(array.rest, head_len(array.item.slice()));
             Some(Elements { members, rest })
-        }
-        None => None,
-    }
-}
-
-/// Returns the first of the remaining elements, and the elements after it.
-pub(crate) fn next_located(elements: Elements<'_>) -> Option<(Located<'_>, Elements<'_>)>
-    ensures element { MatchOption result (elements_left elements.entry ≡ no_items)
-        (λ x. elements_left elements.entry ≡ item (located_item x.0) (elements_left x.1)) }
-    ensures place { (b : List ℕ) → AreElementsIn b elements.entry
-        → IfSome result (λ x. IsLocated b x.0 × AreElementsIn b x.1) }
-{
-    let Elements { members, rest } = elements;
-    let mut members = members;
-    match members.next() {
-        Some(member) => {
-            let found = Located { item: member, rest };
-            let rest = after(rest, member.slice().len());
-            Some((found, Elements { members, rest }))
         }
         None => None,
     }

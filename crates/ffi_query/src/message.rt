@@ -7,8 +7,8 @@ ghost use Rattle.ffi_query.specs.Results.{ReturnsWith, PutsTexts};
 ghost use Rattle.ffi_query.specs.Borrowed.{borrowed_text};
 ghost use Rattle.ffi_query.specs.View.{HasNoView, IsMessageView};
 
-use crate::borrowed::{Borrowed, borrowed_plain, find_borrowed};
-use crate::found::find_item;
+use crate::borrowed::{Borrowed, find_borrowed};
+use crate::found::find_decoded;
 use crate::kind::Kind;
 use crate::refusal::Refusal;
 use crate::view::{MessageView, view_of};
@@ -104,18 +104,13 @@ pub fn message_view(
         (IsMessageView kind index external_aad.now d known.now bytes.now)
         (HasNoView kind index external_aad.now d known.now) out.old out.new result }
 {
-    match borrowed_plain(alloc, kind, bytes, external_aad, detached) {
+    match find_borrowed(alloc, kind, bytes, external_aad, detached) {
         Ok(Some(lent)) => return put_view(&lent, out),
         Ok(None) => {}
         Err(error) => return Err(Refusal::Cose(error)),
     }
-    let found = match find_item(alloc, kind, bytes) {
-        Ok(found) => found,
-        Err(error) => return Err(Refusal::Cose(error)),
-    };
-    match find_borrowed(alloc, kind, &found, external_aad, detached) {
-        Ok(Some(lent)) => put_view(&lent, out),
-        Ok(None) => view_of(
+    match find_decoded(alloc, kind, bytes) {
+        Ok(found) => view_of(
             alloc,
             kind,
             &found,

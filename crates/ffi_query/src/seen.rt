@@ -1,22 +1,23 @@
-//! Messages with plain headers, found in one walk and without allocating (`coset_seen`).
+//! Messages without a list of signatures, found in one walk (`coset_seen`).
 
 ghost use Rattle.std.specs.Option.{option_copied};
-ghost use Rattle.std.specs.Prelude.{◌≡◌, [], IfSome};
+ghost use Rattle.std.specs.Prelude.{◌≡◌, [], IfSome, IsTrue, true};
 ghost use Rattle.ffi_query.specs.Borrowed.{AreTexts};
+ghost use Rattle.ffi_query.specs.Kinds.{IsOf};
 ghost use Rattle.ffi_query.specs.Located.{IsTextIn};
 ghost use Rattle.ffi_query.specs.declared.kind.Kind.{Kind};
-ghost use Rattle.ffi_query.specs.Seen.{IsSeenOf, algorithm_of, both_given, key_id_bytes, key_id_place, kind_in, or_nothing, seen_item, signed_of};
+ghost use Rattle.ffi_query.specs.Seen.{IsAllowed, IsLaidOf, IsSeenOf, algorithm_of, both_given, key_id_bytes, key_id_place, kind_in, or_nothing, seen_item, signed_of};
 ghost use Rattle.coset_seen.specs.Seen.{IsPart, bytes_of};
 
 use crate::borrowed::{KeyId, Texts};
-use crate::fits::is_in_form;
-use crate::kind::{Form, Kind};
+use crate::kind::{Form, Kind, check_by_decoding};
 use crate::located::{Text, after};
 use crate::view::{Algorithm, KeyIdPlace};
 use coset::laws::one_item;
-use coset_seen::{Part, Seen, see};
+use coset_seen::{Layout, Part, layout_of};
+use std::alloc::Global;
 
-/// Returns the kind of a message without recipients and without a list of signatures, and its form.
+/// Returns the kind of a message without a list of signatures, and its form.
 fn kind_in(kind: Kind) -> Option<(coset_seen::Kind, Form)>
     ensures { result ≡ kind_in kind }
 {
@@ -24,20 +25,76 @@ fn kind_in(kind: Kind) -> Option<(coset_seen::Kind, Form)>
         Kind::Sign1(form) => Some((coset_seen::Kind::Sign1, form)),
         Kind::Mac0(form) => Some((coset_seen::Kind::Mac0, form)),
         Kind::Encrypt0(form) => Some((coset_seen::Kind::Encrypt0, form)),
+        Kind::Mac(form) => Some((coset_seen::Kind::Mac, form)),
+        Kind::Encrypt(form) => Some((coset_seen::Kind::Encrypt, form)),
         _ => None,
     }
 }
 
-/// Returns the message of this kind that the bytes encode, if both its headers are plain.
-pub(crate) fn seen_of(kind: Kind, bytes: &[u8]) -> Option<Seen<'_>>
-    ensures { IfSome result (IsSeenOf kind bytes.now) }
+/// Returns true if the form allows a message that is or isn't under its tag, as `is_tagged` says.
+#[inline(always)]
+pub(crate) fn is_in_form(form: Form, is_tagged: bool) -> bool
+    ensures { result ≡ true → IsAllowed form is_tagged }
+{
+    match form {
+        Form::Plain => !is_tagged,
+        Form::Tagged => is_tagged,
+        Form::Either => true,
+    }
+}
+
+/// Returns the message of this kind that the bytes may encode. Its headers and its recipients may
+/// be invalid.
+#[inline(always)]
+pub(crate) fn laid_of(kind: Kind, bytes: &[u8]) -> Option<Layout<'_>>
+    ensures { IfSome result (IsLaidOf kind bytes.now) }
 {
     let (seen_kind, form) = kind_in(kind)?;
-    let seen = see(seen_kind, bytes)?;
-    if !is_in_form(form, seen.is_tagged) {
+    let layout = layout_of(seen_kind, bytes)?;
+    if !is_in_form(form, layout.seen.is_tagged) {
         return None;
     }
-    Some(seen)
+    Some(layout)
+}
+
+/// Returns true if the bytes are a message of this kind, without a list of signatures or
+/// recipients, and its strings have definite lengths. Only headers that aren't plain are decoded.
+pub(crate) fn is_message(alloc: Global, kind: Kind, bytes: &[u8]) -> bool
+    ensures { IsTrue result → IsOf kind bytes.now }
+{
+    match kind {
+        Kind::Mac(_) | Kind::Encrypt(_) => return false,
+        _ => {}
+    }
+    match laid_of(kind, bytes) {
+        Some(layout) => layout.is_valid(alloc),
+        None => false,
+    }
+}
+
+/// Returns true if the bytes can be decoded as this kind.
+fn is_decoded(alloc: Global, kind: Kind, bytes: &[u8]) -> bool
+    ensures { IsTrue result → IsOf kind bytes.now }
+{
+    match check_by_decoding(alloc, kind, bytes) {
+        Ok(_) => true,
+        Err(_) => false,
+    }
+}
+
+/// Returns true if the laid out message is valid and has no `crit`. A message with recipients is
+/// decoded.
+pub(crate) fn can_borrow(alloc: Global, kind: Kind, layout: &Layout<'_>, bytes: &[u8]) -> bool
+    ensures { IsLaidOf kind bytes.now layout.now → IsTrue result
+        → IsSeenOf kind bytes.now layout.now }
+{
+    if layout.is_critical {
+        return false;
+    }
+    match kind {
+        Kind::Mac(_) | Kind::Encrypt(_) => is_decoded(alloc, kind, bytes),
+        _ => layout.is_valid(alloc),
+    }
 }
 
 /// Returns the part as a text of the input.
@@ -51,13 +108,18 @@ fn text_of<'a>(part: Part<'a>, input: &'a [u8]) -> Text<'a>
     }
 }
 
-/// Returns the algorithm of this number, or `Absent` if there is none.
-fn algorithm_of(number: Option<i64>) -> Algorithm
-    ensures { result ≡ algorithm_of number }
+/// Returns the algorithm of this number. If there is none, it is a text or absent.
+fn algorithm_of(number: Option<i64>, has_text: bool) -> Algorithm
+    ensures { result ≡ algorithm_of number has_text }
 {
     match number {
         Some(number) => Algorithm::Number(number),
-        None => Algorithm::Absent,
+        None => {
+            if has_text {
+                return Algorithm::Text;
+            }
+            Algorithm::Absent
+        }
     }
 }
 
@@ -129,25 +191,26 @@ pub(crate) fn has_both(found: Option<Part<'_>>, detached: Option<&[u8]>) -> bool
     }
 }
 
-/// Returns the texts of a message with plain headers.
+/// Returns the texts of a message.
+#[inline(always)]
 pub(crate) fn texts_of_seen<'a>(
-    seen: Seen<'a>,
+    layout: &Layout<'a>,
     input: &'a [u8],
     detached: Option<&'a [u8]>,
 ) -> Texts<'a>
-    ensures texts { (k : Kind) (h : IsSeenOf k input.now seen.entry)
+    ensures texts { (k : Kind) (h : IsSeenOf k input.now layout.now)
         → AreTexts k (option_copied detached.entry) input.now (seen_item h) result }
-    ensures protected { result.protected.now ≡ seen.entry.protected.bytes.now }
+    ensures protected { result.protected.now ≡ layout.now.seen.protected.bytes.now }
     ensures signed { option_copied result.signed
-        ≡ signed_of (bytes_of seen.entry.content) (option_copied detached.entry) }
+        ≡ signed_of (bytes_of layout.now.seen.content) (option_copied detached.entry) }
 {
     one_item();
     Texts {
-        protected: seen.protected.bytes,
-        algorithm: algorithm_of(seen.algorithm),
-        proof: text_of(seen.proof, input),
-        content: content_of(seen.content, input),
-        key_id: key_id_of(seen.key_id, input),
-        signed: signed_of(seen.content, detached),
+        protected: layout.seen.protected.bytes,
+        algorithm: algorithm_of(layout.seen.algorithm, layout.has_text),
+        proof: text_of(layout.seen.proof, input),
+        content: content_of(layout.seen.content, input),
+        key_id: key_id_of(layout.seen.key_id, input),
+        signed: signed_of(layout.seen.content, detached),
     }
 }

@@ -1,26 +1,26 @@
 //! Everything that verifying or decrypting a message takes. The message's own texts are given by
 //! their places in the input, or are copied if they can't be borrowed.
 
-ghost use Rattle.std.specs.Prelude.{◌≡◌, ◌<◌, ◌+◌, ◌^◌, ◌++◌, ℕ, ℤ, List, Option, MatchOption, length, true};
+ghost use Rattle.std.specs.Prelude.{◌≡◌, ◌<◌, ◌+◌, ◌^◌, ℕ, ℤ, List, Option, MatchOption, true};
 ghost use Rattle.std.specs.Option.{option_copied};
-ghost use Rattle.ffi_query.specs.Results.{ReturnsWith, PutsTexts};
+ghost use Rattle.coset_seen.specs.Seen.{bytes_of};
+ghost use Rattle.ffi_query.specs.Results.{ReturnsWith};
 ghost use Rattle.ffi_query.specs.Located.{IsTextIn};
-ghost use Rattle.ffi_query.specs.Spans.{AreBorrowedSpans, AreUnsizedSpans, IsAt, IsMessageSpans, copied, copied_spans, refusal_of, with_structure, written_at};
+ghost use Rattle.ffi_query.specs.Spans.{AreUnsizedSpans, HasStructureOf, IsAt, IsMessageSpans, copied, copied_spans, is_encrypted, refusal_of, with_structure, written_at};
 ghost use Rattle.ffi_query.specs.declared.spans.MessageSpans.{MessageSpans};
 ghost use Rattle.ffi_query.specs.View.{HasNoView};
 
-use crate::borrowed::{Borrowed, Texts, find_borrowed, sum_of};
+use crate::borrowed::{Texts, sum_of};
 use crate::elements::text_span;
-use crate::found::find_item;
+use crate::found::find_decoded;
 use crate::kind::Kind;
 use crate::located::Text;
 use crate::refusal::Refusal;
-use crate::seen::{has_both, seen_of, texts_of_seen};
+use crate::seen::{can_borrow, has_both, laid_of, texts_of_seen};
 use crate::view::{MessageView, view_of};
-use crate::written::put_texts;
 use coset::CoseError;
 use coset::laws::one_item;
-use coset_seen::StructureError;
+use coset_seen::{Part, StructureError};
 use std::alloc::Global;
 
 /// The place where a text begins.
@@ -56,51 +56,6 @@ fn start_of(text: Text<'_>, input: &[u8]) -> Start
     Start {
         is_input: true,
         at: text_span(text, input).at,
-    }
-}
-
-/// Writes a structure to the front of `out`, and returns its length. The structure is in two parts.
-///
-/// # Errors
-/// - `Short` with the length needed, if `out` is too small.
-/// - `Cose` with `OutOfMemory` if the length doesn't fit in a `usize`.
-///
-/// `out` is then unchanged.
-fn put_structure(front: &[u8], end: &[u8], out: &mut [u8]) -> Result<usize, Refusal>
-    ensures { let t = front.now ++ end.now in PutsTexts (length t) t out.old out.new result }
-{
-    put_texts(&[front, end], out)
-}
-
-/// Returns the places of texts that are in the input.
-fn borrowed_spans(lent: &Borrowed<'_>, input: &[u8]) -> MessageSpans
-    ensures { AreBorrowedSpans input.now lent.now result }
-{
-    MessageSpans {
-        view: lent.view,
-        proof: start_of(lent.proof, input),
-        content: start_of(lent.content, input),
-        key_id: start_of(lent.key_id, input),
-        len: lent.view.structure_len,
-    }
-}
-
-/// Writes the structure to the front of `out`, and returns the places of the other texts in the
-/// input.
-///
-/// # Errors
-/// - `Short` with the length needed, if `out` is too small.
-/// - `Cose` with `OutOfMemory` if the length doesn't fit in a `usize`.
-///
-/// `out` is then unchanged.
-fn put_borrowed(lent: &Borrowed<'_>, input: &[u8], out: &mut [u8]) -> Result<MessageSpans, Refusal>
-    ensures { (m : MessageSpans) × AreBorrowedSpans input.now lent.now m × PutsTexts m
-        (lent.now.structure.front.items ++ lent.now.structure.end.now) out.old out.new result }
-{
-    let spans = borrowed_spans(lent, input);
-    match put_structure(&lent.structure.front, lent.structure.end, out) {
-        Ok(_) => Ok(spans),
-        Err(refusal) => Err(refusal),
     }
 }
 
@@ -157,12 +112,44 @@ fn refusal_of(error: StructureError) -> Option<Refusal>
     }
 }
 
-/// Writes the structure of a message with plain headers to the front of `out`, and returns the
-/// places of the message's other texts. Allocates nothing.
+/// Returns true if items of the kind are encrypted messages. Their structure is without the
+/// content.
+fn is_encrypted(kind: Kind) -> bool
+    ensures { result ≡ is_encrypted kind }
+{
+    match kind {
+        Kind::Encrypt0(_) | Kind::Encrypt(_) => true,
+        _ => false,
+    }
+}
+
+/// Returns `detached`, or an empty content for an encrypted message that has none.
+fn given_content<'a>(
+    kind: Kind,
+    content: Option<Part<'_>>,
+    detached: Option<&'a [u8]>,
+) -> Option<&'a [u8]>
+    ensures { HasStructureOf kind (bytes_of content.entry) (option_copied result)
+        (option_copied detached.entry) }
+{
+    match (content, detached) {
+        (None, None) => {
+            if is_encrypted(kind) {
+                return Some(&[]);
+            }
+            None
+        }
+        _ => detached,
+    }
+}
+
+/// Writes the structure of a message to the front of `out`, and returns the places of the message's
+/// other texts in the input.
 ///
 /// `None` says nothing; `out` is then unchanged. It is returned if the message isn't found in one
 /// walk, if it has no content, or if the content is given twice.
-fn plain_spans<'a>(
+fn borrowed_spans<'a>(
+    alloc: Global,
     kind: Kind,
     bytes: &'a [u8],
     external_aad: &[u8],
@@ -175,16 +162,20 @@ fn plain_spans<'a>(
         (HasNoView kind i external_aad.now d ns) out.old out.new) }
 {
     one_item();
-    let seen = seen_of(kind, bytes)?;
-    if has_both(seen.content, detached) {
+    let layout = laid_of(kind, bytes)?;
+    if !can_borrow(alloc, kind, &layout, bytes) {
         return None;
     }
-    let texts = texts_of_seen(seen, bytes, detached);
+    if has_both(layout.seen.content, detached) {
+        return None;
+    }
+    let texts = texts_of_seen(&layout, bytes, detached);
     let (proof_len, content_len) = (texts.proof.bytes.len(), texts.content.bytes.len());
     let len = sum_of(0, proof_len, content_len, texts.key_id.text.bytes.len())?;
     len.checked_add(out.len())?;
-    let spans = unsized_spans(&texts, seen.is_tagged, len, bytes);
-    match seen.put_structure(external_aad, detached, out) {
+    let spans = unsized_spans(&texts, layout.seen.is_tagged, len, bytes);
+    let given = given_content(kind, layout.seen.content, detached);
+    match layout.seen.put_structure(external_aad, given, out) {
         Ok(structure_len) => Some(Ok(with_structure(spans, structure_len))),
         Err(error) => {
             let refusal = refusal_of(error)?;
@@ -227,8 +218,8 @@ fn copied(answer: Result<MessageView, Refusal>) -> Result<MessageSpans, Refusal>
     }
 }
 
-/// Returns the same as [`message_spans`], by walks over the message's items.
-fn any_spans(
+/// Returns the same as [`message_spans`], with copies of the texts after the structure.
+fn copied_texts(
     alloc: Global,
     kind: Kind,
     bytes: &[u8],
@@ -243,24 +234,20 @@ fn any_spans(
         (IsMessageSpans kind index external_aad.now d known.now bytes.now)
         (HasNoView kind index external_aad.now d known.now) out.old out.new result }
 {
-    let found = match find_item(alloc, kind, bytes) {
+    let found = match find_decoded(alloc, kind, bytes) {
         Ok(found) => found,
         Err(error) => return Err(Refusal::Cose(error)),
     };
-    match find_borrowed(alloc, kind, &found, external_aad, detached) {
-        Ok(Some(lent)) => put_borrowed(&lent, bytes, out),
-        Ok(None) => copied(view_of(
-            alloc,
-            kind,
-            &found,
-            index,
-            external_aad,
-            detached,
-            known,
-            out,
-        )),
-        Err(error) => Err(Refusal::Cose(error)),
-    }
+    copied(view_of(
+        alloc,
+        kind,
+        &found,
+        index,
+        external_aad,
+        detached,
+        known,
+        out,
+    ))
 }
 
 /// Writes a message's structure to the front of `out`, and returns the places of the message's
@@ -291,10 +278,10 @@ pub fn message_spans(
         (IsMessageSpans kind index external_aad.now d known.now bytes.now)
         (HasNoView kind index external_aad.now d known.now) out.old out.new result }
 {
-    if let Some(answer) = plain_spans(kind, bytes, external_aad, detached, out) {
+    if let Some(answer) = borrowed_spans(alloc, kind, bytes, external_aad, detached, out) {
         return answer;
     }
-    any_spans(
+    copied_texts(
         alloc,
         kind,
         bytes,

@@ -1,9 +1,11 @@
 //! `test_seen` reads calls from standard input, one a line, and writes what each returns.
 //!
-//! KIND is `sign1`, `mac0` or `encrypt0`. Bytes are in hexadecimal, and `-` means no bytes. These
-//! are the calls:
+//! KIND is `sign1`, `mac0`, `encrypt0`, `mac` or `encrypt`. Bytes are in hexadecimal, and `-` means
+//! no bytes. These are the calls:
 //!
 //! - `see KIND BYTES`: the fields of the message, or `none`. A part is `OFFSET:BYTES`.
+//! - `lay KIND BYTES`: the fields of the message that is laid out, or `none`. Then whether the
+//!   algorithm is a text, whether a header has `crit`, and whether the headers are valid.
 //! - `agree KIND BYTES`: `agrees` if the decoded message has the same fields. Otherwise `differs`
 //!   and the field, or `none` if the message isn't seen.
 //! - `put KIND BYTES AAD DETACHED SIZE`: the structure, in memory of that many bytes `ee`.
@@ -34,6 +36,7 @@ impl Calls for SeenCalls {
     fn of_no_type(alloc: Global, name: &str, words: &Words<'_>) -> Result<String> {
         match name {
             "see" => seen::fields(alloc, words),
+            "lay" => seen::layout(alloc, words),
             "header" => seen::header(alloc, words),
             "agree" => owned::agreement(alloc, words),
             "facade" => owned::structure(alloc, words),

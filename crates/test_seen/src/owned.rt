@@ -1,6 +1,6 @@
 //! Decoded messages, beside those that are seen, and their structures.
 
-use crate::seen::kind;
+use crate::seen::{kind, unseen};
 use coset::iana::EnumI64;
 use coset::{
     Algorithm, CborSerializable, CoseEncrypt0, CoseMac0, CoseSign1, Header, ProtectedHeader,
@@ -131,6 +131,7 @@ fn compared(alloc: Global, input: &[u8], seen: Seen<'_>) -> Result<&'static str>
             };
             Ok(told(input, seen, fields))
         }
+        Kind::Mac | Kind::Encrypt => Err(unseen()),
     }
 }
 
@@ -183,5 +184,6 @@ pub fn structure(alloc: Global, words: &Words<'_>) -> Result<String> {
             mark::end(alloc);
             bytes(alloc, answer)
         }
+        Kind::Mac | Kind::Encrypt => Err(unseen()),
     }
 }

@@ -1,7 +1,7 @@
 //! Messages and headers that are seen, as text.
 
 use coset::{CoseError, Result};
-use coset_seen::{KeyId, Kind, Part, Seen, is_plain_header, see};
+use coset_seen::{KeyId, Kind, Part, Seen, is_plain_header, layout_of, see};
 use std::alloc::Global;
 use test_lines::mark;
 use test_lines::tell::hexadecimal;
@@ -16,6 +16,8 @@ pub fn kind(name: &str) -> Result<Kind> {
         "sign1" => Ok(Kind::Sign1),
         "mac0" => Ok(Kind::Mac0),
         "encrypt0" => Ok(Kind::Encrypt0),
+        "mac" => Ok(Kind::Mac),
+        "encrypt" => Ok(Kind::Encrypt),
         _ => Err(CoseError::UnexpectedItem("word", "kind")),
     }
 }
@@ -31,6 +33,8 @@ fn name(kind: Kind) -> &'static str {
         Kind::Sign1 => "sign1",
         Kind::Mac0 => "mac0",
         Kind::Encrypt0 => "encrypt0",
+        Kind::Mac => "mac",
+        Kind::Encrypt => "encrypt",
     }
 }
 
@@ -99,6 +103,25 @@ pub fn fields(alloc: Global, words: &Words<'_>) -> Result<String> {
         Some(seen) => told(alloc, seen),
         None => Ok(String::from_str(alloc, "none")?),
     }
+}
+
+/// Returns the fields of the message that is laid out, and what its headers are.
+///
+/// # Errors
+/// The errors of [`fields`].
+pub fn layout(alloc: Global, words: &Words<'_>) -> Result<String> {
+    let kind = kind(words.word(1))?;
+    let bytes = words.bytes(alloc, 2)?;
+    mark::begin(alloc);
+    let answer = layout_of(kind, &bytes);
+    mark::end(alloc);
+    let Some(layout) = answer else {
+        return Ok(String::from_str(alloc, "none")?);
+    };
+    let told = told(alloc, layout.seen)?;
+    let (text, critical) = (layout.has_text, layout.is_critical);
+    let valid = layout.is_valid(alloc);
+    Ok(format!(in alloc; "{told} text {text} crit {critical} valid {valid}")?)
 }
 
 /// Returns whether the header is plain.

@@ -1,15 +1,15 @@
-use Rattle.std.proofs.Common.{refl}
+use Rattle.std.proofs.Common.{◌∙◌, sym}
 use Rattle.coset_seen.proofs.Found.{lies_in, seen_is}
 use Rattle.coset_seen.proofs.message.see.Goals as goal
 
 pub returns-clause-describes : goal.returns-clause-describes
 returns-clause-describes c =
-    let e = c.in_ok-is_tagged.elements in
-    seen_is c.args.kind c.args.input.now e _ c.in_ok-is_tagged.ensures refl refl (c.part_of-protected.ensures.bytes, c.part_of-protected.ensures.part)
-    c.key_id_of.ensures c.content_of.ensures (c.part_of.ensures.bytes, c.part_of.ensures.part)
+    let e = c.in_ok-is_tagged in
+    seen_is c.args.kind c.args.input.now e.is_tagged e.elements c.taken_from.result e.ensures c.taken_from.ensures
+    (sym c.has_recipients.ensures ∙ c.if-has_recipients.false) c.if-not-elements.false
 
 pub returns-clause-lies : goal.returns-clause-lies
 returns-clause-lies c =
-    let e = c.in_ok-is_tagged.elements in
-    lies_in c.args.kind c.args.input.now e _ c.in_ok-is_tagged.ensures refl c.part_of-protected.ensures.bytes c.key_id_of.ensures c.content_of.ensures
-    c.part_of.ensures.bytes
+    let e = c.in_ok-is_tagged in
+    lies_in c.args.kind c.args.input.now e.is_tagged e.elements c.taken_from.result e.ensures c.taken_from.ensures
+    (sym c.has_recipients.ensures ∙ c.if-has_recipients.false) c.if-not-elements.false

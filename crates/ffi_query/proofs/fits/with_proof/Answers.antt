@@ -1,12 +1,12 @@
-use Rattle.coset.specs.Shape.{◌then◌, bstr, end, or_nil}
-use Rattle.ffi_query.specs.Located.{located_item}
-use Rattle.ffi_query.proofs.Fitting.{begins, in_form_of}
+use Rattle.coset.specs.Pulls.{pull_item}
+use Rattle.coset.specs.Shape.{◌then◌, bstr, end}
+use Rattle.ffi_query.proofs.Fitting.{begins}
 use Rattle.ffi_query.proofs.fits.with_proof.Goals as goal
 
-pub returns-then-are_headers-clause-fits : goal.returns-then-are_headers-clause-fits
-returns-then-are_headers-clause-fits c =
-    λ n v e t.
-    let w = located_item c.args.item in
-    let string = c.is_one_string.ensures c.if-is_one_string.true in
-    in_form_of (or_nil bstr then bstr then end) c.args.form n v w (c.is_in_form.ensures.form n v t c.if-not-is_in_form.false) e
-    (begins (bstr then end) w c.in_ok-three.three c.are_headers.result c.if-are_headers.true c.in_ok-three.ensures.elements c.are_headers.ensures string)
+pub returns-then-is_one_string : goal.returns-then-is_one_string
+returns-then-is_one_string c =
+    λ t. (
+      c.is_in_form.ensures c.if-is_in_form.true,
+      begins (bstr then end) (pull_item c.args.item) c.in-Some.three c.are_headers.result t c.in-Some.ensures c.are_headers.ensures
+          (c.is_one_string.ensures c.if-is_one_string.true),
+    )

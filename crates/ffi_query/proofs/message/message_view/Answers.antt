@@ -16,23 +16,8 @@ returns-in-Ok-Some c =
     lent_viewed k i aad d ns c.args.bytes.now c.args.out.now c.put_view.new.out (HasNoView k i aad d ns) c.in-Ok-Some.lent c.put_view.result lent
     c.put_view.ensures
 
-pub returns-in-Ok-Some-find_borrowed : goal.returns-in-Ok-Some-find_borrowed
-returns-in-Ok-Some-find_borrowed c =
-    let k = c.args.kind in
-    let i = c.args.index in
-    let aad = c.args.external_aad.now in
-    let d = option_copied c.args.detached in
-    let ns = c.args.known.now in
-    let lent = rw c.in-Ok-Some-find_borrowed.field-0-is at (c.in-Ok-Some-find_borrowed.ensures.lent c.args.bytes.now i ns c.in-Ok.ensures) in
-    lent_viewed k i aad d ns c.args.bytes.now c.args.out.now c.put_view-in-Ok-Some-find_borrowed.new.out (HasNoView k i aad d ns)
-    c.in-Ok-Some-find_borrowed.lent c.put_view-in-Ok-Some-find_borrowed.result lent
-    c.put_view-in-Ok-Some-find_borrowed.ensures
-
-pub returns-in-Ok-None-find_borrowed : goal.returns-in-Ok-None-find_borrowed
-returns-in-Ok-None-find_borrowed c = c.view_of.ensures c.args.bytes.now c.in-Ok.ensures
-
-pub returns-in-Err-find_borrowed : goal.returns-in-Err-find_borrowed
-returns-in-Err-find_borrowed c = (memory_refuses c.args.kind c.args.bytes.now c.in-Err-find_borrowed.error c.in-Err-find_borrowed.ensures.memory, refl)
+pub returns-in-Ok : goal.returns-in-Ok
+returns-in-Ok c = c.view_of.ensures c.args.bytes.now c.in-Ok.ensures
 
 pub returns-in-Err : goal.returns-in-Err
 returns-in-Err c = (memory_refuses c.args.kind c.args.bytes.now c.in-Err.error c.in-Err.ensures.memory, refl)

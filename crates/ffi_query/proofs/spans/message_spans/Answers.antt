@@ -6,7 +6,7 @@ use Rattle.ffi_query.specs.View.{HasNoView}
 use Rattle.ffi_query.proofs.spans.message_spans.Goals as goal
 
 pub returns-in-Some : goal.returns-in-Some
-returns-in-Some c = rw c.in-Some.is at (c.plain_spans.ensures c.args.index c.args.known.now)
+returns-in-Some c = rw c.in-Some.is at (c.borrowed_spans.ensures c.args.index c.args.known.now)
 
 pub returns : goal.returns
 returns c =
@@ -16,6 +16,6 @@ returns c =
     let aad = c.args.external_aad.now in
     let d = option_copied c.args.detached in
     let ns = c.args.known.now in
-    let same = rw c.in_default.is at (c.plain_spans.ensures i ns) in
-    subst (λ old. ReturnsWith k b (IsMessageSpans k i aad d ns b) (HasNoView k i aad d ns) old c.any_spans.new.out c.any_spans.result) same
-    c.any_spans.ensures
+    let same = rw c.in_default.is at (c.borrowed_spans.ensures i ns) in
+    subst (λ old. ReturnsWith k b (IsMessageSpans k i aad d ns b) (HasNoView k i aad d ns) old c.copied_texts.new.out c.copied_texts.result) same
+    c.copied_texts.ensures

@@ -1,8 +1,0 @@
-use Rattle.coset.specs.Pulls.{pull_item}
-use Rattle.coset_seen.proofs.Messages.{header_is}
-use Rattle.coset_seen.proofs.header.whole_header.Goals as goal
-
-pub returns : goal.returns
-returns c =
-    header_is c.one_item.ensures c.args.input.now (pull_item c.in-Ok.field-0) c.in_ok-named.named c.in_ok-named.field-0-1.now c.in-Ok.ensures.whole.0
-    c.in_ok-named.ensures
