@@ -234,8 +234,8 @@ impl About {
         Ok(())
     }
 
-    /// Takes a time of claims. The first claims with a time give the times of the summary, but those
-    /// of a payload precede those of a header. Times that anyone can add don't count.
+    /// Takes a time of claims. The first claims with a time give the times of the summary, but
+    /// those of a payload precede those of a header. Times that anyone can add don't count.
     fn see_time(&mut self, frame: &Frame, role: Role, head: &Head, now: Option<i64>) {
         if !matches!(role, Role::Expiry | Role::Start | Role::Time) {
             return;
