@@ -706,7 +706,9 @@ function asked(kind, found, algorithms, proof) {
  *
  * `ask` gets the question: `{ kind, algorithm, keyId, keyIdMap, input, proof }`, and no IV. `kind` is SIGN1, SIGN, MAC0 or
  * MAC. `ask` returns true, or a promise of true, if the proof is a signature or MAC of the input, by a key that the caller
- * trusts for that algorithm. Any other answer refuses the message. The bytes are copied before `ask` is called.
+ * trusts for that algorithm. Any other answer refuses the message. The bytes are copied before `ask` is called. It isn't
+ * called for an empty proof, which is refused. No other length of a proof is checked, so compare its length with the
+ * algorithm's before its bytes.
  *
  * `algorithms` are those that are allowed. List only algorithms for that kind: a MAC0's algorithm in a SIGN1's list would be
  * accepted. `critical` are the critical labels that the caller understands, and acts on. Those of a MAC's recipients aren't
@@ -720,7 +722,8 @@ export async function verify(kind, data, options, ask) {
   if (![SIGN1, SIGN, MAC0, MAC].includes(number(kind) & 0xff)) throw new Misuse("a kind without a signature or a tag");
   if (typeof ask !== "function") throw new Misuse("the verifier is a function");
   const found = message(kind, data, rest), payload = rest.detached ?? found.content;
-  if (await ask(Object.freeze(asked(kind, found, algorithms, found.proof))) !== true) throw new Refused(Status.REFUSED);
+  const question = Object.freeze(asked(kind, found, algorithms, found.proof));
+  if (!found.proof.length || await ask(question) !== true) throw new Refused(Status.REFUSED);
   return payload;
 }
 
@@ -904,7 +907,8 @@ function policy(options) {
  * `keys` is a KeyRing, or a function that is called with each layer:
  * `{ form, algorithm, keyId, keyIdMap, input, proof, iv, partialIv, index }`. It returns true if a key that fits verifies
  * the signature or the MAC. For an ENCRYPT0 it returns the plaintext, as bytes. Null, undefined or false refuses the token.
- * The answer may be an array of one of these and the name of the key's issuer. It may be a promise of any of these.
+ * The answer may be an array of one of these and the name of the key's issuer. It may be a promise of any of these. The
+ * function isn't called for an empty signature or MAC, which is refused.
  *
  * The options are those of the policy in docs/C.md, and `now`, in seconds since 1970 began in UTC. If `now` is null, it is
  * the clock's time. The token must be valid at the whole seconds before and after it. */
@@ -917,7 +921,8 @@ export async function verifyToken(data, keys, options) {
     const [status, text] = writing("token_open", [...words, input, times[0], opened(layers), known], [place]);
     const view = readStruct(LAYER, place);
     if (status === Status.LAYER) {
-      const said = answered(view, await ask(waiting(view, text)));
+      const isEmpty = view.form !== ENCRYPT0 && !view.proof_len;
+      const said = answered(view, isEmpty ? null : await ask(waiting(view, text)));
       const [entry, more] = handed(view, text, ...said, known.length);
       layers.push(entry);
       known = joined([known, more]);
