@@ -233,7 +233,8 @@ def from_wrapper(name, command, calls, check, **more):
 
 
 def texts(is_quick, callers, check):
-    """Checks that the version and the texts of statuses are the same in all languages. Unknown statuses share one more text.
+    """Checks that the version and the texts of statuses are the same in all languages. Unknown statuses share one more text. Returns
+    the texts.
 
     `callers` are the programs' commands, each with the arguments of its run."""
     lines = [f"text {status}" for status in range(-1, len(NAMES) + 1)]
@@ -242,3 +243,4 @@ def texts(is_quick, callers, check):
     check(all(text.startswith(f"{version}: ") for text in told[0]), f"the library's version isn't {version}: {told[0][0]}")
     check(len(set(told[0])) == len(NAMES) + 1 and told[0][0] == told[0][-1], "two statuses have one text")
     check(all(it == told[0] for it in told), "the languages tell other texts")
+    return [text.removeprefix(f"{version}: ") for text in told[0]]

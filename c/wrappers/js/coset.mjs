@@ -150,6 +150,9 @@ async function contents(at) {
 const KEPT = 64 << 20;
 const compiled = await WebAssembly.compile(await contents(new URL("coset.wasm", import.meta.url)));
 let instance = await WebAssembly.instantiate(compiled);
+// The version of this file. Structs and statuses may differ in another version's module.
+const VERSION_NUMBER = 0x00040207;
+if (versionNumber() !== VERSION_NUMBER) throw new Error(`coset.wasm is of version ${version()}, and coset.mjs of another one`);
 
 function loaded() {
   instance ??= new WebAssembly.Instance(compiled);
@@ -389,10 +392,12 @@ function flagged(content) {
   return content === null ? [0, NOTHING] : [1, bytes(content)];
 }
 
-/** Returns true for an object of no class, such as a literal. */
+/** Returns true for an object of no class, such as a literal, that inherits nothing of the caller's. Its prototype is null, or
+ * the Object.prototype of any realm. */
 function isPlain(it) {
   const proto = typeof it === "object" && it !== null ? Object.getPrototypeOf(it) : undefined;
-  return proto === null || (proto !== undefined && Object.getPrototypeOf(proto) === null);
+  if (proto === null || proto === undefined) return proto === null;
+  return Object.getPrototypeOf(proto) === null && Object.hasOwn(proto, "isPrototypeOf");
 }
 
 /** Returns the options, with defaults for those that aren't given. Nothing is taken from a class or a prototype. An option
@@ -525,6 +530,19 @@ export function itemSpan(data, at) {
   return spans("item_span", 1, bytes(data), size(at))[0];
 }
 
+/** Returns the place of the item at the offset `at` of a longer input, as itemSpan does. Each attempt copies eight times as many
+ * bytes into the module. So a walk over all items doesn't copy the whole input for each of them. */
+function nextSpan(input, at) {
+  for (let width = 64; ; width *= 8) {
+    try {
+      const { start, end } = itemSpan(input.subarray(at, at + width), 0);
+      return Object.freeze({ start: at + start, end: at + end });
+    } catch (error) {
+      if (!(error instanceof Fault) || at + width >= input.length) throw error;
+    }
+  }
+}
+
 /** Returns the place of a string's content. The string has definite length. */
 export function stringSpan(data) {
   return spans("string_span", 1, bytes(data))[0];
@@ -585,8 +603,8 @@ export function mapSpans(kind, data) {
   }
   const found = [first];
   for (let at = first[1].end; at < input.length && input[at] !== 0xff; at = found.at(-1)[1].end) {
-    const name = itemSpan(input, at);
-    found.push([name, itemSpan(input, name.end)]);
+    const name = nextSpan(input, at);
+    found.push([name, nextSpan(input, name.end)]);
   }
   return found;
 }
@@ -772,7 +790,7 @@ function* elements(array) {
   }
   let at = memberSpan(ITEM, array, 0).start;
   for (; number > 0; number--) {
-    const { start, end } = itemSpan(array, at);
+    const { start, end } = nextSpan(array, at);
     yield array.slice(start, end);
     at = end;
   }

@@ -432,8 +432,13 @@ def _raise(status, offset=None):
 
 
 def _bytes(data):
-    """Returns the bytes of any bytes-like object, and their number."""
+    """Returns the bytes of a bytes, a bytearray or a memoryview of bytes, and their number. Other objects with a buffer, such
+    as arrays of numbers, would give the memory in which this processor keeps them."""
     if type(data) is not bytes:
+        if not isinstance(data, (bytes, bytearray, memoryview)):
+            raise TypeError(f"bytes, a bytearray or a memoryview is needed, not {type(data).__name__}")
+        if isinstance(data, memoryview) and data.format.lstrip("@=<>!") not in ("B", "b", "c"):
+            raise TypeError(f"a memoryview of bytes is needed, not of the format {data.format}")
         data = bytes(memoryview(data))
     return data, len(data)
 
@@ -541,7 +546,8 @@ def label_span(kind, data, which, name):
 
 def item_span(data, at):
     """Returns the place of the item that begins at the offset `at`, as received: a slice. The next element of an array,
-    or the next label or value of a map, begins where the item ends."""
+    or the next label or value of a map, begins where the item ends. A bytearray or a memoryview is copied in each call, so
+    a walk over many items takes bytes."""
     span = _Span()
     _raise(_library.coset_item_span(*_bytes(data), _size(at), ctypes.byref(span)))
     return _slice(span)
@@ -799,8 +805,9 @@ def decrypt(kind, data, algorithms, decrypt, critical=(), external_aad=b"", deta
     """Returns the plaintext of an ENCRYPT0, with TAGGED, EITHER or neither added.
 
     `decrypt` receives the question, whose proof is the ciphertext, with the IV and the partial IV. Their lengths aren't
-    checked: the ciphertext may be shorter than a tag. `decrypt` returns the plaintext as bytes, or None or False if the ciphertext isn't authentic by a key that the caller trusts. Any other
-    answer is a TypeError. The other arguments are those of `verify`.
+    checked: the ciphertext may be shorter than a tag. `decrypt` returns the plaintext as bytes, or None or False if the
+    ciphertext isn't authentic by a key that the caller trusts. Any other answer is a TypeError. The other arguments are
+    those of `verify`.
 
     Raises WrongHeaders if the message has both an IV and a partial IV (RFC 8152, section 3.1)."""
     if _kind(kind) & 0xFF != ENCRYPT0:
@@ -924,7 +931,7 @@ def _accepted(form, said):
     if form == ENCRYPT0:
         if not isinstance(said, (bytes, bytearray, memoryview)):
             raise TypeError("for a ciphertext the answer is its plaintext as bytes, or None")
-        return bytes(said)
+        return _bytes(said)[0]
     if said is not True:
         raise TypeError("for a signature or a MAC the answer is True, False or None")
     return True
@@ -993,7 +1000,8 @@ def verify_token(data, keys, algorithms, *, audience=(), types=(), required=(), 
     - `required` are the numbers of claims that the token must have.
     - `critical` are the critical labels that the caller understands, and acts on.
     - `leeway` is the number of seconds by which the clocks of issuer and verifier may differ.
-    - `max_age` is the age in seconds since `iat` at which a token is refused. If it is None, there is no such age.
+    - `max_age` is the age in seconds since `iat`, plus `leeway`, at which a token is refused. If it is None, there is no
+      such age.
     - `untagged_form` is the form of an outermost layer without a tag.
     - `authenticated_by` says which layers authenticate the sender: 0 for a signature or a MAC, BY_SIGNATURE or BY_ANY.
     - `may_not_expire` accepts a token without `exp`, and `may_be_issued_later` one with an `iat` after `now`.
@@ -1190,7 +1198,7 @@ def _pair(name, value, parts):
         pair.value_form, (pair.value_at, pair.value_len) = TEXT, _part(value.encode(), parts)
     else:
         form = ENCODED if isinstance(value, Encoded) else BYTES
-        pair.value_form, (pair.value_at, pair.value_len) = form, _part(memoryview(value), parts)
+        pair.value_form, (pair.value_at, pair.value_len) = form, _part(_bytes(value)[0], parts)
     return pair
 
 
