@@ -45,7 +45,7 @@ def answers():
     yield ENCRYPTED, "pa1041907d0", OK
     yield ENCRYPTED, "pa1041907d0,yes", OK
     yield ENCRYPTED, "p" + SIGNED.hex() + ",=2", REFUSED
-    yield ENCRYPTED, "p" + SIGNED.hex() + ",>5", SHORT
+    yield ENCRYPTED, "p" + SIGNED.hex() + ",>5", REFUSED
 
 
 def rules():
