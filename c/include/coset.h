@@ -401,7 +401,8 @@ typedef struct coset_text {
 typedef struct coset_rules {
   size_t size;                  /* sizeof(coset_rules) */
   uint64_t leeway;              /* the seconds by which the clocks of issuer and verifier may differ, at most INT64_MAX */
-  uint64_t max_age;             /* the age in seconds since iat at which a token is refused, at most INT64_MAX; 0: none */
+  uint64_t max_age;             /* the age in seconds since iat, plus the leeway, at which a token is refused, at most
+                                   INT64_MAX; 0: none */
   uint32_t untagged_form;       /* the form of an outermost layer without a tag: 0 or COSET_SIGN1, COSET_MAC0,
                                    COSET_ENCRYPT0 */
   uint32_t authenticated_by;    /* 0 for a signature or a MAC, or COSET_BY_SIGNATURE, COSET_BY_ANY */
@@ -474,11 +475,12 @@ typedef struct coset_layer {
  * The arguments:
  * - algorithms are those that you allow, each in layers of its own form. The status is COSET_MISUSE if IANA hasn't
  *   assigned one of these numbers, or one of `required`.
- * - critical are the labels that you understand, besides 1 to 6, 15 and 16.
+ * - critical are the labels that you understand, besides 1 to 6, 15 and 16. A critical content type (3) is accepted
+ *   unread.
  * - required are the claims that a token must have.
  * - audiences: aud must name one of them. If there are none, a token with aud is refused.
  * - types: the protected header of the innermost layer must name one of them, typ (RFC 9596). If there are none, typ
- *   isn't looked at.
+ *   isn't looked at, also if it is critical.
  *
  * The status is COSET_MISUSE also if a number of the rules has no meaning, or if a text or the name of an opened layer's
  * issuer isn't UTF-8. Also: COSET_SHORT, COSET_ABSENT if a layer carries no payload or ciphertext, and the statuses

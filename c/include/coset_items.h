@@ -30,6 +30,7 @@ enum {
 };
 
 /* Sets *major to the major type of a COSET_ITEM. Unless the status is COSET_OK, it is 0. */
+COSET_CALL(3)
 static inline coset_status coset_major_type(const uint8_t *in, size_t in_len, uint32_t *major) {
   size_t offset;
   const coset_status status = coset_check(COSET_ITEM, in, in_len, &offset);
@@ -39,6 +40,7 @@ static inline coset_status coset_major_type(const uint8_t *in, size_t in_len, ui
 
 /* Sets *value to the simple value that a COSET_ITEM is. Unless the status is COSET_OK, it is 0. Also: COSET_TYPE if the
  * item isn't a simple value. */
+COSET_CALL(3)
 static inline coset_status coset_simple_value(const uint8_t *in, size_t in_len, uint32_t *value) {
   const coset_status status = coset_major_type(in, in_len, value);
   if (status) return status;
@@ -65,6 +67,7 @@ static inline uint64_t coset_widened(uint64_t bits, unsigned exponents, unsigned
 
 /* Sets *value to the float that a COSET_ITEM is, of 16, 32 or 64 bits. Unless the status is COSET_OK, it is 0. Also:
  * COSET_TYPE if the item isn't a float. */
+COSET_CALL(3)
 static inline coset_status coset_float_value(const uint8_t *in, size_t in_len, double *value) {
   uint32_t major;
   uint64_t bits = 0;
@@ -89,6 +92,7 @@ typedef struct coset_pair_place {
 /* Fills pairs with the places of all pairs of a map, as received and in their order, in one walk. *count is their number.
  * If there are more than cap, the status is COSET_SHORT, and pairs has the first cap of them. After any other status but
  * COSET_OK, *count is 0. Also: COSET_ABSENT if the item isn't a map. */
+COSET_CALL(6)
 static inline coset_status coset_map_spans(uint32_t kind, const uint8_t *in, size_t in_len, coset_pair_place *pairs, size_t cap,
                                            size_t *count) {
   coset_pair_place pair;

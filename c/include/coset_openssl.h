@@ -319,7 +319,7 @@ static inline int coset_openssl_decrypted(EVP_CIPHER_CTX *context, int is_ccm, c
   return done + rest == len;
 }
 
-/* Decrypts a layer by the key `k` and the nonce. Returns 1 if it is authentic, or COSET_NO_ROOM. */
+/* Decrypts a layer by the key `k` and the nonce. Returns the result of a coset_opener. */
 static inline int coset_openssl_decrypt(struct coset_openssl_bytes k, uint8_t *nonce, size_t nonce_len,
                                         const coset_layer_question *question, uint8_t *plain, size_t cap, size_t *len) {
   size_t tag;
@@ -329,7 +329,8 @@ static inline int coset_openssl_decrypt(struct coset_openssl_bytes k, uint8_t *n
   EVP_CIPHER *cipher;
   EVP_CIPHER_CTX *context;
   int is;
-  if (!name || !k.at || question->proof_len < tag || question->proof_len > INT_MAX || question->input_len > INT_MAX) return 0;
+  if (!name || !k.at || question->proof_len < tag || question->proof_len > INT_MAX || question->input_len > INT_MAX)
+    return COSET_NO;
   *len = most = question->proof_len - tag;
   if (most > cap) return COSET_NO_ROOM;
   memcpy(end, question->proof + most, tag);
@@ -345,7 +346,7 @@ static inline int coset_openssl_decrypt(struct coset_openssl_bytes k, uint8_t *n
   EVP_CIPHER_CTX_free(context);
   EVP_CIPHER_free(cipher);
   if (!is && most) OPENSSL_cleanse(plain, most);
-  return is;
+  return is ? COSET_YES : COSET_NO;
 }
 
 /* ---- A ring of keys */
@@ -360,26 +361,27 @@ static inline int coset_openssl_by_key(const uint8_t *key, size_t key_len, const
   if (coset_key_fits(key, key_len, question->form, question->algorithm, question->key_id, question->key_id_len, question->iv,
                      question->iv_len, question->partial_iv, question->partial_iv_len, question->proof, question->proof_len,
                      nonce, sizeof nonce, &nonce_len))
-    return 0;
-  if (question->form == COSET_SIGN1) return coset_openssl_signature(key, key_len, question);
-  if (question->form == COSET_MAC0) return coset_openssl_mac(key, key_len, question);
-  if (question->form != COSET_ENCRYPT0) return 0;
+    return COSET_NO;
+  if (question->form == COSET_SIGN1) return coset_openssl_signature(key, key_len, question) ? COSET_YES : COSET_NO;
+  if (question->form == COSET_MAC0) return coset_openssl_mac(key, key_len, question) ? COSET_YES : COSET_NO;
+  if (question->form != COSET_ENCRYPT0) return COSET_NO;
   k = coset_openssl_member(key, key_len, -1);
   said = coset_openssl_decrypt(k, nonce, nonce_len, question, plain, cap, len);
   OPENSSL_clear_free(k.at, k.len);
   return said;
 }
 
-/* Tries each key of a set that fits, in order. */
+/* Tries each key of a set that fits, in order. Returns the first result other than COSET_NO. */
 static inline int coset_openssl_by_set(const uint8_t *keys, size_t keys_len, const coset_layer_question *question,
                                        uint8_t *plain, size_t cap, size_t *len) {
   coset_span key;
   size_t left;
-  int said = 0;
-  if (coset_count(COSET_ITEM, keys, keys_len, &left) || coset_member_span(COSET_ITEM, keys, keys_len, 0, &key)) return 0;
+  int said;
+  if (coset_count(COSET_ITEM, keys, keys_len, &left)) return COSET_NO;
+  if (coset_member_span(COSET_ITEM, keys, keys_len, 0, &key)) return COSET_NO;
   for (;;) {
     said = coset_openssl_by_key(keys + key.at, key.len, question, plain, cap, len);
-    if (said || --left == 0 || coset_item_span(keys, keys_len, key.at + key.len, &key)) return said;
+    if (said != COSET_NO || --left == 0 || coset_item_span(keys, keys_len, key.at + key.len, &key)) return said;
   }
 }
 
@@ -391,11 +393,11 @@ static inline int coset_openssl_open(void *context, const coset_layer_question *
                                      size_t *len, coset_text *issuer) {
   const coset_openssl_ring *ring = COSET_CAST(const coset_openssl_ring *, context);
   size_t i;
-  int said = 0;
+  int said = COSET_NO;
   ERR_set_mark();
-  for (i = 0; i < ring->len && !said; i++) {
+  for (i = 0; i < ring->len && said == COSET_NO; i++) {
     said = coset_openssl_by_set(ring->issuers[i].keys, ring->issuers[i].keys_len, question, plain, cap, len);
-    if (said == 1) *issuer = ring->issuers[i].name;
+    if (said == COSET_YES) *issuer = ring->issuers[i].name;
   }
   ERR_pop_to_mark();
   return said;

@@ -9,7 +9,7 @@
  *   status = coset_put_pairs(COSET_CLAIMS, NULL, 0, &claims, out, cap, &len);
  *
  * Texts, byte strings and encodings are copied into the bytes. If a pair doesn't fit, coset_put_pairs returns
- * COSET_MISUSE, and *len is 0. */
+ * COSET_MISUSE, and *len is 0. So it does if a value of the form COSET_INT was given as bytes. */
 #ifndef COSET_PAIRS_H
 #define COSET_PAIRS_H
 
@@ -21,7 +21,7 @@ typedef struct coset_pairs {
   size_t count, room;
   uint8_t *bytes;
   size_t len, cap;
-  int is_full; /* a pair didn't fit */
+  int is_full; /* a pair didn't fit, or an integer was given as bytes */
 } coset_pairs;
 
 /* Returns an empty list, with room for this many pairs, and for this many bytes of texts, byte strings and
@@ -52,10 +52,12 @@ static inline void coset_pairs_add(coset_pairs *pairs, coset_pair pair) {
     pairs->at[pairs->count++] = pair;
 }
 
-/* Adds a pair at the end: an integer label, and a value of this form, as its bytes. */
+/* Adds a pair at the end: an integer label, and a value of this form, as its bytes. The form isn't COSET_INT, for which
+ * there is coset_pairs_int. */
 static inline void coset_pairs_value(coset_pairs *pairs, int64_t label, uint32_t form, const void *at, size_t len) {
   coset_pair pair;
   memset(&pair, 0, sizeof pair);
+  if (form == COSET_INT) pairs->is_full = 1;
   pair.label_form = COSET_INT, pair.label = label;
   pair.value_form = form, pair.value_at = coset_pairs_copy(pairs, at, len), pair.value_len = len;
   coset_pairs_add(pairs, pair);
@@ -117,17 +119,29 @@ static inline void coset_pairs_float(coset_pairs *pairs, int64_t label, double v
   coset_pairs_encoded(pairs, label, item, len);
 }
 
-/* Adds a pair with a text label, and a value of this form, as its bytes. */
+/* Adds a pair with a text label, and a value of this form, as its bytes. The form isn't COSET_INT, for which there is
+ * coset_pairs_named_int. */
 static inline void coset_pairs_named(coset_pairs *pairs, const void *label, size_t label_len, uint32_t form, const void *at,
                                      size_t len) {
   coset_pair pair;
   memset(&pair, 0, sizeof pair);
+  if (form == COSET_INT) pairs->is_full = 1;
   pair.label_form = COSET_TEXT, pair.label_at = coset_pairs_copy(pairs, label, label_len), pair.label_len = label_len;
   pair.value_form = form, pair.value_at = coset_pairs_copy(pairs, at, len), pair.value_len = len;
   coset_pairs_add(pairs, pair);
 }
 
+/* Adds a pair with a text label, and an integer. */
+static inline void coset_pairs_named_int(coset_pairs *pairs, const void *label, size_t label_len, int64_t value) {
+  coset_pair pair;
+  memset(&pair, 0, sizeof pair);
+  pair.label_form = COSET_TEXT, pair.label_at = coset_pairs_copy(pairs, label, label_len), pair.label_len = label_len;
+  pair.value_form = COSET_INT, pair.value = value;
+  coset_pairs_add(pairs, pair);
+}
+
 /* Writes the map with these pairs added, by coset_put_all. */
+COSET_CALL(4, 7)
 static inline coset_status coset_put_pairs(uint32_t kind, const uint8_t *in, size_t in_len, const coset_pairs *pairs,
                                            uint8_t *out, size_t cap, size_t *len) {
   *len = 0;
@@ -136,6 +150,7 @@ static inline coset_status coset_put_pairs(uint32_t kind, const uint8_t *in, siz
 }
 
 /* coset_put for a float, which is written in its shortest encoding. */
+COSET_CALL(8)
 static inline coset_status coset_put_float(uint32_t kind, const uint8_t *in, size_t in_len, int64_t label, double value,
                                            uint8_t *out, size_t cap, size_t *len) {
   uint8_t item[9];

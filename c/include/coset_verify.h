@@ -50,18 +50,29 @@ typedef struct coset_question {
   uint32_t partial_iv_map; /* the header that has it */
 } coset_question;
 
-/* Returns 1 if the proof is a signature or a tag of the input, by a key that the caller trusts for that algorithm. */
-typedef int (*coset_verifier)(void *context, const coset_question *question);
-
+/* The results of the caller's functions. A yes is none of the numbers that a function returns on another path: a
+ * coset_status (COSET_SHORT is 1), a truth (1), or an error code (-1). Any number that isn't listed here is a no. */
 enum {
-  COSET_NO_ROOM = -1 /* the result of a coset_decrypter or a coset_opener: `plain` is too small */
+  COSET_NO = 0,
+  COSET_YES = 0x59e5,
+  COSET_NO_ROOM = 0x2008 /* of a coset_decrypter, or of a coset_opener for COSET_ENCRYPT0: `plain` is too small */
 };
 
+/* Returns COSET_YES if the proof is a signature or a tag of the input, by a key that the caller trusts for that algorithm.
+ * Any other result counts as COSET_NO.
+ *
+ * It isn't called for an empty proof, because no algorithm has one (RFC 9053, sections 2 and 3). No other length is
+ * checked. So compare the proof's length with the algorithm's before its bytes, or call coset_key_fits. */
+typedef int (*coset_verifier)(void *context, const coset_question *question);
+
 /* Decrypts the ciphertext by such a key. Returns:
- * - 1 if it is authentic. The plaintext is then in `plain`, which has `cap` bytes, and `*len` is its length. `plain` has
- *   room for as many bytes as the ciphertext has.
+ * - COSET_YES if it is authentic. The plaintext is then in `plain`, which has `cap` bytes, and `*len` is its length.
+ *   `plain` has room for as many bytes as the ciphertext has.
  * - COSET_NO_ROOM if `cap` is too small all the same. `*len` may be the size that is needed.
- * - 0 otherwise. Any other result counts as 0. So does 1 with a length greater than `cap`, or if `*len` isn't set.
+ * - COSET_NO otherwise. Any other result counts as COSET_NO. So does COSET_YES with a length greater than `cap`, or if
+ *   `*len` isn't set.
+ *
+ * The lengths of the ciphertext and of the IVs aren't checked: the ciphertext may be shorter than a tag.
  *
  * It isn't called for a message with both an IV and a partial IV. */
 typedef int (*coset_decrypter)(void *context, const coset_question *question, uint8_t *plain, size_t cap, size_t *len);
@@ -111,7 +122,7 @@ static inline coset_question coset_asked(uint32_t kind, const coset_message_span
 
 /* Verifies a message of one of the first four kinds, and returns the status. A COSET_SIGN is verified for the signer at
  * index. For another kind, an index other than 0 is COSET_MISUSE. The critical labels of a COSET_MAC's recipients aren't
- * looked at.
+ * looked at. An empty signature or tag is COSET_REFUSED, and `verify` isn't called.
  *
  * If the status is COSET_OK, `verify` said yes, and `*payload` is the payload, of `*payload_len` bytes. It is in `out`,
  * where the signed or authenticated structure ends with it, also if it is detached. After any other status `*payload`
@@ -137,7 +148,7 @@ static inline coset_status coset_verify(uint32_t kind, const uint8_t *in, size_t
   if (status) return status;
   question = coset_asked(kind, &view, in, out);
   status = coset_permitted(&view, policy);
-  if (!status && verify(context, &question) != 1) status = COSET_REFUSED;
+  if (!status && (!question.proof_len || verify(context, &question) != COSET_YES)) status = COSET_REFUSED;
   if (status) {
     coset_cleared(out, len);
     return status;
@@ -240,7 +251,7 @@ static inline coset_status coset_decrypted(coset_decrypter decrypt, void *contex
     *len = coset_larger(at, cap - at, plain, question->proof_len);
     return COSET_SHORT;
   }
-  if (said != 1 || plain > cap - at) return COSET_REFUSED;
+  if (said != COSET_YES || plain > cap - at) return COSET_REFUSED;
   *len = plain;
   return COSET_OK;
 }
@@ -271,6 +282,7 @@ static inline coset_status coset_encrypt0_decrypt(uint32_t form, const uint8_t *
   if (status && status != COSET_SHORT) return status;
   sized = coset_lengths(kind, in, in_len, policy, &question);
   at = sized ? 0 : len + question.iv_len + question.partial_iv_len;
+  if (!sized && !status && !policy->has_detached) question.proof_len = view.content_len; /* by the parse that says its place */
   if (!sized && at + question.proof_len > cap) sized = COSET_SHORT, *plain_len = at + question.proof_len;
   if (sized) {
     if (!status) coset_cleared(out, len);
@@ -431,11 +443,13 @@ typedef struct coset_layer_question {
 } coset_layer_question;
 
 /* Verifies or decrypts the layer by a key that fits (coset_key_fits), and that the caller trusts. Returns:
- * - 1 if the layer is authentic. For COSET_ENCRYPT0 the plaintext is then in `plain`, which has `cap` bytes, and `*len`
- *   is its length. `*issuer` is the name of the key's issuer, or remains empty if that issuer has no name.
- * - COSET_NO_ROOM if `cap` is too small. `*len` may be the size that is needed.
- * - 0 otherwise. Any other result counts as 0. For COSET_ENCRYPT0, so does 1 with a length greater than `cap`, or if
- *   `*len` isn't set. */
+ * - COSET_YES if the layer is authentic. For COSET_ENCRYPT0 the plaintext is then in `plain`, which has `cap` bytes, and
+ *   `*len` is its length. `*issuer` is the name of the key's issuer, or remains empty if that issuer has no name.
+ * - COSET_NO_ROOM for COSET_ENCRYPT0 if `cap` is too small. `*len` may be the size that is needed.
+ * - COSET_NO otherwise. Any other result counts as COSET_NO. For COSET_ENCRYPT0, so does COSET_YES with a length greater
+ *   than `cap`, or if `*len` isn't set.
+ *
+ * It isn't called for an empty signature or MAC. No other length of the question is checked before. */
 typedef int (*coset_opener)(void *context, const coset_layer_question *question, uint8_t *plain, size_t cap, size_t *len,
                             coset_text *issuer);
 
@@ -513,6 +527,11 @@ struct coset_work {
   size_t count;
 };
 
+/* Returns the address after so many bytes of the memory. It is NULL if there is no memory: C has no sum of NULL and 0. */
+static inline uint8_t *coset_after(const struct coset_work *work, size_t used) {
+  return used ? work->at + used : work->at;
+}
+
 /* Makes the call of coset_token_open with the layers that are opened. Its result is behind them in the memory. */
 COSET_CALL(1, 5, 6, 7)
 static inline coset_status coset_work_next(const struct coset_work *work, const uint8_t *in, size_t in_len, int64_t now,
@@ -522,7 +541,7 @@ static inline coset_status coset_work_next(const struct coset_work *work, const 
   return coset_token_open(&rules, policy->algorithms, policy->algorithms_len, policy->critical, policy->critical_len,
                           policy->required, policy->required_len, policy->audiences, policy->audiences_len, policy->types,
                           policy->types_len, in, in_len, now, work->opened, work->count, work->at, work->used,
-                          work->at + work->used, work->cap - work->used, len, layer);
+                          coset_after(work, work->used), work->cap - work->used, len, layer);
 }
 
 /* Asks about the layer whose five texts, of `texts_len` bytes, are behind the opened layers. If the answer is yes,
@@ -531,20 +550,20 @@ COSET_CALL(1, 2, 4, 6)
 static inline coset_status coset_work_ask(struct coset_work *work, const coset_layer *layer, size_t texts_len,
                                           coset_opener opener, void *context, size_t *needed) {
   const size_t at = work->used + texts_len, left = work->cap - at;
-  const coset_layer_question question = coset_layer_asked(layer, work->at + work->used);
+  const coset_layer_question question = coset_layer_asked(layer, coset_after(work, work->used));
   coset_opened *opened;
   coset_text name = {NULL, 0};
   size_t plain = layer->form == COSET_ENCRYPT0 ? SIZE_MAX : 0, i; /* as in coset_decrypted */
   int said;
-  if (work->count == 4) return COSET_REFUSED;
-  said = opener(context, &question, work->at + at, left, &plain, &name);
-  if (said == COSET_NO_ROOM) {
+  if (work->count == 4 || (layer->form != COSET_ENCRYPT0 && !layer->proof_len)) return COSET_REFUSED;
+  said = opener(context, &question, coset_after(work, at), left, &plain, &name);
+  if (said == COSET_NO_ROOM && layer->form == COSET_ENCRYPT0) {
     *needed = coset_larger(at, left, plain, layer->proof_len);
     return COSET_SHORT;
   }
   if (layer->form != COSET_ENCRYPT0) plain = 0;
   if (!name.chars) name.len = 0;
-  if (said != 1 || plain > left || name.len > COSET_CAST(size_t, PTRDIFF_MAX) - at - plain) return COSET_REFUSED;
+  if (said != COSET_YES || plain > left || name.len > COSET_CAST(size_t, PTRDIFF_MAX) - at - plain) return COSET_REFUSED;
   *needed = at + plain + name.len;
   if (*needed > work->cap) return COSET_SHORT;
   opened = &work->opened[work->count++];
@@ -562,7 +581,7 @@ static inline coset_status coset_work_ask(struct coset_work *work, const coset_l
  *
  * If the status is COSET_OK, `opener` said yes to each layer, and the token meets the policy. `*token` then has its
  * parts. After any other status the pointers of `*token` are NULL, and `work` has zeros, unless `cap` is above
- * PTRDIFF_MAX. COSET_REFUSED means that `opener` said no. A leeway or a greatest age above INT64_MAX, such as a
+ * PTRDIFF_MAX. COSET_REFUSED means that `opener` said no, or that a signature or MAC is empty. A leeway or a greatest age above INT64_MAX, such as a
  * converted -1, is COSET_MISUSE, because it would switch off the checks of times.
  *
  * `work` needs room for the texts of each layer, plaintexts, names of issuers, and the verified token. Nine times the

@@ -8,7 +8,7 @@
 - The calls of openssl.py are made with the ciphers of coset.crypto."""
 from capi import calling, messages, openssl
 from capi.kinds import AUDIENCE, EXPIRED, ISSUER, MISUSE, NAMES, NOT_YET_VALID, OK, REFUSED, UNFIT, pairs_of
-from capi.tokens import Refused, Verified, rings, rows, text, verifications
+from capi.tokens import Refused, Verified, rings, rows, text, verifications, without_empty
 from capi.vectors import named, status_of, token
 from cbor import decode, encode
 
@@ -52,7 +52,8 @@ def wrong_answers():
                 said = ",".join([*words[-1].split(",")[:place], "wrong"])
                 texts = b"".join(it.proof + it.structure for it in layers[: place + 1]).hex()
                 facts = ",".join(it.facts() for it in layers[: place + 1])
-                yield (name, number, data, [*words[:-1], said], MISUSE, Refused([place, 0, 0], [str(place + 1), texts, facts]))
+                told = Refused([place, 0, 0], [str(place + 1), texts, facts])
+                yield without_empty((name, number, data, [*words[:-1], said], MISUSE, told), layers[: place + 1])
 
 
 def calls():

@@ -1,4 +1,5 @@
 """Makes calls through the programs of c/wrappers, and compares their output with the right results."""
+import itertools
 import subprocess
 
 from capi import interface
@@ -151,6 +152,38 @@ def without_length(program, check):
     check(told == [f"{REFUSED} 0 {SHORT} 4097"], f"a decrypter that sets no length: {told}")
 
 
+def pairs_built(program, check):
+    """Checks the maps of coset_pairs.h with a named integer. A value that is given as bytes, with the form of an integer, fails."""
+    named, values = bytes.fromhex("a3616e3a0001116f"), {2: ("6105", "6106"), 3: ("4105", "4106"), 4: ("05", "06")}
+    wanted = {(form, place): f"{MISUSE} " for form in (0, 1, 5) for place in (1, 2)}
+    for form, place in itertools.product(values, (1, 2)):
+        first, second = (values[form if at == place else 3][at - 1] for at in (1, 2))
+        wanted[form, place] = f"{OK} {named.hex()}01{first}616d{second}"
+    told = answers([program], [f"built {form} - 64 {place}" for form, place in wanted], check)
+    for call, want, got in zip(wanted, wanted.values(), told):
+        check(got == want, f"pairs of the form {call}: {got} and not {want}")
+
+
+# The results of the caller's functions, as coset_verify.h numbers them.
+YES, NO_ROOM = 0x59e5, 0x2008
+# Numbers that a function returns by mistake: statuses, truths, error codes, and numbers near those that count.
+OTHERS = (*range(-3, 20), 255, 256, YES - 1, YES + 1, YES + (1 << 16), YES - (1 << 31), NO_ROOM + 1, NO_ROOM + (1 << 16))
+
+
+def numbers_said(program, check):
+    """Checks which results of a verifier and of a decrypter count as a yes, and which say that there is too little room.
+
+    An empty signature or MAC is refused whatever the verifier returns."""
+    messages = {1: ("8443a10126a0416140", "8443a10126a041614170"), 3: ("8443a10105a0416140", "8443a10105a041614170"),
+                2: ("8440a04161818343a10126a040", "8440a04161818343a10126a04170"), 4: ("8543a10105a041614080", "8543a10105a04161417080")}
+    calls = [(kind, data, number, OK if number == YES and data is proved else REFUSED) for kind, (_, proved) in messages.items()
+             for data in messages[kind] for number in (*OTHERS, YES, NO_ROOM)]
+    calls += [(5, "8343a10101a04163", number, {YES: OK, NO_ROOM: SHORT}.get(number, REFUSED)) for number in (*OTHERS, YES, NO_ROOM)]
+    told = answers([program], [f"said {kind} {data} 4096 {number}" for kind, data, number, _ in calls], check)
+    for (*call, status), got in zip(calls, told):
+        check(got == str(status), f"the caller's function for a message: {call}: {got} and not {status}")
+
+
 # ---- through the wrappers
 
 
@@ -200,7 +233,8 @@ def from_wrapper(name, command, calls, check, **more):
 
 
 def texts(is_quick, callers, check):
-    """Checks that the version and the texts of statuses are the same in all languages. Unknown statuses share one more text.
+    """Checks that the version and the texts of statuses are the same in all languages. Unknown statuses share one more text. Returns
+    the texts.
 
     `callers` are the programs' commands, each with the arguments of its run."""
     lines = [f"text {status}" for status in range(-1, len(NAMES) + 1)]
@@ -209,3 +243,4 @@ def texts(is_quick, callers, check):
     check(all(text.startswith(f"{version}: ") for text in told[0]), f"the library's version isn't {version}: {told[0][0]}")
     check(len(set(told[0])) == len(NAMES) + 1 and told[0][0] == told[0][-1], "two statuses have one text")
     check(all(it == told[0] for it in told), "the languages tell other texts")
+    return [text.removeprefix(f"{version}: ") for text in told[0]]

@@ -57,6 +57,7 @@ def texts(found):
     made |= {f"{rust}/{name}": fill(f"rust/{name}") for name in ("Cargo.toml", "build.rs")}
     made |= {f"{rust}/src/lib.rs": read("c/wrappers/rust/coset.rs"), f"{rust}/LICENSE": read("LICENSE")}
     made |= {f"share/coset/go/{name}": read(f"c/wrappers/go/coset/{name}") for name in ("coset.go", "go.mod")}
+    made["share/coset/go/LICENSE"] = read("LICENSE")
     return made | {"share/doc/coset/C.md": read("docs/C.md"), "share/doc/coset/LICENSE": read("LICENSE")}
 
 

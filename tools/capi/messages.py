@@ -105,7 +105,7 @@ def has_both_ivs(item):
 
 def safe_calls(kind, number, data, item, words, status, told, detached):
     """Yields the calls of coset_verify.h, and the same calls of the wrappers. In one the verifier gets the right structure and
-    accepts; others are refused. The verifier also gets the right kind."""
+    accepts; others are refused, and so is an empty signature or MAC. The verifier also gets the right kind."""
     if kind == "encrypt":
         return
     carried, crypted = bytes_at(item, 2), kind == "encrypt0"
@@ -121,7 +121,8 @@ def safe_calls(kind, number, data, item, words, status, told, detached):
     proof, answer = (content, plaintext(item, content)) if crypted else (texts[1], content)
     asked = [texts[0], proof, texts[3]]
     for allowed, said in ([view[0], True], [view[0], False], [view[0] + 1, True]):
-        status = CRITICAL if view[3] == 2 else NOT_ALLOWED if view[1] != 1 or allowed != view[0] else OK if said else REFUSED
+        accepted = OK if said and (crypted or proof) else REFUSED
+        status = CRITICAL if view[3] == 2 else NOT_ALLOWED if view[1] != 1 or allowed != view[0] else accepted
         status = HEADERS if status in (OK, REFUSED) and crypted and has_both_ivs(item) else status
         given = words[:4] + [f"{allowed},-99999", words[4]] + (asked if said else [texts[0] + b"x", *asked[1:]])
         yield ("safe", number, data, given, status, answer if status == OK else None)

@@ -109,11 +109,15 @@ def compare_functions(sources, check):
 
 
 def compare_marks(check):
-    """Checks that the compiler warns if a status of coset_verify.h is ignored."""
-    text = read("c", "include", "coset_verify.h")
-    marked = re.findall(r"^COSET_CALL\([\d, ]+\)\nstatic inline coset_status (\w+)\(", text, re.M)
-    there = re.findall(r"^static inline coset_status (\w+)\(", text, re.M)
-    check(there and marked == there, f"coset_verify.h hasn't COSET_CALL before {', '.join(sorted(set(there) - set(marked)))}")
+    """Checks that the compiler warns if a status of the other headers is ignored, or if the place for a number is NULL."""
+    for name in ("verify", "items", "pairs"):
+        text = read("c", "include", f"coset_{name}.h")
+        found = re.findall(r"^(?:COSET_CALL\(([\d, ]+)\)\n)?static inline coset_status (\w+)\((.*?)\) \{$", text, re.M | re.S)
+        lacking = [function for needed, function, _ in found if not needed]
+        check(found and not lacking, f"coset_{name}.h hasn't COSET_CALL before {', '.join(lacking)}")
+        for needed, function, arguments in found:
+            last = [place for place, it in enumerate(arguments.split(","), 1) if re.search(r"(size_t|uint32_t|double) \*\w+$", it)]
+            check({*map(str, last)} <= {*needed.split(", ")}, f"coset_{name}.h: a number of {function} may be NULL")
 
 
 # Constants of the header that Python has by other words.

@@ -1,10 +1,14 @@
 """Calls with answers that no caller's function should give, and calls of coset_token_open with arguments that no caller should
 have."""
+from capi.calling import NO_ROOM, OTHERS, YES
 from capi.kinds import LAYER, MISUSE, NAMES, OK, REFUSED, SHORT
 from capi.tokens import SIZE, Answer, Opening, layers_of, opened_words
 
 SIGNED = bytes.fromhex("d28443a10126a045a1041907d0420102")
 ENCRYPTED = bytes.fromhex("d08343a1010aa04163")
+EMPTY_SIGNATURE = bytes.fromhex("d28443a10126a045a1041907d040")
+EMPTY_MAC = bytes.fromhex("d18443a10105a045a1041907d040")
+NO_CIPHERTEXT = bytes.fromhex("d08343a1010aa040")
 RULES = "0,0,0,2,1,0,0"
 LISTS = ["-7,5,10", "-", "-", "-", "-"]
 FULL = 1 << 64
@@ -13,17 +17,15 @@ NOT_CLAIMS = NAMES.index("NotClaims")
 
 def answers():
     """Yields calls in which the caller's function answers a layer in this way, with the right status."""
-    for number in (0, 2, 3, -2, -3, 255, 256, 1 << 30):
-        for data in (SIGNED, ENCRYPTED):
+    for data, yes, no_room in ((SIGNED, OK, REFUSED), (ENCRYPTED, NOT_CLAIMS, SHORT)):
+        for number in (*OTHERS, 1 << 30):
             yield data, f"={number}", REFUSED
-    yield SIGNED, "=1", OK
-    yield ENCRYPTED, "=1", NOT_CLAIMS
-    for data in (SIGNED, ENCRYPTED):
-        yield data, "=-1", SHORT
+        yield data, f"={YES}", yes
+        yield data, f"={NO_ROOM}", no_room
         yield data, "", REFUSED
         yield data, "!,!,!,!,!", REFUSED
         for length in (0, 1, 100, 1 << 20, (1 << 63) - 1, 1 << 63, FULL - 1):
-            yield data, f">{length}", SHORT
+            yield data, f">{length}", no_room
         for name in ("ff", "c080", "eda080", "61ff"):
             yield data, f"yes@{name}", MISUSE
         yield data, "yes@?", REFUSED
@@ -32,14 +34,18 @@ def answers():
         yield SIGNED, f"+{more}", OK
         yield ENCRYPTED, f"+{more}", REFUSED
     yield ENCRYPTED, "+0", NOT_CLAIMS
-    for number, status in ((1, REFUSED), (0, REFUSED), (2, REFUSED), (-1, SHORT)):
+    for number, status in ((YES, REFUSED), (1, REFUSED), (0, REFUSED), (-1, REFUSED), (NO_ROOM, SHORT)):
         yield ENCRYPTED, f"~{number}", status
-    yield SIGNED, "~1", OK
-    yield SIGNED, "~-1", SHORT
+    yield SIGNED, f"~{YES}", OK
+    yield SIGNED, f"~{NO_ROOM}", REFUSED
+    for data in (EMPTY_SIGNATURE, EMPTY_MAC):
+        for answer in ("yes", f"={YES}", f"~{YES}", f"~{NO_ROOM}", "!"):
+            yield data, answer, REFUSED
+    yield NO_CIPHERTEXT, "pa1041907d0", OK
     yield ENCRYPTED, "pa1041907d0", OK
     yield ENCRYPTED, "pa1041907d0,yes", OK
     yield ENCRYPTED, "p" + SIGNED.hex() + ",=2", REFUSED
-    yield ENCRYPTED, "p" + SIGNED.hex() + ",>5", SHORT
+    yield ENCRYPTED, "p" + SIGNED.hex() + ",>5", REFUSED
 
 
 def rules():

@@ -386,16 +386,21 @@ def accepted(folder, check):
     changes = [(0, {}), (0, {4: -50}), (1, {4: -70}), (1, {3: "coap://x"}), (1, {1: "x"}), (1, {5: 70}), (0, {2: "\xa0\xc2 \u0420"}), (0, {2: ""}),
                *((1, {2: f"erik{it}w"}) for it in controls)]
     with tempfile.TemporaryDirectory() as files:
-        def run_with(token):
-            sets = [keys_of(keys[0].public, keys[1].public), keys_of(keys[2].public)]
-            for name, data in zip(("as", "hub", "token"), (*sets, token)):
+        def run_with(*contents):
+            for name, data in zip(("as", "hub", "token"), contents):
                 with open(f"{files}/{name}", "wb") as file:
                     file.write(data)
             words = [f"{folder}/accept", *(f"{files}/{it}" for it in ("as", "hub", "token"))]
             return subprocess.run(words, capture_output=True, text=True, check=False)
         ran = subprocess.run([f"{folder}/accept"], capture_output=True, text=True, check=False)
         check(ran.returncode == 1, f"accept without its files: {ran.returncode}")
-        tries = 0
+        sets, tries = [keys_of(keys[0].public, keys[1].public), keys_of(keys[2].public)], 0
+        for contents in ((bytes(4097), *sets), (sets[0], bytes(1 << 16), sets[1]), (*sets, bytes(4097))):
+            ran = run_with(*contents)
+            check(ran.returncode == 2 and "more than 4096 bytes" in ran.stderr, f"accept with a long file: {ran.returncode} {ran.stderr}")
+        for names in (("as", "hub", "absent"), ("as", "", "token"), ("absent", "hub", "token")):
+            ran = subprocess.run([f"{folder}/accept", *(f"{files}/{it}" for it in names)], capture_output=True, text=True, check=False)
+            check(ran.returncode == 2 and "can't be read" in ran.stderr, f"accept without a file: {ran.returncode} {ran.stderr}")
         for place, key in enumerate(keys):
             name = HUB if place == 2 else AS
             for status, change in changes:
@@ -403,7 +408,7 @@ def accepted(folder, check):
                 made_of = {1: name, 2: "erikw", 3: audience, 4: 100, **change}
                 token = key.seal(item({label: here + it if label in (4, 5) else it for label, it in made_of.items()}))
                 for data, wanted in ((token, status), (flipped(token, 8 * len(token) - 1), 1)):
-                    ran = run_with(data)
+                    ran = run_with(*sets, data)
                     is_right = ran.returncode == wanted and ran.stdout == ("" if wanted else f"{name} says {change.get(2, 'erikw')}\n")
                     check(is_right, f"accept: {data.hex()}: {ran.returncode} {ran.stdout}{ran.stderr} and not {wanted}")
                     tries += 1

@@ -13,7 +13,7 @@ CLAIMS = ({}, {7: bytes(1000)}, {2: "s" * 300, 3: ["a" * 9] * 40}, {3: "a"}, {3:
           {1: "i" * 200, 7: b"x"}, {1: "i" * 200, 3: "a" * 200}, {3: "a" * 70, -200: bytes(600), 99: [1] * 100})
 PROTECTED = ({}, {4: bytes(200)}, {4: bytes(20), 5: bytes(180)}, {6: bytes(200)}, {"x": bytes(200)})
 UNPROTECTED = ({}, {4: bytes(200)}, {5: bytes(13)}, {"x": bytes(200)})
-PROOFS = (64, 0, 600)
+PROOFS = (64, 1, 600)
 NAMES = (None, b"i" * 200, b"another name " * 20)
 
 

@@ -278,6 +278,17 @@ def verifications(row, answer):
     yield ("token", 0, data, [now, *words, listed(answers)], status, result), layers
 
 
+def without_empty(call, layers):
+    """Returns the call as coset_token_verify answers it: it refuses the first layer with an empty signature or MAC, unasked."""
+    empty = next((index for index, layer in enumerate(layers) if layer.form != 5 and not layer.proof), None)
+    if empty is None:
+        return call
+    asked = layers[:empty]
+    texts = b"".join(layer.proof + layer.structure for layer in asked).hex() or "-"
+    told = Refused([empty, layers[empty].algorithm, 0], [str(empty), texts, listed(layer.facts() for layer in asked)])
+    return (*call[:4], REFUSED, told)
+
+
 def rings(row, answer):
     """Yields the call for a row `ring`, from C alone. There is none if C can't express the policy."""
     _, sets, said, now, policy, spelled = row
@@ -315,8 +326,8 @@ def rows(name):
 def calls():
     """Yields the calls for all languages. Rows with a policy that C can't express are left out."""
     for row, answer in rows("verify"):
-        for call, _ in verifications(row, answer):
-            yield call
+        for call, layers in verifications(row, answer):
+            yield without_empty(call, layers)
     for row, answer in rows("fits"):
         yield from fittings(row, answer)
 
@@ -330,6 +341,7 @@ def calls_from_c(check):
             check(result.asked[1] == texts, f"the questions of {' '.join(row)}")
             yield from openings(data, now, policy, layers, status, result)
             names = [layer.answer.name or b"" for layer in layers]
+            *_, status, result = without_empty(call, layers)
             yield ("room", 0, data, [now, *policy, said], status, enough_room(data, names, audience_of(result)))
     for row, answer in rows("ring"):
         yield from rings(row, answer)

@@ -50,7 +50,13 @@ def by_cmake(prefix, folder, token):
     told = run("cmake", "-S", folder, "-B", f"{folder}/built", f"-DCMAKE_PREFIX_PATH={prefix}",
                "-DCMAKE_LIBRARY_ARCHITECTURE=x86_64-linux-gnu")
     told += run("cmake", "--build", f"{folder}/built")
-    found = [f"{folder}/built/{name}" for name in ("try_shared", "try_static")]
+    # As /lib, which may be a link to /usr/lib.
+    os.makedirs(f"{folder}/linked")
+    os.symlink(f"{prefix}/lib", f"{folder}/linked/lib")
+    told += run("cmake", "-S", folder, "-B", f"{folder}/built_linked", f"-DCMAKE_PREFIX_PATH={folder}/linked",
+                "-DCMAKE_LIBRARY_ARCHITECTURE=x86_64-linux-gnu")
+    told += run("cmake", "--build", f"{folder}/built_linked")
+    found = [f"{folder}/{built}/{name}" for built in ("built", "built_linked") for name in ("try_shared", "try_static")]
     return [run(it, token) if os.path.exists(it) else told for it in found]
 
 
@@ -64,8 +70,40 @@ def packed(prefix, folder, library):
     return [source, f"{folder}/{made}", *(wheels if len(wheels) == 2 else [told])]
 
 
+WHEEL = "import backend, sys; print(backend.build_wheel(sys.argv[1]))"
+
+
+def wheels_refused(prefix, folder, library):
+    """Returns what the package's backend should have refused: no library where COSET_LIB_DIR says, another library, and none that
+    is only next to a source distribution."""
+    source, told = f"{prefix}/share/coset/python", []
+    os.makedirs(f"{folder}/wrong/lib")
+    os.makedirs(f"{folder}/wrong/empty")
+    with open(f"{library}/libcoset.so", "rb") as file:
+        contents = file.read()
+    number = interface.soname().encode()
+    apart = f"{folder}/wrong/a/b/c"
+    shutil.copytree(source, apart)
+    os.makedirs(f"{folder}/wrong/{LIBDIR}")
+    shutil.copy(f"{library}/libcoset.so", f"{folder}/wrong/{LIBDIR}")
+    where = {**os.environ, "PKG_CONFIG_PATH": f"{folder}/wrong", "PKG_CONFIG_LIBDIR": f"{folder}/wrong"}
+    for home, more, changed in ((source, {"COSET_LIB_DIR": "lib"}, contents), (source, {"COSET_LIB_DIR": ""}, contents),
+                                (source, {"COSET_LIB_DIR": f"{folder}/wrong/empty"}, contents), (apart, {}, contents),
+                                (source, {"COSET_LIB_DIR": f"{folder}/wrong/lib"}, contents.replace(number, number[:-1] + b"0")),
+                                (source, {"COSET_LIB_DIR": f"{folder}/wrong/lib"}, contents[:18] + b"\x08" + contents[19:])):
+        with open(f"{folder}/wrong/lib/libcoset.so", "wb") as file:
+            file.write(changed)
+        got = run(sys.executable, "-c", WHEEL, f"{folder}/wrong", cwd=home, env={**where, **more})
+        told += [] if "RuntimeError" in got else [f"a wheel with {more} in {home}: {got}"]
+    with open(f"{folder}/wrong/lib/libcoset.so", "wb") as file:
+        file.write(contents[:18] + b"\xb7" + contents[19:])
+    got = run(sys.executable, "-c", WHEEL, f"{folder}/wrong", cwd=source, env={**where, "COSET_LIB_DIR": f"{folder}/wrong/lib"})
+    return told + ([] if got.endswith("-linux_aarch64.whl") else [f"a wheel for another processor: {got}"])
+
+
 def by_pip(prefix, folder, token):
-    library, told = f"{prefix}/{LIBDIR}", []
+    library = f"{prefix}/{LIBDIR}"
+    told = wheels_refused(prefix, folder, library)
     where = {name: value for name, value in os.environ.items() if name != "COSET_LIBRARY"}
     for place, given in enumerate(packed(prefix, folder, library)):
         site = f"{folder}/site{place}"
@@ -97,6 +135,9 @@ def by_cargo(prefix, folder, token):
         build = [cargo, "build", "--offline", "--quiet"]
         failed = run(*build, "--no-default-features", cwd=folder, env=where) + run(*build, cwd=folder, env=where)
         told.append(failed or run(f"{target}/debug/try", token))
+        for named in ("lib", "", f"{folder}/target0"):
+            got = run(*build, cwd=folder, env={**where, "COSET_LIB_DIR": named})
+            told += [] if "there is no libcoset.a" in got else [f"a crate with the library in {named}: {got}"]
         # An older cargo doesn't read the file of a later one.
         os.remove(f"{folder}/Cargo.lock")
     return told

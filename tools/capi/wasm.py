@@ -2,7 +2,7 @@
 
 The kit's code has 64-bit addresses. So its LLVM module is compiled for a 64-bit memory (tools/wasm64.py), and linked with the heap of
 c/wrappers/c/heap.c, which wipes what it frees. Binaryen's wasm-opt then lowers the memory to 32-bit addresses, which every engine has.
-Nothing of this is proved; the results are compared."""
+Nothing of this is proved, so the version ends in ` (unproved)`. The results are compared."""
 import functools
 import http.server
 import json
@@ -51,13 +51,13 @@ def must(message):
         sys.exit(f"the module isn't compiled: {message}")
 
 
-def compiled(folder, text, quick):
+def compiled(folder, text):
     """Compiles the module's LLVM IR, the heap and the texts. Returns the paths of the object files."""
     for name, header in HEADERS.items():
         write(f"{folder}/include/{name}", header)
     write(f"{folder}/module.ll", wasm64.for_wasm(text, "minsize optsize nounwind"))
     flags = [*wasm64.WASM, "-ffreestanding", "-Wall", "-Wextra", "-Werror", f"-I{folder}/include", f"-I{HERE}/c/include", "-DCOSET_BLOCKS"]
-    flags += ["-DCOSET_UNPROVED"] if quick else []
+    flags += ["-DCOSET_UNPROVED"]
     must(wasm64.clang(*wasm64.WASM, "-Oz", "-c", "-x", "ir", f"{folder}/module.ll", "-o", f"{folder}/module.o"))
     for path in (wasm64.HEAP, f"{WRAPPERS}/c/heap.c", f"{WRAPPERS}/c/text.c"):
         must(wasm64.clang(*flags, "-O2", "-c", path, "-o", f"{folder}/{len(os.listdir(folder))}.o"))
@@ -79,7 +79,7 @@ def module(quick):
     if not os.path.exists(made) or os.path.getmtime(made) < max(map(os.path.getmtime, sources)):
         with tempfile.TemporaryDirectory() as folder, common.signs_of_life("building coset.wasm"):
             with open(language, encoding="utf-8") as file:
-                objects = compiled(folder, file.read(), quick)
+                objects = compiled(folder, file.read())
             must(wasm64.link(objects, exports(), f"{folder}/wide.wasm"))
             must(wasm64.lowered(f"{folder}/wide.wasm", f"{folder}/coset.wasm"))
             shutil.move(f"{folder}/coset.wasm", made)
@@ -98,7 +98,8 @@ def lacking():
 def files(quick):
     """Returns the files of the package for npm, each as a function that writes it to a path."""
     copy = lambda path: lambda to: shutil.copy(path, to)
-    about = install.filled(read("c/packaging/js/package.json"), install.words("", "lib", quick))
+    words = {"UNPROVED": "; made from the proved module, and itself not proved"} if not quick else {}
+    about = install.filled(read("c/packaging/js/package.json"), install.words("", "lib", quick) | words)
     return {"package.json": install.write(about), "LICENSE": install.write(read("LICENSE")), "coset.wasm": copy(module(quick)),
             "coset.d.ts": copy(f"{HERE}/c/packaging/js/coset.d.ts"), "coset.mjs": copy(f"{WRAPPERS}/js/coset.mjs")}
 
@@ -214,6 +215,15 @@ def tested(folder, wrong):
     return ran.stdout.splitlines()
 
 
+def with_another_module(folder, check):
+    """Checks that coset.mjs refuses a module of another version."""
+    at = f"{folder}/node_modules/coset-rattle"
+    write(f"{at}/other.mjs", re.sub(r"VERSION_NUMBER = 0x", r"\g<0>1", read("c/wrappers/js/coset.mjs"), count=1))
+    told = trying.run("node", f"{at}/other.mjs")
+    check("coset.wasm is of version" in told, f"coset.mjs takes a module of another version: {told[-300:]}")
+    os.remove(f"{at}/other.mjs")
+
+
 def tried(given, caller, calls, wrong):
     """Makes the calls from JavaScript, and checks that its texts are those of the program `caller`. Returns the lines to print."""
     lacks = lacking() or (None if shutil.which("node") else "there is no node for JavaScript")
@@ -225,7 +235,9 @@ def tried(given, caller, calls, wrong):
         laid_out(f"{folder}/page", given.quick)
         node = ["node", f"{folder}/page/calls.mjs"]
         calling.from_wrapper("JavaScript", node, calls, wrong.check)
-        calling.texts(given.quick, [([caller], {}), (node, {})], wrong.check)
+        texts = [calling.texts(*it, wrong.check) for it in ((given.quick, [([caller], {})]), (True, [(node, {})]))]
+        wrong.check(texts[0] == texts[1], "JavaScript tells other texts")
         told = [f"from JavaScript {len(calls)}", *tested(f"{folder}/page", wrong), in_chromium(f"{folder}/page", calls, wrong.check)]
+        with_another_module(f"{folder}/page", wrong.check)
         told += [with_hostile_input(caller, node, wrong.check), by_types(f"{folder}/page", wrong.check)]
         return [*told, by_npm(folder, given.quick, data, decode(data)[0][2][1][2][1], wrong.check)]

@@ -159,6 +159,8 @@ def called(given, folder, objects, wrong):
     lines, wanted = calling.from_c(f"{folder}/calls_c", every, wrong.check)
     calling.lengths(f"{folder}/calls_c", wrong.check)
     calling.without_length(f"{folder}/calls_c", wrong.check)
+    calling.numbers_said(f"{folder}/calls_c", wrong.check)
+    calling.pairs_built(f"{folder}/calls_c", wrong.check)
     told = [f"calls {len(calls)}", f"from C {len(lines)}"]
     told += openssl.tried(folder, objects, wrong.check)
     told += of_library(given, folder, objects, wrong)

@@ -1,5 +1,7 @@
 # Defines the targets coset::coset, the shared library, and coset::static.
-get_filename_component(_coset_prefix "${CMAKE_CURRENT_LIST_DIR}/@UP@" ABSOLUTE)
+# The folder may be a link, as /lib is to /usr/lib.
+get_filename_component(_coset_here "${CMAKE_CURRENT_LIST_DIR}" REALPATH)
+get_filename_component(_coset_prefix "${_coset_here}/@UP@" ABSOLUTE)
 if(NOT TARGET coset::coset)
   add_library(coset::coset SHARED IMPORTED)
   set_target_properties(coset::coset PROPERTIES
@@ -12,4 +14,5 @@ if(NOT TARGET coset::coset)
     INTERFACE_INCLUDE_DIRECTORIES "${_coset_prefix}/include")
 endif()
 set(coset_PROVED @PROVED@)
+unset(_coset_here)
 unset(_coset_prefix)

@@ -1,8 +1,8 @@
 """Builds the wheel and the source distribution of the folder `coset` next to this file (PEP 517), with Python alone.
 
-The wheel has a copy of the shared library. It is the one in the folder that the environment's COSET_LIB_DIR names, else the
-one that was installed with this file, else the one that pkg-config finds. With the setting `library=system` the wheel has no
-copy, and the package loads the system's @SONAME@.
+The wheel has a copy of the shared library. It is the one in the folder that the environment's COSET_LIB_DIR names. Without that
+it is the one that was installed with this file, else the one that pkg-config finds. A library with another name than @SONAME@
+is an error. With the setting `library=system` the wheel has no copy, and the package loads the system's @SONAME@.
 """
 import base64
 import hashlib
@@ -15,6 +15,9 @@ import zipfile
 HERE = os.path.dirname(os.path.abspath(__file__))
 NAME = "coset_rattle-@PYTHON_VERSION@"
 INFO = f"{NAME}.dist-info"
+SONAME = b"@SONAME@"
+# The processors of wheels, by their numbers in a file of ELF.
+MACHINES = {62: "x86_64", 183: "aarch64", 243: "riscv64"}
 
 
 def _read(path):
@@ -29,24 +32,43 @@ def _package():
 
 
 def _folders():
-    """Yields the folders in which the shared library may be."""
+    """Yields the folders in which the shared library may be. A folder that COSET_LIB_DIR names is the only one."""
     if "COSET_LIB_DIR" in os.environ:
-        yield os.environ["COSET_LIB_DIR"]
-    yield os.path.join(HERE, "../../..", "@LIBDIR@")
+        folder = os.environ["COSET_LIB_DIR"]
+        if not os.path.isabs(folder):
+            raise RuntimeError(f"COSET_LIB_DIR is no absolute path: {folder}")
+        yield folder
+        return
+    if HERE.endswith(os.path.join(os.sep, "share", "coset", "python")):
+        # Only where this file was installed. A source distribution may be unpacked in a folder of anyone.
+        yield os.path.join(HERE, "../../..", "@LIBDIR@")
     try:
         asked = subprocess.run(["pkg-config", "--variable=libdir", "coset"], capture_output=True, text=True, check=False)
-        yield asked.stdout.strip()
     except OSError:
-        pass
+        return
+    if os.path.isabs(asked.stdout.strip()):
+        yield asked.stdout.strip()
 
 
 def _library():
     """Returns the shared library's contents."""
     for folder in _folders():
-        path = os.path.join(folder, "libcoset.so")
-        if os.path.exists(path):
-            return _read(os.path.abspath(path))
+        path = os.path.abspath(os.path.join(folder, "libcoset.so"))
+        if not os.path.exists(path):
+            continue
+        library = _read(path)
+        if library[:4] != b"\x7fELF" or b"\0" + SONAME + b"\0" not in library:
+            raise RuntimeError(f"{path} isn't {SONAME.decode()}")
+        return library
     raise RuntimeError("there is no libcoset.so: name its folder in COSET_LIB_DIR, or give the setting library=system")
+
+
+def _platform(library):
+    """Returns the wheel's platform for the library."""
+    machine = int.from_bytes(library[18:20], "little")
+    if machine not in MACHINES:
+        raise RuntimeError(f"libcoset.so is for the processor {machine} of ELF, for which there is no wheel")
+    return f"linux_{MACHINES[machine]}"
 
 
 def _digest(data):
@@ -61,11 +83,11 @@ def _about(tag):
 
 
 def build_wheel(wheel_directory, config_settings=None, metadata_directory=None):
-    is_bare = (config_settings or {}).get("library") == "system"
-    tag = "py3-none-any" if is_bare else "py3-none-linux_x86_64"
+    library = None if (config_settings or {}).get("library") == "system" else _library()
+    tag = f"py3-none-{'any' if library is None else _platform(library)}"
     files = {path: _read(path) for path in _package()}
-    if not is_bare:
-        files["coset/libcoset.so"] = _library()
+    if library is not None:
+        files["coset/libcoset.so"] = library
     files |= _about(tag)
     lines = [f"{path},sha256={_digest(data)},{len(data)}\n" for path, data in files.items()]
     files[f"{INFO}/RECORD"] = "".join([*lines, f"{INFO}/RECORD,,\n"]).encode()

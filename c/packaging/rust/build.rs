@@ -1,16 +1,21 @@
-//! Finds `libcoset.a` in the folder that `COSET_LIB_DIR` names, next to this crate as it was
-//! installed, or by pkg-config.
+//! Finds `libcoset.a` in the folder that `COSET_LIB_DIR` names. Without that it is next to this
+//! crate as it was installed, or found by pkg-config.
 
 use std::env;
 use std::path::PathBuf;
 use std::process::{exit, Command};
 
-fn folders() -> impl Iterator<Item = PathBuf> {
-    let named = env::var_os("COSET_LIB_DIR").map(PathBuf::from);
-    let beside = PathBuf::from(env::var_os("CARGO_MANIFEST_DIR").unwrap_or_default()).join("../../../@LIBDIR@");
+/// Returns the folders in which the library may be. A folder that `COSET_LIB_DIR` names is the only one.
+fn folders() -> Vec<PathBuf> {
+    if let Some(named) = env::var_os("COSET_LIB_DIR") {
+        return vec![PathBuf::from(named)];
+    }
+    let here = PathBuf::from(env::var_os("CARGO_MANIFEST_DIR").unwrap_or_default());
+    // Only where this crate was installed. A copy may be in a folder of anyone.
+    let beside = Some(here.join("../../../@LIBDIR@")).filter(|_| here.ends_with("share/coset/rust"));
     let asked = Command::new("pkg-config").args(["--variable=libdir", "coset"]).output().ok();
     let known = asked.filter(|it| it.status.success()).map(|it| PathBuf::from(String::from_utf8_lossy(&it.stdout).trim()));
-    named.into_iter().chain([beside]).chain(known)
+    beside.into_iter().chain(known).collect()
 }
 
 fn main() {
@@ -19,14 +24,14 @@ fn main() {
     if env::var_os("CARGO_FEATURE_STD").is_none() {
         println!("cargo:rustc-cfg=coset_no_std");
     }
-    match folders().find(|it| it.join("libcoset.a").exists()) {
+    match folders().into_iter().find(|it| it.is_absolute() && it.join("libcoset.a").exists()) {
         Some(folder) => {
             println!("cargo:rerun-if-changed={}", folder.join("libcoset.a").display());
             println!("cargo:rustc-link-search=native={}", folder.display());
             println!("cargo:rustc-link-lib=static=coset");
         }
         None => {
-            eprintln!("there is no libcoset.a: name its folder in COSET_LIB_DIR");
+            eprintln!("there is no libcoset.a: name its folder in COSET_LIB_DIR, by an absolute path");
             exit(1);
         }
     }

@@ -2,12 +2,18 @@
  * are the COSE_KeySets of the issuers, and the token. Prints the issuer and the subject of the token in one line. */
 #include "coset_openssl.h"
 #include <stdio.h>
+#include <stdlib.h>
 #include <time.h>
 
+/* Reads a whole file of at most `cap` bytes, and returns its length. Ends the program if it can't. */
 static size_t contents(const char *name, uint8_t *at, size_t cap) {
   FILE *file = fopen(name, "rb");
   const size_t len = file ? fread(at, 1, cap, file) : 0;
-  if (file) fclose(file);
+  if (!file || ferror(file) || fgetc(file) != EOF) {
+    fprintf(stderr, "%s can't be read, or has more than %zu bytes\n", name, cap);
+    exit(2);
+  }
+  fclose(file);
   return len;
 }
 

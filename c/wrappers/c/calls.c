@@ -15,7 +15,7 @@
  *   structure_of KIND PROTECTED CAP SIGNER AAD CONTENT | recipient_structure_of HOLDER PROTECTED CAP AAD
  *   make KIND PROTECTED CAP UNPROTECTED HAS CONTENT PROOF
  *   add KIND IN CAP MEMBER | write KIND IN CAP | canonical_key ORDER IN CAP
- *   deeper 0 IN CAP | lengths 0 IN CAP
+ *   deeper 0 IN CAP | lengths 0 IN CAP | unset 0 IN CAP | said KIND IN CAP NUMBER | built FORM - CAP PLACE
  *   token 0 IN CAP NOW RULES ALGS CRITICAL REQUIRED AUDIENCES TYPES ANSWERS
  *   ring 0 IN CAP NOW RULES ALGS CRITICAL REQUIRED AUDIENCES TYPES SETS SAYS
  *   room 0 IN MOST NOW RULES ALGS CRITICAL REQUIRED AUDIENCES TYPES ANSWERS
@@ -122,11 +122,12 @@ static int same(const char *word, const uint8_t *at, size_t len) {
   return is;
 }
 
-/* Returns true if the question is about a COSE_Sign1, and has the four values of the words. */
+/* Says yes if the question is about a COSE_Sign1, and has the four values of the words. */
 static int is_as_said(void *words, const coset_question *q) {
   char **word = words;
-  return q->kind == COSET_SIGN1 && atoll(word[0]) == q->algorithm && same(word[1], q->key_id, q->key_id_len) &&
-         same(word[2], q->input, q->input_len) && same(word[3], q->proof, q->proof_len);
+  const int is = q->kind == COSET_SIGN1 && atoll(word[0]) == q->algorithm && same(word[1], q->key_id, q->key_id_len) &&
+                 same(word[2], q->input, q->input_len) && same(word[3], q->proof, q->proof_len);
+  return is ? COSET_YES : COSET_NO;
 }
 
 /* Returns the status of `verified` for these words. Afterwards `out` has the payload at its front, and nothing else. */
@@ -167,12 +168,30 @@ static void without_length(struct bytes in, uint8_t *out, size_t cap) {
   const int64_t algorithm = 1;
   const coset_policy policy = {.algorithms = &algorithm, .algorithms_len = 1};
   const uint8_t *plain = NULL;
-  int answers[] = {1, COSET_NO_ROOM};
+  int answers[] = {COSET_YES, COSET_NO_ROOM};
   for (int i = 0; i < 2; i++) {
     size_t len = 77;
     const coset_status status = coset_encrypt0_decrypt(COSET_EITHER, in.at, in.len, &policy, says_number, &answers[i], out, cap, &plain, &len);
     printf("%" PRId32 " %zu%s", status, len, i ? "\n" : " ");
   }
+}
+
+/* A verifier, and a decrypter that sets the length 0. Both return the number at `number`. */
+static int verifies_by(void *number, const coset_question *question) { return (void)question, *(const int *)number; }
+
+static int decrypts_by(void *number, const coset_question *question, uint8_t *plain, size_t cap, size_t *len) {
+  return (void)question, (void)plain, (void)cap, *len = 0, *(const int *)number;
+}
+
+/* Prints the status of coset_verify, or of coset_encrypt0_decrypt, if the caller's function returns this number. */
+static void said(uint32_t kind, struct bytes in, uint8_t *out, size_t cap, int number) {
+  const int64_t algorithms[] = {-7, 1, 5};
+  const coset_policy policy = {.algorithms = algorithms, .algorithms_len = 3};
+  const uint8_t *payload = NULL;
+  size_t len = 0;
+  printf("%" PRId32 "\n", kind == COSET_ENCRYPT0
+    ? coset_encrypt0_decrypt(0, in.at, in.len, &policy, decrypts_by, &number, out, cap, &payload, &len)
+    : coset_verify(kind, in.at, in.len, 0, &policy, verifies_by, &number, out, cap, &payload, &len));
 }
 
 /* Prints the results of coset_verify.h for a length that no object has. The length is that of a list of algorithms, a
@@ -192,11 +211,12 @@ static void lengths(struct bytes in, uint8_t *out, size_t cap) {
   printf(" %d\n", coset_is_deeper(in.at, SIZE_MAX, COSET_MOST_LEVELS));
 }
 
-/* Returns true if the question has the values of the words, and the kind that is nine words before them. */
+/* Says yes if the question has the values of the words, and the kind that is nine words before them. */
 static int is_asked(void *words, const coset_question *question) {
   char **word = words;
-  return question->kind == (strtoul(word[-9], NULL, 0) & 0xff) && same(word[0], question->input, question->input_len) &&
-         same(word[1], question->proof, question->proof_len) && same(word[2], question->key_id, question->key_id_len);
+  const int is = question->kind == (strtoul(word[-9], NULL, 0) & 0xff) && same(word[0], question->input, question->input_len) &&
+                 same(word[1], question->proof, question->proof_len) && same(word[2], question->key_id, question->key_id_len);
+  return is ? COSET_YES : COSET_NO;
 }
 
 /* Appends the number of a header and the IV in it, if there is one. */
@@ -209,14 +229,14 @@ static size_t with_iv(uint8_t *plain, size_t at, const uint8_t *iv, size_t len, 
 
 static int is_decrypted(void *words, const coset_question *q, uint8_t *plain, size_t cap, size_t *len) {
   size_t at;
-  if (!q->iv != !q->iv_len || !q->iv != !q->iv_map || !q->partial_iv != !q->partial_iv_len || !q->partial_iv != !q->partial_iv_map) return 0;
-  if (!is_asked(words, q)) return 0;
+  if (!q->iv != !q->iv_len || !q->iv != !q->iv_map || !q->partial_iv != !q->partial_iv_len || !q->partial_iv != !q->partial_iv_map) return COSET_NO;
+  if (is_asked(words, q) != COSET_YES) return COSET_NO;
   *len = !!q->iv + q->iv_len + !!q->partial_iv + q->partial_iv_len + q->proof_len;
   if (*len > cap) return COSET_NO_ROOM;
   at = with_iv(plain, 0, q->iv, q->iv_len, q->iv_map);
   at = with_iv(plain, at, q->partial_iv, q->partial_iv_len, q->partial_iv_map);
   for (size_t i = 0; i < q->proof_len; i++) plain[at + i] = q->proof[i] ^ 0x5a;
-  return 1;
+  return COSET_YES;
 }
 
 /* Returns the status of coset_encrypt0_decrypt. Afterwards `out` has the plaintext at its front. If the status isn't
@@ -311,13 +331,13 @@ int32_t issued(const struct token *t, signer sign, void *key, uint8_t *out, size
 static int sign_as_said(void *words, const uint8_t *tbs, size_t tbs_len, uint8_t *sig, size_t cap, size_t *sig_len) {
   char **word = words;
   if (*word[1] == '=') return memset(sig, 0, 64), *sig_len = 64, atoi(word[1] + 1);
-  if (*word[1] == '+') return *sig_len = cap + strtoull(word[1] + 1, NULL, 0), 1;
+  if (*word[1] == '+') return *sig_len = cap + strtoull(word[1] + 1, NULL, 0), COSET_YES;
   struct bytes b = spelled(word[1]);
   int is = same(word[0], tbs, tbs_len) && b.len <= cap;
   if (is && b.len) memcpy(sig, b.at, b.len);
   *sig_len = b.len;
   free(b.at);
-  return is;
+  return is ? COSET_YES : COSET_NO;
 }
 
 /* Appends the hexadecimal front of a word to the bytes. Returns the rest of the word. */
@@ -364,6 +384,23 @@ static int32_t put_all(char *word, uint32_t kind, struct bytes in, uint8_t *out,
   int32_t status = coset_put_all(kind, in.at, in.len, count ? own : NULL, count, bytes.len ? held.at : NULL, bytes.len, out, cap, len);
   free(pairs), free(bytes.at), free(held.at), free(own);
   return status;
+}
+
+/* Prints the status and the map of three pairs by coset_pairs.h: a named integer, and two bytes. That at `place` has this
+ * form, and the other one is a byte string. */
+static void built(uint32_t form, int place, uint8_t *out, size_t cap) {
+  coset_pair room[3];
+  uint8_t bytes[4];
+  size_t len = 77;
+  coset_pairs pairs = coset_pairs_in(room, 3, bytes, sizeof bytes);
+  coset_pairs_named_int(&pairs, "n", 1, -70000);
+  coset_pairs_value(&pairs, 1, place == 1 ? form : COSET_BYTES, "\5", 1);
+  coset_pairs_named(&pairs, "m", 1, place == 2 ? form : COSET_BYTES, "\6", 1);
+  const coset_status status = coset_put_pairs(COSET_ITEM, NULL, 0, &pairs, out, cap, &len);
+  left = -1;
+  printf("%" PRId32 " ", status);
+  for (size_t i = 0; i < len; i++) printf("%02x", out[i]);
+  puts("");
 }
 
 /* Returns the status of coset_message_spans. Afterwards the texts that it names are at the front of `out`, and `*flags`
@@ -519,13 +556,16 @@ int main(void) {
     left = refused ? atol(refused) : -1;
     int is_token = !strcmp(call, "token") || !strcmp(call, "answers") || !strcmp(call, "ring") || !strcmp(call, "openssl");
     int is_room = !strcmp(call, "room") || !strcmp(call, "roomy"), is_open = !strcmp(call, "open");
-    if (is_token || is_room || is_open || !strcmp(call, "fits") || !strcmp(call, "deeper") || !strcmp(call, "lengths") || !strcmp(call, "unset")) {
+    int is_verifier = !strcmp(call, "lengths") || !strcmp(call, "unset") || !strcmp(call, "said") || !strcmp(call, "built");
+    if (is_token || is_room || is_open || is_verifier || !strcmp(call, "fits") || !strcmp(call, "deeper")) {
       if (is_token) token_call(word, in, cap);
       else if (is_room) room_call(word, in, cap);
       else if (is_open) open_call(word, in, cap);
       else if (*call == 'f') fits_call(word, in, cap);
       else if (*call == 'd') deeper(in);
       else if (*call == 'u') without_length(in, out, cap);
+      else if (*call == 's') said(kind, in, out, cap, atoi(word[4]));
+      else if (*call == 'b') built(kind, atoi(word[4]), out, cap);
       else lengths(in, out, cap);
       free(in.at), free(out);
       if (live) return fprintf(stderr, "%ld blocks are left\n", live), 1;

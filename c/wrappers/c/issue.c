@@ -1,5 +1,6 @@
 /* Issues a signed web token (RFC 8392), with the caller's cryptography. */
 #include "coset_pairs.h"
+#include "coset_verify.h"
 
 struct string {
   const uint8_t *at;
@@ -12,8 +13,8 @@ struct token {
   int64_t exp, nbf, iat;
 };
 
-/* Signs `tbs`. Returns 1 if it signed; any other result counts as 0. The signature is then in `sig`, which has `cap` bytes,
- * and `*sig_len` is its length. */
+/* Signs `tbs`. Returns COSET_YES if it signed; any other result counts as COSET_NO. The signature is then in `sig`, which
+ * has `cap` bytes, and `*sig_len` is its length. */
 typedef int (*signer)(void *key, const uint8_t *tbs, size_t tbs_len, uint8_t *sig, size_t cap, size_t *sig_len);
 
 /* Writes a token with these claims to `out`, in the order of their labels, signed by ES256. Returns the status, or -1
@@ -36,6 +37,6 @@ int32_t issued(const struct token *t, signer sign, void *key, uint8_t *out, size
   if (!s) s = coset_put_int(COSET_HEADER, NULL, 0, 1, -7, head, sizeof head, &nh);
   if (!s) s = coset_put_bytes(COSET_HEADER, NULL, 0, 4, t->kid.at, t->kid.len, ids, sizeof ids, &ni);
   if (!s) s = coset_structure_of(COSET_SIGN1, head, nh, NULL, 0, NULL, 0, claims, nc, tbs, sizeof tbs, &nt);
-  if (!s && (sign(key, tbs, nt, sig, sizeof sig, &ns) != 1 || ns > sizeof sig)) return -1;
+  if (!s && (sign(key, tbs, nt, sig, sizeof sig, &ns) != COSET_YES || ns > sizeof sig)) return -1;
   return s ? s : coset_make(COSET_SIGN1 + COSET_TAGGED, head, nh, ids, ni, 1, claims, nc, sig, ns, out, cap, len);
 }

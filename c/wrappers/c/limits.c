@@ -54,7 +54,7 @@ static uint8_t out[OUT];
 
 static int yes(void *context, const coset_layer_question *question, uint8_t *plain, size_t cap, size_t *len, coset_text *issuer) {
   *issuer = (coset_text){"coap://as.example.com", 21};
-  return context && question && plain && cap && len;
+  return context && question && plain && cap && len ? COSET_YES : COSET_NO;
 }
 
 /* Verifies a token whose signature must be one of ES256. */

@@ -27,13 +27,13 @@ static uint8_t in[4096], out[8192], made[4096], held[4096], sig[128];
 static size_t in_len, sig_len;
 
 static int yes(void *keys, const coset_question *q) {
-  return (void)keys, q->algorithm == -7 && q->key_id_len && q->input_len && q->proof_len;
+  return (void)keys, q->algorithm == -7 && q->key_id_len && q->input_len && q->proof_len ? COSET_YES : COSET_NO;
 }
 
 static int sign(void *key, const uint8_t *tbs, size_t tbs_len, uint8_t *s, size_t cap, size_t *s_len) {
   (void)key, (void)tbs, (void)cap;
   memcpy(s, sig, *s_len = sig_len);
-  return tbs_len != 0;
+  return tbs_len ? COSET_YES : COSET_NO;
 }
 
 static double now(void) {

@@ -123,7 +123,7 @@ static void name_in(struct script *script, const char *answer, size_t len, coset
 }
 
 /* Gives the next answer of the script. Besides yes, no and a plaintext, it may be one that no caller should give:
- * - `=N` returns the number N, `+N` returns 1 and a length that is N more than the room for the plaintext,
+ * - `=N` returns the number N, `+N` returns COSET_YES and a length that is N more than the room for the plaintext,
  * - `>N` returns COSET_NO_ROOM and the length N,
  * - `~N` returns the number N, and sets no length,
  * - `!` overwrites the question's bytes, and says yes. */
@@ -148,11 +148,11 @@ static int is_opened(void *context, const coset_layer_question *question, uint8_
   if (*answer == '+') *len = cap + strtoull(answer + 1, NULL, 0);
   if (*answer == '>') return *len = strtoull(answer + 1, NULL, 0), COSET_NO_ROOM;
   if (*answer == '=') return atoi(answer + 1);
-  return *answer == 'y' || *answer == 'p' || *answer == '+' || *answer == '!';
+  return *answer && strchr("yp+!", *answer) ? COSET_YES : COSET_NO;
 }
 
-/* Returns 1 if a call with the key of this identifier is accepted: by the identifier, or by `#` and the call's number. The
- * plaintext that may follow after `:` is used once. */
+/* Returns COSET_YES if a call with the key of this identifier is accepted: by the identifier, or by `#` and the call's number.
+ * The plaintext that may follow after `:` is used once. */
 static int is_accepted(struct script *script, const uint8_t *kid, size_t kid_len, uint8_t *plain, size_t cap, size_t *len) {
   size_t rule = 0;
   for (const char *says = script->says; *says; rule++) {
@@ -164,10 +164,10 @@ static int is_accepted(struct script *script, const uint8_t *kid, size_t kid_len
     if (is && says[spells] == ':' && !script->is_used[rule]) script->is_used[rule] = 1, text = spelled(says + spells + 1);
     if (is && text.len > cap) exit(2);
     if (text.len) memcpy(plain, text.at, text.len);
-    if (is) return *len = text.len, free(text.at), 1;
+    if (is) return *len = text.len, free(text.at), COSET_YES;
     says += n + (says[n] == ',');
   }
-  return 0;
+  return COSET_NO;
 }
 
 /* Asks about a layer and a key that fits it. */
@@ -177,7 +177,7 @@ static int by_key(struct script *script, const uint8_t *key, size_t key_len, con
   size_t nonce_len, kid_len;
   if (coset_key_fits(key, key_len, q->form, q->algorithm, q->key_id, q->key_id_len, q->iv, q->iv_len, q->partial_iv,
                      q->partial_iv_len, q->proof, q->proof_len, nonce, sizeof nonce, &nonce_len))
-    return 0;
+    return COSET_NO;
   if (coset_label_bytes(COSET_KEY, key, key_len, COSET_IN_ITEM, 2, kid, sizeof kid, &kid_len)) kid_len = 0;
   char *to = script->layers + strlen(script->layers);
   to = hexadecimal(to + sprintf(to, "%s", script->count ? "," : ""), kid, kid_len);
@@ -193,7 +193,7 @@ static int by_key(struct script *script, const uint8_t *key, size_t key_len, con
 /* Asks each key of the sets that fits, in order. Keys that can't be read are skipped. */
 static int by_ring(void *context, const coset_layer_question *question, uint8_t *plain, size_t cap, size_t *len, coset_text *issuer) {
   struct script *script = context;
-  int is = 0;
+  int is = COSET_NO;
   for (const char *set = script->sets; *set && !is; set += strcspn(set, ","), set += *set == ',') {
     const char *spells = strchr(set, ':');
     struct bytes name = spelled(*set == 't' ? set + 1 : "-"), keys = spelled(spells + 1);
@@ -201,7 +201,8 @@ static int by_ring(void *context, const coset_layer_question *question, uint8_t 
     coset_span key;
     if (coset_count(COSET_ITEM, keys.at, keys.len, &count)) count = 0;
     for (size_t i = 0; i < count && !is; i++)
-      is = !coset_member_span(COSET_ITEM, keys.at, keys.len, i, &key) && by_key(script, keys.at + key.at, key.len, question, plain, cap, len);
+      if (!coset_member_span(COSET_ITEM, keys.at, keys.len, i, &key))
+        is = by_key(script, keys.at + key.at, key.len, question, plain, cap, len);
     if (name.len) memcpy(script->name, name.at, name.len);
     if (is && *set == 't') *issuer = (coset_text){(const char *)script->name, name.len};
     free(name.at), free(keys.at);
@@ -227,7 +228,7 @@ static int by_openssl(void *context, const coset_layer_question *question, uint8
   for (size_t i = 0; i < ring.len; i++) free((void *)(uintptr_t)issuers[i].name.chars), free((void *)(uintptr_t)issuers[i].keys);
   return script->count++, said;
 #else
-  return (void)context, (void)question, (void)plain, (void)cap, (void)len, (void)issuer, 0;
+  return (void)context, (void)question, (void)plain, (void)cap, (void)len, (void)issuer, COSET_NO;
 #endif
 }
 

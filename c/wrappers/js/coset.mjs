@@ -150,6 +150,9 @@ async function contents(at) {
 const KEPT = 64 << 20;
 const compiled = await WebAssembly.compile(await contents(new URL("coset.wasm", import.meta.url)));
 let instance = await WebAssembly.instantiate(compiled);
+// The version of this file. Structs and statuses may differ in another version's module.
+const VERSION_NUMBER = 0x00040207;
+if (versionNumber() !== VERSION_NUMBER) throw new Error(`coset.wasm is of version ${version()}, and coset.mjs of another one`);
 
 function loaded() {
   instance ??= new WebAssembly.Instance(compiled);
@@ -389,10 +392,12 @@ function flagged(content) {
   return content === null ? [0, NOTHING] : [1, bytes(content)];
 }
 
-/** Returns true for an object of no class, such as a literal. */
+/** Returns true for an object of no class, such as a literal, that inherits nothing of the caller's. Its prototype is null, or
+ * the Object.prototype of any realm. */
 function isPlain(it) {
   const proto = typeof it === "object" && it !== null ? Object.getPrototypeOf(it) : undefined;
-  return proto === null || (proto !== undefined && Object.getPrototypeOf(proto) === null);
+  if (proto === null || proto === undefined) return proto === null;
+  return Object.getPrototypeOf(proto) === null && Object.hasOwn(proto, "isPrototypeOf");
 }
 
 /** Returns the options, with defaults for those that aren't given. Nothing is taken from a class or a prototype. An option
@@ -525,6 +530,19 @@ export function itemSpan(data, at) {
   return spans("item_span", 1, bytes(data), size(at))[0];
 }
 
+/** Returns the place of the item at the offset `at` of a longer input, as itemSpan does. Each attempt copies eight times as many
+ * bytes into the module. So a walk over all items doesn't copy the whole input for each of them. */
+function nextSpan(input, at) {
+  for (let width = 64; ; width *= 8) {
+    try {
+      const { start, end } = itemSpan(input.subarray(at, at + width), 0);
+      return Object.freeze({ start: at + start, end: at + end });
+    } catch (error) {
+      if (!(error instanceof Fault) || at + width >= input.length) throw error;
+    }
+  }
+}
+
 /** Returns the place of a string's content. The string has definite length. */
 export function stringSpan(data) {
   return spans("string_span", 1, bytes(data))[0];
@@ -585,8 +603,8 @@ export function mapSpans(kind, data) {
   }
   const found = [first];
   for (let at = first[1].end; at < input.length && input[at] !== 0xff; at = found.at(-1)[1].end) {
-    const name = itemSpan(input, at);
-    found.push([name, itemSpan(input, name.end)]);
+    const name = nextSpan(input, at);
+    found.push([name, nextSpan(input, name.end)]);
   }
   return found;
 }
@@ -706,7 +724,9 @@ function asked(kind, found, algorithms, proof) {
  *
  * `ask` gets the question: `{ kind, algorithm, keyId, keyIdMap, input, proof }`, and no IV. `kind` is SIGN1, SIGN, MAC0 or
  * MAC. `ask` returns true, or a promise of true, if the proof is a signature or MAC of the input, by a key that the caller
- * trusts for that algorithm. Any other answer refuses the message. The bytes are copied before `ask` is called.
+ * trusts for that algorithm. Any other answer refuses the message. The bytes are copied before `ask` is called. It isn't
+ * called for an empty proof, which is refused. No other length of a proof is checked, so compare its length with the
+ * algorithm's before its bytes.
  *
  * `algorithms` are those that are allowed. List only algorithms for that kind: a MAC0's algorithm in a SIGN1's list would be
  * accepted. `critical` are the critical labels that the caller understands, and acts on. Those of a MAC's recipients aren't
@@ -720,7 +740,8 @@ export async function verify(kind, data, options, ask) {
   if (![SIGN1, SIGN, MAC0, MAC].includes(number(kind) & 0xff)) throw new Misuse("a kind without a signature or a tag");
   if (typeof ask !== "function") throw new Misuse("the verifier is a function");
   const found = message(kind, data, rest), payload = rest.detached ?? found.content;
-  if (await ask(Object.freeze(asked(kind, found, algorithms, found.proof))) !== true) throw new Refused(Status.REFUSED);
+  const question = Object.freeze(asked(kind, found, algorithms, found.proof));
+  if (!found.proof.length || await ask(question) !== true) throw new Refused(Status.REFUSED);
   return payload;
 }
 
@@ -769,7 +790,7 @@ function* elements(array) {
   }
   let at = memberSpan(ITEM, array, 0).start;
   for (; number > 0; number--) {
-    const { start, end } = itemSpan(array, at);
+    const { start, end } = nextSpan(array, at);
     yield array.slice(start, end);
     at = end;
   }
@@ -904,7 +925,8 @@ function policy(options) {
  * `keys` is a KeyRing, or a function that is called with each layer:
  * `{ form, algorithm, keyId, keyIdMap, input, proof, iv, partialIv, index }`. It returns true if a key that fits verifies
  * the signature or the MAC. For an ENCRYPT0 it returns the plaintext, as bytes. Null, undefined or false refuses the token.
- * The answer may be an array of one of these and the name of the key's issuer. It may be a promise of any of these.
+ * The answer may be an array of one of these and the name of the key's issuer. It may be a promise of any of these. The
+ * function isn't called for an empty signature or MAC, which is refused.
  *
  * The options are those of the policy in docs/C.md, and `now`, in seconds since 1970 began in UTC. If `now` is null, it is
  * the clock's time. The token must be valid at the whole seconds before and after it. */
@@ -917,7 +939,8 @@ export async function verifyToken(data, keys, options) {
     const [status, text] = writing("token_open", [...words, input, times[0], opened(layers), known], [place]);
     const view = readStruct(LAYER, place);
     if (status === Status.LAYER) {
-      const said = answered(view, await ask(waiting(view, text)));
+      const isEmpty = view.form !== ENCRYPT0 && !view.proof_len;
+      const said = answered(view, isEmpty ? null : await ask(waiting(view, text)));
       const [entry, more] = handed(view, text, ...said, known.length);
       layers.push(entry);
       known = joined([known, more]);

@@ -2,6 +2,7 @@
  * that aren't what they should be. The expected values follow from the calls' comments, or are parts of what the test made. */
 import assert from "node:assert/strict";
 import { readFileSync } from "node:fs";
+import { runInNewContext } from "node:vm";
 import * as coset from "coset-rattle";
 
 const { SIGN1, MAC0, ENCRYPT0, CLAIMS, HEADER, KEY, KEY_SET, ITEM, TAGGED, EITHER, IN_ITEM, PAYLOAD } = coset;
@@ -234,6 +235,53 @@ const tests = {
     const layer = { form: MAC0, algorithm: 5, keyId: null, iv: null, partialIv: null, proof: new Uint8Array(32) };
     assert.deepEqual(coset.keyFits(key, layer), NONE);
     for (const field of Object.keys(layer)) assert.ok(await thrown(() => coset.keyFits(key, { ...layer, [field]: undefined })) instanceof coset.Misuse, field);
+  },
+
+  async "nothing is taken from a prototype"() {
+    const open = layer => [layer.form === ENCRYPT0 ? layer.proof : true, "as"], required = { ...POLICY, required: [8] };
+    const base = Object.assign(Object.create(null), required), { Object: Other } = runInNewContext("({ Object })");
+    class Options {}
+    const inherited = [Object.create(base), Object.assign(Object.create(base), POLICY), Object.create(required), Object.create(Object.create(null)),
+      Object.assign(new Options(), POLICY), await import("coset-rattle"), Object.create(await import("coset-rattle")), [], () => 1, null, undefined, 1, "x"];
+    for (const options of inherited) assert.ok(await thrown(() => coset.verifyToken(nested(1), open, options)) instanceof coset.Misuse, typeof options);
+    for (const options of [required, base, Other.assign(new Other(), required)]) {
+      assert.equal((await thrown(() => coset.verifyToken(nested(1), open, options))).reason, "MISSING");
+    }
+  },
+
+  async "an empty signature or MAC is refused, and nobody is asked"() {
+    const never = () => assert.fail("the verifier is called");
+    for (const [kind, algorithm] of [[SIGN1, -7], [MAC0, 5]]) {
+      const message = coset.make(kind + TAGGED, coset.put(HEADER, NONE, 1, algorithm), NONE, { content: claims(1) });
+      assert.equal((await thrown(() => coset.verify(kind + TAGGED, message, { algorithms: [algorithm] }, never))).reason, "REFUSED");
+      assert.equal((await thrown(() => coset.verify(kind + TAGGED, message, { algorithms: [1] }, never))).reason, "NOT_ALLOWED");
+      const error = await thrown(() => coset.verifyToken(message, never, { algorithms: [algorithm], now: 1000 }));
+      assert.deepEqual([error.name, error.reason, error.layer], ["InvalidToken", "REFUSED", 0]);
+    }
+  },
+
+  async "a map and an array of many items are walked in little time"() {
+    const pairs = 100_000, map = new Uint8Array(5 + 10 * pairs), array = new Uint8Array(5 + 2 * pairs);
+    map.set([0xba, 0, 1, 0x86, 0xa0]);
+    array.set([0x9a, 0, 1, 0x86, 0xa0]);
+    for (let i = 0; i < pairs; i++) {
+      map.set([0x1a, 0, i >> 16, i >> 8 & 255, i & 255, 0x44, 1, 2, 3, 4], 5 + 10 * i);
+      array.set([0x18, 0x40], 5 + 2 * i);
+    }
+    const began = process.cpuUsage(), found = coset.mapSpans(ITEM, map);
+    assert.equal(found.length, pairs);
+    found.forEach(([name, value], i) => assert.deepEqual([name.start, name.end, value.start, value.end], [0, 5, 5, 10].map(at => 5 + 10 * i + at)));
+    assert.equal(coset.readableKeys(array).length, 0); // each element is one integer, and no key
+    const { user, system } = process.cpuUsage(began);
+    assert.ok(user + system < 40e6, `the walks took ${user + system} microseconds`);
+  },
+
+  async "places of long items, and at the end"() {
+    const long = new Uint8Array(40_000).fill(0x61), item = coset.putAll(ITEM, NONE, [[1, long], ["a", 2], [3, long.subarray(0, 61)], [4, NONE]]);
+    const found = coset.mapSpans(ITEM, item).map(places => places.map(({ start, end }) => end - start));
+    assert.deepEqual(found, [[1, 40_003], [2, 1], [1, 63], [1, 1]]);
+    const chunks = Uint8Array.of(0xbf, 1, 0x9f, ...Array.from({ length: 600 }, (_, i) => i % 24), 0xff, 2, 0x5f, 0x41, 1, 0xff, 0xff);
+    assert.deepEqual(coset.mapSpans(ITEM, chunks).flat().map(({ start, end }) => [start, end]), [[1, 2], [2, 604], [604, 605], [605, 609]]);
   },
 
   async "the question has the plain kind"() {

@@ -1,6 +1,8 @@
 """Tests of the wrapper apart from its calls (tools/c): errors pass to another process, and numbers and values without a
 meaning are refused."""
+import array
 import copy
+import ctypes
 import hashlib
 import pickle
 
@@ -98,6 +100,29 @@ key = coset.put_all(coset.KEY, b"", {1: 2, 2: b"kid", 3: -7, -1: 1, -2: bytes(32
 layer = coset.Layer(coset.SIGN1, -7, b"other", None, b"", bytes(64), None, None, 0)
 for form in (bytes, bytearray, Bytes):
     assert coset.key_fits(key, layer._replace(key_id=form(b"kid"))) == b"" and coset.key_fits(key, layer._replace(key_id=form(b"other"))) is None
+
+# An empty signature or MAC is refused, and nobody is asked.
+for kind, number in ((coset.SIGN1, -7), (coset.MAC0, 5)):
+    empty = coset.make(kind + coset.TAGGED, coset.put(coset.HEADER, b"", 1, number), b"", b"\xa1\x04\x1907")
+    assert type(raised(coset.verify, kind + coset.TAGGED, empty, [number], lambda question: 1 / 0)) is coset.Refused
+    assert type(raised(coset.verify, kind + coset.TAGGED, empty, [1], lambda question: 1 / 0)) is coset.NotAllowed
+    error = raised(coset.verify_token, empty, lambda layer: 1 / 0, [number], now=1)
+    assert (type(error), error.reason, error.layer) == (coset.InvalidToken, coset.Status.REFUSED, 0)
+
+# Bytes are bytes, and not the memory of numbers.
+numbers = (ctypes.c_int64(5), array.array("I", [5]), array.array("B", [5]), (ctypes.c_ubyte * 1)(5), memoryview(array.array("I", [5])), [5], 5.0, None)
+for wrong in numbers:
+    assert type(raised(coset.check, coset.ITEM, wrong)) is TypeError, wrong
+    assert type(raised(coset.decrypt, coset.ENCRYPT0, sealed, [1], lambda question: wrong)) is (coset.Refused if wrong is None else TypeError), wrong
+    if not isinstance(wrong, float):
+        for call, more in ((coset.put, (1, wrong)), (coset.put, ("a", wrong)), (coset.put_encoded, (1, wrong)), (coset.put_all, ({1: wrong},))):
+            assert type(raised(call, coset.ITEM, b"", *more)) is TypeError, (call, wrong)
+for form in (bytes, bytearray, memoryview, Bytes, coset.Encoded, lambda data: memoryview(data).cast("b"), lambda data: memoryview(data).cast("c"),
+             lambda data: memoryview((ctypes.c_ubyte * len(data))(*data)), lambda data: memoryview(data + data)[: len(data)]):
+    assert coset.check(coset.ITEM, form(b"\x05")) is None and coset.put_encoded(coset.ITEM, b"", 1, form(b"\x05")) == b"\xa1\x01\x05"
+    assert coset.decrypt(coset.ENCRYPT0, sealed, [1], lambda question: form(b"plain")) == b"plain"
+    if form is not coset.Encoded:
+        assert coset.put(coset.ITEM, b"", 1, form(b"x")) == coset.put_all(coset.ITEM, b"", {1: form(b"x")}) == b"\xa1\x01\x41x"
 
 # The question has the plain kind, and at most one IV.
 for kind in (coset.SIGN1, coset.MAC0):

@@ -1201,6 +1201,9 @@ impl LentMessage<'_> {
 /// caller trusts for that algorithm. Nothing else is checked: for a web token call
 /// [`verify_token`]. The critical labels of the recipients of a `Kind::Mac` aren't looked at.
 ///
+/// `verify` isn't called for an empty proof, which is refused. No other length of a proof is
+/// checked, so compare its length with the algorithm's before its bytes.
+///
 /// For a message with signers, the question is about the signer at `index`. The caller decides
 /// which signers are enough. A signature may be in the list twice: count keys, not indices. For
 /// another kind, an index other than 0 is `Misuse`.
@@ -1215,7 +1218,8 @@ pub fn verify(
         return Err(Error::Misuse);
     }
     let found = message_lent(kind, bytes, index, policy)?;
-    if !verify(&found.asked(kind, policy, &found.proof)?) {
+    let question = found.asked(kind, policy, &found.proof)?;
+    if found.proof.is_empty() || !verify(&question) {
         return Err(Error::Refused);
     }
     Ok(policy.detached.map_or_else(|| found.content.into_owned(), <[u8]>::to_vec))
@@ -1426,7 +1430,8 @@ impl Handed {
 /// Verifies a web token (RFC 8392) at `now`, in seconds since 1970 began in UTC.
 ///
 /// `opener` is called for each layer, and must accept it. It accepts a signature or a MAC that a key
-/// verifies, and answers an encrypted layer with its plaintext. `None` refuses the token.
+/// verifies, and answers an encrypted layer with its plaintext. `None` refuses the token. An empty
+/// signature or MAC is refused, and `opener` isn't called for it.
 /// [`key_fits`] says which keys fit the layer.
 ///
 /// # Errors
@@ -1462,7 +1467,8 @@ pub fn verify_token<'a>(
             LAYER => {
                 let layer = Layer::of(&view, &out[..len]);
                 let refused = |reason| InvalidToken { reason, layer: Some(layer.index), number: None };
-                let accepted = opener(&layer).ok_or(refused(Error::Refused))?;
+                let is_empty = layer.form != TokenForm::Encrypt0 && layer.proof.is_empty();
+                let accepted = if is_empty { None } else { opener(&layer) }.ok_or(refused(Error::Refused))?;
                 handed.push(&layer, &accepted).map_err(refused)?;
                 let inner = accepted.plaintext.map_or(0, |bytes| bytes.len().saturating_sub(layer.proof.len()));
                 out.resize(out.len() + 2 * (inner + accepted.issuer.map_or(0, str::len)), 0);

@@ -664,6 +664,9 @@ func asked(kind Kind, found *Message, algorithms []int64, proof []byte) (*Questi
 // Verify returns the payload of a message with signatures or a MAC, after the verifier said yes. The kind is Sign1, Sign,
 // Mac0 or Mac, with Tagged, Either or neither added. Nothing else is checked: for a web token call VerifyToken.
 //
+// The verifier isn't called for an empty signature or MAC, which is refused. No other length of a proof is checked, so compare
+// its length with the algorithm's before its bytes.
+//
 // List only algorithms for that kind: a Mac0's algorithm in a Sign1's list would be accepted. The critical labels of a Mac's
 // recipients aren't looked at.
 //
@@ -689,7 +692,7 @@ func Verify(kind Kind, data []byte, algorithms []int64, verifier Verifier, o Opt
 	if err != nil {
 		return nil, err
 	}
-	if !verifier.Verify(question) {
+	if len(found.Proof) == 0 || !verifier.Verify(question) {
 		return nil, ErrRefused
 	}
 	if o.Detached != nil {
@@ -944,8 +947,11 @@ func moments(now time.Time) []int64 {
 	return []int64{now.Unix()}
 }
 
-// open opens the layer that waits.
+// open opens the layer that waits. An empty signature or MAC is refused.
 func (o *opening) open(view *C.coset_layer, text []byte, opener Opener) error {
+	if view.form != C.COSET_ENCRYPT0 && view.proof_len == 0 {
+		return &InvalidToken{ErrRefused, int(view.index), 0}
+	}
 	opened, err := opener.Open(waiting(view, text))
 	if err != nil {
 		return err
@@ -956,9 +962,9 @@ func (o *opening) open(view *C.coset_layer, text []byte, opener Opener) error {
 	return o.append(view, text, opened)
 }
 
-// VerifyToken verifies a web token (RFC 8392). The opener, such as a *KeyRing, gets each layer from the outermost in. If the
-// token is refused, the error is an *InvalidToken. ErrMisuse means that an argument or an answer has no meaning, such as an
-// unassigned algorithm, or a signature that has a plaintext.
+// VerifyToken verifies a web token (RFC 8392). The opener, such as a *KeyRing, gets each layer from the outermost in. It isn't
+// called for an empty signature or MAC, which is refused. If the token is refused, the error is an *InvalidToken. ErrMisuse means
+// that an argument or an answer has no meaning, such as an unassigned algorithm, or a signature that has a plaintext.
 func VerifyToken(data []byte, opener Opener, policy TokenPolicy) (*VerifiedToken, error) {
 	if opener == nil || policy.Leeway > math.MaxInt64 || policy.MaxAge > math.MaxInt64 {
 		return nil, ErrMisuse

@@ -260,3 +260,28 @@ func TestFractionsOfSeconds(t *testing.T) {
 		}
 	}
 }
+
+func TestEmptyProofs(t *testing.T) {
+	never := OpenerFunc(func(*Layer) (*Opened, error) {
+		t.Fatal("the opener is called")
+		return nil, nil
+	})
+	for kind, algorithm := range map[Kind]int64{Sign1: ES256, Mac0: HMAC256_256} {
+		header := must(t)(PutInt(Header, nil, 1, algorithm))
+		empty := must(t)(Make(kind+Tagged, header, nil, must(t)(PutInt(Claims, nil, 4, 2000)), nil))
+		verifier := VerifierFunc(func(*Question) bool {
+			t.Fatal("the verifier is called")
+			return true
+		})
+		for allowed, want := range map[int64]error{algorithm: ErrRefused, A128GCM: ErrNotAllowed} {
+			if _, err := Verify(kind+Tagged, empty, []int64{allowed}, verifier, Options{}); err != want {
+				t.Errorf("an empty proof for the algorithm %d: %v", allowed, err)
+			}
+		}
+		_, err := VerifyToken(empty, never, TokenPolicy{Algorithms: []int64{algorithm}, Now: time.Unix(1000, 0)})
+		var refusal *InvalidToken
+		if !errors.As(err, &refusal) || !errors.Is(err, ErrRefused) || refusal.Layer != 0 {
+			t.Errorf("a token with an empty proof: %v", err)
+		}
+	}
+}

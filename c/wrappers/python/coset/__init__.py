@@ -432,8 +432,13 @@ def _raise(status, offset=None):
 
 
 def _bytes(data):
-    """Returns the bytes of any bytes-like object, and their number."""
+    """Returns the bytes of a bytes, a bytearray or a memoryview of bytes, and their number. Other objects with a buffer, such
+    as arrays of numbers, would give the memory in which this processor keeps them."""
     if type(data) is not bytes:
+        if not isinstance(data, (bytes, bytearray, memoryview)):
+            raise TypeError(f"bytes, a bytearray or a memoryview is needed, not {type(data).__name__}")
+        if isinstance(data, memoryview) and data.format.lstrip("@=<>!") not in ("B", "b", "c"):
+            raise TypeError(f"a memoryview of bytes is needed, not of the format {data.format}")
         data = bytes(memoryview(data))
     return data, len(data)
 
@@ -541,7 +546,8 @@ def label_span(kind, data, which, name):
 
 def item_span(data, at):
     """Returns the place of the item that begins at the offset `at`, as received: a slice. The next element of an array,
-    or the next label or value of a map, begins where the item ends."""
+    or the next label or value of a map, begins where the item ends. A bytearray or a memoryview is copied in each call, so
+    a walk over many items takes bytes."""
     span = _Span()
     _raise(_library.coset_item_span(*_bytes(data), _size(at), ctypes.byref(span)))
     return _slice(span)
@@ -759,7 +765,8 @@ def verify(kind, data, algorithms, verify, index=0, critical=(), external_aad=b"
     or MAC, with TAGGED, EITHER or neither added. Nothing else is checked: for a web token call `verify_token`.
 
     `verify` returns True if the question's proof is a signature or MAC of its input, by a key that the caller trusts
-    for that algorithm. `algorithms` are those that are allowed. List only algorithms for that kind: a MAC0's algorithm
+    for that algorithm. It isn't called for an empty proof, which is refused. No other length of a proof is checked, so
+    compare its length with the algorithm's before its bytes. `algorithms` are those that are allowed. List only algorithms for that kind: a MAC0's algorithm
     in a SIGN1's list would be accepted. `critical` are the critical labels that the caller understands, and acts on.
     Those of a MAC's recipients aren't looked at.
 
@@ -770,7 +777,8 @@ def verify(kind, data, algorithms, verify, index=0, critical=(), external_aad=b"
         raise Misuse("a kind without a signature or a tag")
     own = None if detached is None else _bytes(detached)[0]
     found = message(kind, data, index, critical, external_aad, own)
-    if verify(_asked(kind, found, algorithms, found.proof)) is not True:
+    question = _asked(kind, found, algorithms, found.proof)
+    if not found.proof or verify(question) is not True:
         raise Refused("the signature or the tag is refused")
     return found.content if own is None else own
 
@@ -796,9 +804,10 @@ def _in_either(kind, data, name):
 def decrypt(kind, data, algorithms, decrypt, critical=(), external_aad=b"", detached=None):
     """Returns the plaintext of an ENCRYPT0, with TAGGED, EITHER or neither added.
 
-    `decrypt` receives the question, whose proof is the ciphertext, with the IV and the partial IV. It returns the
-    plaintext as bytes, or None or False if the ciphertext isn't authentic by a key that the caller trusts. Any other
-    answer is a TypeError. The other arguments are those of `verify`.
+    `decrypt` receives the question, whose proof is the ciphertext, with the IV and the partial IV. Their lengths aren't
+    checked: the ciphertext may be shorter than a tag. `decrypt` returns the plaintext as bytes, or None or False if the
+    ciphertext isn't authentic by a key that the caller trusts. Any other answer is a TypeError. The other arguments are
+    those of `verify`.
 
     Raises WrongHeaders if the message has both an IV and a partial IV (RFC 8152, section 3.1)."""
     if _kind(kind) & 0xFF != ENCRYPT0:
@@ -922,16 +931,16 @@ def _accepted(form, said):
     if form == ENCRYPT0:
         if not isinstance(said, (bytes, bytearray, memoryview)):
             raise TypeError("for a ciphertext the answer is its plaintext as bytes, or None")
-        return bytes(said)
+        return _bytes(said)[0]
     if said is not True:
         raise TypeError("for a signature or a MAC the answer is True, False or None")
     return True
 
 
-def _answered(layer, said):
-    """Returns the plaintext of the layer, and the name of an issuer or None. A signature or a MAC has no plaintext.
-    Raises InvalidToken if the answer is a refusal."""
-    name = None
+def _answered(layer, keys):
+    """Returns the plaintext of the layer by the answer of `keys`, and the name of an issuer or None. A signature or a MAC
+    has no plaintext. Raises InvalidToken if the answer is a refusal, or if a signature or MAC is empty."""
+    said, name = None if layer.form != ENCRYPT0 and not layer.proof else keys(layer), None
     if isinstance(said, tuple):
         if len(said) != 2:
             raise TypeError("the answer is one value, or a pair of it and the issuer's name")
@@ -980,7 +989,8 @@ def verify_token(data, keys, algorithms, *, audience=(), types=(), required=(), 
 
     - `keys` is a KeyRing. Or it is a function that is called with each Layer. It returns True if a key that fits
       verifies the signature or the MAC. For an ENCRYPT0 it returns the plaintext, as bytes. None or False refuses the
-      token. The function may return a pair: one of these, and the name of the key's issuer.
+      token. The function may return a pair: one of these, and the name of the key's issuer. It isn't called for an
+      empty signature or MAC, which is refused.
     - `algorithms` are the numbers of the allowed algorithms, such as ES256. Each layer must name one of them that is
       for its form.
     - `audience` has the caller's own names. `aud` must contain one of them. If there is none, a token with `aud` is
@@ -990,7 +1000,8 @@ def verify_token(data, keys, algorithms, *, audience=(), types=(), required=(), 
     - `required` are the numbers of claims that the token must have.
     - `critical` are the critical labels that the caller understands, and acts on.
     - `leeway` is the number of seconds by which the clocks of issuer and verifier may differ.
-    - `max_age` is the age in seconds since `iat` at which a token is refused. If it is None, there is no such age.
+    - `max_age` is the age in seconds since `iat`, plus `leeway`, at which a token is refused. If it is None, there is no
+      such age.
     - `untagged_form` is the form of an outermost layer without a tag.
     - `authenticated_by` says which layers authenticate the sender: 0 for a signature or a MAC, BY_SIGNATURE or BY_ANY.
     - `may_not_expire` accepts a token without `exp`, and `may_be_issued_later` one with an `iat` after `now`.
@@ -1014,7 +1025,7 @@ def verify_token(data, keys, algorithms, *, audience=(), types=(), required=(), 
         status, text, view = _token_open(given, data, moments[0], layers, known)
         if status == _LAYER:
             layer = _layer(view, text)
-            entry, more = _handed(layer, *_answered(layer, keys(layer)), len(known))
+            entry, more = _handed(layer, *_answered(layer, keys), len(known))
             layers.append(entry)
             known += more
         elif status != _OK:
@@ -1187,7 +1198,7 @@ def _pair(name, value, parts):
         pair.value_form, (pair.value_at, pair.value_len) = TEXT, _part(value.encode(), parts)
     else:
         form = ENCODED if isinstance(value, Encoded) else BYTES
-        pair.value_form, (pair.value_at, pair.value_len) = form, _part(memoryview(value), parts)
+        pair.value_form, (pair.value_at, pair.value_len) = form, _part(_bytes(value)[0], parts)
     return pair
 
 
