@@ -177,13 +177,13 @@ function linkRemarks() {
   return found;
 }
 
-async function copyLink(event) {
+function copyLink(event) {
   const digits = digitsOf(0, rows.count);
   if (digits.length > 2 * LINK) return at("read").textContent = `no link: it would contain more than ${LINK} bytes`;
   if (hasSecret()) return at("read").textContent = "no link: it would contain a private or symmetric key";
   if (mayHide()) return at("read").textContent = "no link: bytes that aren't taken apart may be a private or symmetric key";
-  await copied(event.target, `${location.href.split("#")[0]}#${digits}`);
   if (linkRemarks().length) at("read").textContent = linkRemarks().join("; ");
+  copied(event.target, `${location.href.split("#")[0]}#${digits}`);
 }
 
 // ---- Input: files, samples, links, typing
@@ -199,7 +199,7 @@ async function open(files) {
     if (mine !== waiting) return;
     clearResult();
     say("refused", "Not read");
-    return at("status").append(": ", element("bdi", name), ` can't be read, as a file can be and a folder can't: ${error.message || error}`);
+    return at("status").append(": ", element("bdi", name), ` can't be read. The browser says: ${error.message || error}`);
   }
   at("input").value = "";
   at("file").value = "";
