@@ -225,8 +225,9 @@ def unchecked(signer, authenticator):
     yield "alg outside", outside, b"", signer.cose().hex(), [("open", "Signature not checked: its protected header names no algorithm.")]
     yield "a MAC as a signature", message(authenticator)[1:], b"", authenticator.cose().hex(), [
         ("open", "Signature not checked: HMAC 256/256 is no algorithm for a signature, so the message may be of another kind.")]
-    text = start + byte_string(mapped((1, head(3, 3000) + b"a" * 3000))) + b"\xa0" + end
-    yield "a long text as alg", text, b"", signer.cose().hex(), [("open", f'Signature not checked: this page doesn\'t check algorithm "{"a" * 1999}… (cut).')]
+    for text, name in ((b"a" * 20, f'algorithm "{"a" * 20}"'), (b"a" * 3000, "an algorithm with a long name")):
+        made = start + byte_string(mapped((1, head(3, len(text)) + text))) + b"\xa0" + end
+        yield name, made, b"", signer.cose().hex(), [("open", f"Signature not checked: this page doesn't check {name}.")]
 
 
 def of_many_keys(by_name, other):

@@ -152,7 +152,7 @@ function plainVerdict(seal) {
   const open = why => ({ seal, state: "open", said: [`${title} not checked: ${why}.`] });
   if (seal.structure === "-") return open("its content is detached, or isn't known here");
   if (seal.algorithm === "-") return open("its protected header names no algorithm");
-  if (!name) return open(`this page doesn't check algorithm ${cut(seal.algorithm, "cut")}`);
+  if (!name) return open(`this page doesn't check ${seal.algorithm.length < 100 ? `algorithm ${seal.algorithm}` : "an algorithm with a long name"}`);
   if ((cipher === "HMAC") !== isMac) return open(`${name} is no algorithm for a ${isMac ? "MAC" : "signature"}, so the message may be of another kind`);
   if (!length || seal.proof.length === 2 * length) return null;
   return { seal, state: "wrong", isByLength: true, said: [`${title} can't be right: ${name} has ${length} bytes, and this one ${seal.proof.length / 2}.`] };
