@@ -166,7 +166,7 @@ function hasSecret() {
 
 // Returns true if bytes that aren't taken apart may be a key's: DER, and what follows a fault outside messages.
 function mayHide() {
-  return /\bDER\b/.test(rows.said + rows.summary) || (firstRefused() >= 0 && messageFrom(0) < 0);
+  return /\bDER\b/.test(rows.said) || (firstRefused() >= 0 && messageFrom(0) < 0);
 }
 
 // Returns what a link leaves out, and what it gives away.
