@@ -178,8 +178,10 @@ def of_algorithm(signer, other):
     yield f"{name}, a bit of the content", changed(made, made.index(CONTENT)), b"", signer.cose().hex(), wrong
     yield f"{name}, a bit of the proof", changed(made, len(made) - 1), b"", signer.cose().hex(), wrong
     if is_mac:
-        cut = made[: -signer.length - len(head(2, signer.length))] + byte_string(bytes(7))
-        yield f"{name}, a short MAC", cut, b"", signer.cose().hex(), [("wrong", f"MAC can't be right: {name} has {signer.length} bytes, and this one 7.")]
+        for size in (0, 7):
+            cut = made[: -signer.length - len(head(2, signer.length))] + byte_string(bytes(size))
+            told = [("wrong", f"MAC can't be right: {name} has {signer.length} bytes, and this one {size}.")]
+            yield f"{name}, a short MAC", cut, b"", signer.cose().hex(), told
     told = [("verified", f"{title} verified by key 'our key' ({name}, with the given external_aad).")]
     yield f"{name}, external_aad", message(signer, b"more"), b"more", signer.cose().hex(), told
     yield f"{name}, no external_aad", message(signer, b"more"), b"", signer.cose().hex(), wrong

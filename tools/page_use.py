@@ -276,7 +276,10 @@ def inside(page):
         found = page.run('[...at("verdicts").children].map(it => [it.className, it.textContent])')
         if found != [["open", unused]]:
             yield f"of a key that checks nothing is said: {found}"
-    page.run('at("key").value = ""')
+    show(page, "clearFields(); type('d18443a10105a0410040')")
+    found = page.run('[at("rows").querySelector(".row.c").classList.contains("wrong"), at("ciphers").hidden, at("verdicts").textContent]')
+    if found != [True, True, "MAC can't be right: HMAC 256/256 has 32 bytes, and this one 0."]:
+        yield f"a MAC without bytes: {found}"
 
 
 def fails(page):

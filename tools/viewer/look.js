@@ -210,9 +210,9 @@ async function open(files) {
 }
 
 // Puts a file into the key field: as text, or in hexadecimal if it is none.
-async function openKey([given]) {
+async function openKey([first]) {
   try {
-    const bytes = new Uint8Array(await given.arrayBuffer()), text = decoder.decode(bytes);
+    const bytes = new Uint8Array(await first.arrayBuffer()), text = decoder.decode(bytes);
     at("key").value = /[^\P{Cc}\s]|\ufffd/u.test(text) ? hexOf(bytes) : text;
     showAgain();
   } catch (error) {

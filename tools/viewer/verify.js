@@ -32,7 +32,7 @@ function sealsIn(text, places) {
     const [sort, ...fields] = line.split("\t");
     if (sort === "S") {
       const [name, form, algorithm, structure, proof, headers] = fields;
-      seals.push({ name, form, algorithm, structure, proof, headers: headers || "-", keys: [] });
+      seals.push({ name, form, algorithm, structure, proof: proof === "-" ? "" : proof, headers: headers || "-", keys: [] });
     } else if (sort === "K") {
       const [index, kid, verdict, kty, crv, ...members] = fields;
       seals[seals.length - 1].keys.push({ index: placeOf(index), kid, verdict, kty, crv, ...Object.fromEntries(members.map(it => it.split("="))) });
