@@ -177,6 +177,11 @@ def of_algorithm(signer, other):
     yield f"{name}, another key", made, b"", other.cose().hex(), wrong
     yield f"{name}, a bit of the content", changed(made, made.index(CONTENT)), b"", signer.cose().hex(), wrong
     yield f"{name}, a bit of the proof", changed(made, len(made) - 1), b"", signer.cose().hex(), wrong
+    if is_mac:
+        for size in (0, 7):
+            cut = made[: -signer.length - len(head(2, signer.length))] + byte_string(bytes(size))
+            told = [("wrong", f"MAC can't be right: {name} has {signer.length} bytes, and this one {size}.")]
+            yield f"{name}, a short MAC", cut, b"", signer.cose().hex(), told
     told = [("verified", f"{title} verified by key 'our key' ({name}, with the given external_aad).")]
     yield f"{name}, external_aad", message(signer, b"more"), b"more", signer.cose().hex(), told
     yield f"{name}, no external_aad", message(signer, b"more"), b"", signer.cose().hex(), wrong
@@ -194,6 +199,37 @@ def misfits(signer):
     critical = message(signer, more=((2, head(4, 1) + integer(-70000)), (-70000, integer(1))))
     yield "crit", critical, b"", signer.cose().hex(), [
         ("open", "Signature is of key 'our key' (ES256), but the message has critical labels (crit), and this page processes none.")]
+
+
+def without_kid(signer, other):
+    """Yields cases with keys that have no kid, for a message that names one."""
+    for key in (signer.pem(), signer.jwk(kid=None), mapped((3, integer(signer.number)), *signer.members()[1]).hex()):
+        yield f"no kid {key[:30]}", message(signer), b"", key, [
+            ("verified", "Signature verified by key 0 (ES256).", "The message names a kid, and this key has none.")]
+    yield "no kid, and another key", message(signer), b"", other.pem(), [
+        ("wrong", "Signature does not verify with key 0 (ES256).", "The message names a kid, and a key without one may be of somebody else.")]
+
+
+def of_names(by_name):
+    """Yields cases with algorithms that fix the curve (RFC 9864), for keys that name none or that of JOSE."""
+    for name, number, made in (("ES256", -9, "ESP256"), ("ES384", -51, "ESP384"), ("ES512", -52, "ESP512"), ("EdDSA", -19, "Ed25519")):
+        signer = by_name[name]
+        named = message(Signer(name, number, signer.key, signer.bits), kid=b"")
+        keys = [signer.pem(), signer.jwk(kid=None, alg=None), *([signer.jwk(kid=None)] if name in ECDSA else [])]
+        for key in keys:
+            yield f"{made} {key[:30]}", named, b"", key, [("verified", f"Signature verified by key 0 ({made}).")]
+
+
+def unchecked(signer, authenticator):
+    """Yields cases with algorithms that the page doesn't check."""
+    start, end = b"\xd2\x84", byte_string(CONTENT) + byte_string(bytes(64))
+    outside = start + b"\x40" + mapped((1, integer(signer.number))) + end
+    yield "alg outside", outside, b"", signer.cose().hex(), [("open", "Signature not checked: its protected header names no algorithm.")]
+    yield "a MAC as a signature", message(authenticator)[1:], b"", authenticator.cose().hex(), [
+        ("open", "Signature not checked: HMAC 256/256 is no algorithm for a signature, so the message may be of another kind.")]
+    for text, name in ((b"a" * 20, f'algorithm "{"a" * 20}"'), (b"a" * 3000, "an algorithm with a long name")):
+        made = start + byte_string(mapped((1, head(3, len(text)) + text))) + b"\xa0" + end
+        yield name, made, b"", signer.cose().hex(), [("open", f"Signature not checked: this page doesn't check {name}.")]
 
 
 def of_many_keys(by_name, other):
@@ -250,10 +286,10 @@ def of_headers(signer, authenticator):
 
 def of_several(first, second):
     """Yields cases with several signatures, the first by ES256, and the second by ES384."""
-    both, one = head(4, 2) + first.cose() + second.cose(), "Signature 0 verified by key 'our key' (ES256)."
-    yield "two signers", signed_by(first, second), b"", both.hex(), [("verified", one), ("verified", "Signature 1 verified by key 'our key' (ES384).")]
+    both, one = head(4, 2) + first.cose() + second.cose(), "Signature 0 verified by key 0 'our key' (ES256)."
+    yield "two signers", signed_by(first, second), b"", both.hex(), [("verified", one), ("verified", "Signature 1 verified by key 1 'our key' (ES384).")]
     made = signed_by(first, second)
-    wrong = ("wrong", "Signature 1 does not verify with key 'our key' (ES384).")
+    wrong = ("wrong", "Signature 1 does not verify with key 1 'our key' (ES384).")
     yield "two signers, one is wrong", changed(made, len(made) - 1), b"", both.hex(), [("verified", one), wrong]
 
 
@@ -267,5 +303,8 @@ def cases():
     yield from misfits(by_name["ES256"])
     yield from unusable(by_name["ES256"])
     yield from of_edwards(by_name["EdDSA"])
+    yield from without_kid(by_name["ES256"], others["ES256"])
+    yield from of_names(by_name)
+    yield from unchecked(by_name["ES256"], by_name["HMAC 256/256"])
     yield from of_headers(by_name["ES256"], by_name["HMAC 256/256"])
     yield from of_several(by_name["ES256"], by_name["ES384"])

@@ -23,7 +23,9 @@ function button(text, action) {
 }
 
 function bytesOfHex(digits) {
-  return Uint8Array.from(digits.match(/../g) ?? [], it => parseInt(it, 16));
+  const bytes = new Uint8Array(digits.length >> 1);
+  for (let i = 0; i < bytes.length; i++) bytes[i] = parseInt(digits.slice(2 * i, 2 * i + 2), 16);
+  return bytes;
 }
 
 function hexOf(bytes) {

@@ -3,8 +3,10 @@ const KEY_LABELS = { kty: 1, kid: 2, alg: 3, key_ops: 4 };
 const KEY_TYPES = { OKP: 1, EC: 2, RSA: 3, oct: 4 };
 const CURVES = { "P-256": 1, "P-384": 2, "P-521": 3, X25519: 4, X448: 5, Ed25519: 6, Ed448: 7, secp256k1: 8 };
 const ALGORITHMS = { ES256: -7, ES384: -35, ES512: -36, EdDSA: -8, Ed25519: -19, PS256: -37, PS384: -38, PS512: -39, RS256: -257, RS384: -258,
-  RS512: -259, HS256: 5, HS384: 6, HS512: 7, ES256K: -47 };
-const ALGORITHM_OF_CURVE = { "P-256": "ES256", "P-384": "ES384", "P-521": "ES512", Ed25519: "EdDSA" };
+  RS512: -259, HS256: 5, HS384: 6, HS512: 7, ES256K: -47, ESP256: -9, ESP384: -51, ESP512: -52 };
+// The algorithms of a key without alg, by its curve or type. JOSE's ES256 is COSE's ESP256 too, since both fix the curve (RFC 9864).
+const ALGORITHMS_OF = { "P-256": ["ES256", "ESP256"], "P-384": ["ES384", "ESP384"], "P-521": ["ES512", "ESP512"], Ed25519: ["EdDSA", "Ed25519"],
+  RSA: ["PS256", "PS384", "PS512", "RS256", "RS384", "RS512"] };
 const OPERATIONS = { sign: 1, verify: 2, encrypt: 3, decrypt: 4, wrapKey: 5, unwrapKey: 6, deriveKey: 7, deriveBits: 8 };
 const MAC_OPERATIONS = { sign: 9, verify: 10 };
 const MEMBERS = { OKP: [[-2, "x"]], EC: [[-2, "x"], [-3, "y"]], RSA: [[-1, "n"], [-2, "e"]], oct: [[-1, "k"]] };
@@ -36,27 +38,36 @@ function setOf(keys) {
   return Uint8Array.from([...headOf(4, keys.length), ...keys.flat()]);
 }
 
-// Returns the name of the algorithm that a key is for, or nothing. A key without one is for that of its curve.
-function algorithmOf(jwk) {
-  return jwk.alg ?? ALGORITHM_OF_CURVE[jwk.crv];
+// Returns what a table has under a name, or nothing. A table also inherits names, such as "constructor".
+function under(table, name) {
+  return typeof name === "string" && Object.hasOwn(table, name) ? table[name] : undefined;
 }
 
-function operationsOf(jwk) {
-  const numbers = jwk.key_ops.map(it => (jwk.kty === "oct" && MAC_OPERATIONS[it]) || OPERATIONS[it]);
-  if (numbers.includes(undefined)) throw new Error(`its key_ops "${jwk.key_ops}" have no number in COSE`);
+// Returns the algorithms that a key is for: of those of a message, all that its alg, or else its curve or type, allows.
+function algorithmsOf({ alg, crv, kty }, names) {
+  const own = under(ALGORITHMS_OF, crv ?? kty) ?? [], isOwn = alg === undefined || (/^ES\d/.test(alg) && own[0] === alg);
+  const found = isOwn ? own.filter(it => names.includes(it)) : [];
+  return found.length ? found : [alg ?? own[0]];
+}
+
+function operationsOf({ key_ops, kty }) {
+  if (!Array.isArray(key_ops)) throw new Error("its key_ops are no list");
+  const numbers = key_ops.map(it => (kty === "oct" && under(MAC_OPERATIONS, it)) || under(OPERATIONS, it));
+  if (numbers.includes(undefined)) throw new Error(`its key_ops "${key_ops}" have no number in COSE`);
   return [...headOf(4, numbers.length), ...numbers.flatMap(integerOf)];
 }
 
-// Returns the encoding of a JWK as COSE_Key, without its private members.
-function coseKey(jwk) {
-  const members = MEMBERS[jwk.kty], algorithm = algorithmOf(jwk);
+// Returns the encoding of a JWK as COSE_Key for an algorithm, if one is given, without its private members.
+function coseKey(jwk, algorithm) {
+  const members = under(MEMBERS, jwk.kty), number = under(ALGORITHMS, algorithm);
   if (!members) throw new Error(`its kty "${jwk.kty}" isn't known here`);
-  if (jwk.use === "enc") throw new Error('its use is "enc", so it checks no signature');
-  if (jwk.crv !== undefined && !CURVES[jwk.crv]) throw new Error(`its crv "${jwk.crv}" isn't known here`);
-  if (algorithm !== undefined && !ALGORITHMS[algorithm]) throw new Error(`its alg "${algorithm}" has no number in COSE that this page knows`);
+  if (jwk.use !== undefined && jwk.use !== "sig") throw new Error(`its use is "${jwk.use}", so it checks no signature`);
+  if (jwk.crv !== undefined && !under(CURVES, jwk.crv)) throw new Error(`its crv "${jwk.crv}" isn't known here`);
+  if (algorithm !== undefined && !number) throw new Error(`its alg "${algorithm}" has no number in COSE that this page knows`);
+  if (jwk.kid !== undefined && typeof jwk.kid !== "string") throw new Error("its kid is no text");
   const pairs = [[KEY_LABELS.kty, integerOf(KEY_TYPES[jwk.kty])]];
   if (jwk.kid !== undefined) pairs.push([KEY_LABELS.kid, stringOf(encoder.encode(jwk.kid))]);
-  if (algorithm !== undefined) pairs.push([KEY_LABELS.alg, integerOf(ALGORITHMS[algorithm])]);
+  if (number) pairs.push([KEY_LABELS.alg, integerOf(number)]);
   if (jwk.key_ops !== undefined) pairs.push([KEY_LABELS.key_ops, operationsOf(jwk)]);
   if (jwk.crv !== undefined) pairs.push([-1, integerOf(CURVES[jwk.crv])]);
   for (const [label, name] of members) {
@@ -68,7 +79,8 @@ function coseKey(jwk) {
 
 function jwksOf(text) {
   const told = JSON.parse(text), keys = Array.isArray(told) ? told : told.keys ?? [told];
-  if (!keys.every(it => it && typeof it === "object" && it.kty !== undefined)) throw new Error("the JSON is neither a JWK nor a JWK set");
+  const isSet = Array.isArray(keys) && keys.every(it => it && typeof it === "object" && it.kty !== undefined);
+  if (!isSet) throw new Error("the JSON is neither a JWK nor a JWK set");
   return keys;
 }
 
@@ -128,34 +140,35 @@ async function bytesOfText(text) {
   return bytesOfHex(digitsOf(0, found.count, found));
 }
 
-// Returns the COSE_Keys of JWKs, the place of each in the list of JWKs, and a sentence on each JWK that isn't one. A JWK of RSA without
-// an algorithm becomes a key for each of these algorithms.
-function keysOfJwks(jwks, rsa) {
+// Returns the COSE_Keys of JWKs, the place of each in the list of JWKs, and a sentence on each JWK that isn't one or is an error.
+// `names` are the message's algorithms. A JWK becomes a key for each of them that it is for.
+function keysOfJwks(jwks, names) {
   const keys = [], problems = [], places = [];
   for (const [i, jwk] of jwks.entries()) {
     try {
-      const isOpen = jwk.kty === "RSA" && jwk.alg === undefined && rsa.length > 0;
-      const made = isOpen ? rsa.map(alg => coseKey({ ...jwk, alg })) : [coseKey(jwk)];
+      if (jwk instanceof Error) throw jwk;
+      const made = algorithmsOf(jwk, names).map(it => coseKey(jwk, it));
       keys.push(...made);
       places.push(...made.map(() => i));
     } catch (error) {
-      problems.push(`key ${i}: ${error.message}`);
+      problems.push(`key ${i}: ${error.message || error}`);
     }
   }
   return { bytes: setOf(keys), problems, places };
 }
 
-// Reads the key field. Returns a function from the RSA algorithms of the message to the bytes of a COSE_Key or a COSE_KeySet, with
+// Reads the key field. Returns a function from the algorithms of the message to the bytes of a COSE_Key or a COSE_KeySet, with
 // sentences on keys that aren't read, and the places of certificates. Returns null if the field is empty.
 async function keysGiven() {
   const text = at("key").value.trim();
   if (text === "") return null;
   try {
-    if (/^[[{]\s*["{]/.test(text)) return (jwks => rsa => keysOfJwks(jwks, rsa))(jwksOf(text));
+    if (/^[[{]\s*["{]/.test(text)) return (jwks => names => keysOfJwks(jwks, names))(jwksOf(text));
     const blocks = [...text.matchAll(PEM)].filter(it => !it[1].includes("COSE"));
     if (!blocks.length) return (bytes => () => ({ bytes, problems: [] }))(await bytesOfText(text));
-    const jwks = await Promise.all(blocks.map(jwkOfPem));
-    return rsa => ({ ...keysOfJwks(jwks, rsa), certificates: [...blocks.keys()].filter(i => blocks[i][1] === "CERTIFICATE") });
+    const jwks = await Promise.all(blocks.map(it => jwkOfPem(it).catch(error => error)));
+    const certificates = [...blocks.keys()].filter(i => blocks[i][1] === "CERTIFICATE" && !(jwks[i] instanceof Error));
+    return names => ({ ...keysOfJwks(jwks, names), certificates });
   } catch (error) {
     return () => ({ bytes: null, problems: [error.message || String(error)] });
   }

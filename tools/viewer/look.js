@@ -8,6 +8,7 @@ const LINK = 4000;  // the most bytes of an input that a link contains
 const MINUTE = 60000;
 // For each key type (kty): the labels of private and symmetric parts.
 const SECRETS = { 1: /^-4(?!\d)/, 2: /^-4(?!\d)/, 3: /^-([3-9]|1[0-2])(?!\d)/, 4: /^-1(?!\d)/, 7: /^-2(?!\d)/ };
+const PRIVATE = /^"(d|p|q|dp|dq|qi|oth|k|priv)"(_\d)?: /;  // such parts of a JWK
 
 let file = null, waiting = null;  // a file that was dropped or opened: its name and its bytes; the last call of `show`
 let sampleKey = "";  // the key of the sample that is shown
@@ -20,7 +21,7 @@ function moment() {
 
 // Returns the arguments of a look at what the fields contain.
 function given() {
-  const digits = at("aad").value.replace(/\s/g, ""), isHex = /^([0-9a-f]{2})*$/i.test(digits), now = moment();
+  const digits = at("aad").value.replace(/\s/g, ""), isHex = digits.length % 2 === 0 && !/[^0-9a-f]/i.test(digits), now = moment();
   at("aad").setAttribute("aria-invalid", String(!isHex));
   at("aad-said").textContent = isHex ? "" : "not hexadecimal: taken as empty";
   at("moment").disabled = at("clock").checked;
@@ -42,11 +43,12 @@ function say(of, word, text = "") {
   addText(at("status"), cut(text, "cut"));
 }
 
-// Shows the summary, with its dates also in the browser's time zone.
+// Shows the summary, with its dates also in the browser's time zone, and with the moment of times that the clock doesn't judge.
 function saySummary(summary) {
-  const here = localDates(summary);
+  const here = localDates(summary), date = at("date").textContent;
   say(firstRefused() < 0 ? "" : "refused", "", summary);
   if (here) at("status").append(" ", element("small", `(${here} here)`));
+  if (!at("clock").checked) at("status").append(" ", element("small", isNaN(moment()) ? `(${date})` : `(times are judged at ${date})`));
 }
 
 // Returns a summary of an answer that has none.
@@ -55,8 +57,14 @@ function plainSummary(status) {
   return fault < 0 ? (status === 0 ? "Well-formed." : "") : row(fault).note;
 }
 
+// Says whether the answer is one to what the fields contained before.
+function setStale(isStale) {
+  document.body.classList.toggle("stale", isStale);
+  at("result").setAttribute("aria-busy", String(isStale));
+}
+
 function put(status, answered) {
-  document.body.classList.remove("stale");
+  setStale(false);
   rows = answered;
   verdicts = [];
   plant();
@@ -73,24 +81,25 @@ function put(status, answered) {
 
 // Shows what the fields ask for. Of several calls at once, only the last one is shown.
 async function show() {
-  const asked = given(), mine = waiting = {};
-  if (!isReady) return;
-  if (isEmpty()) return clearResult();
-  document.body.classList.add("stale");  // until there is an answer to what the fields contain now
-  await asking;
-  if (mine !== waiting) return;
+  const mine = waiting = {};
   try {
+    const asked = given();
+    if (!isReady) return;
+    if (isEmpty()) return clearResult();
+    setStale(true);  // until there is an answer to what the fields contain now
+    await asking;
+    if (mine !== waiting) return;
     const { status, text } = await call("look", ...asked);
     if (mine !== waiting) return;
     put(status, parsed(new Uint8Array(text)));
     await verify(asked, () => mine === waiting);
   } catch (error) {
-    if (mine === waiting) clearResult(), say("refused", "No answer", error.message);
+    if (mine === waiting) clearResult(), say("refused", "No answer", error.message || String(error));
   }
 }
 
 function clearResult() {
-  document.body.classList.remove("stale");
+  setStale(false);
   for (const id of ["result", "after", "ciphers"]) at(id).hidden = true;
   for (const id of ["verdicts", "key-said"]) at(id).replaceChildren();
   at("read").textContent = "";
@@ -104,8 +113,15 @@ function showAgain() {
 // Judges times again by the browser's clock. If the answer differs, shows it with the same rows folded and marked.
 async function judgeAgain() {
   if (!isReady || isEmpty() || !at("clock").checked) return;
-  const before = waiting, { text } = await call("look", ...given()), was = [...folded.keys()], marked = current;
-  if (before !== waiting || decoder.decode(text) === decoder.decode(rows.bytes)) return;
+  const before = waiting;
+  try {
+    const { text } = await call("look", ...given());
+    if (decoder.decode(text) === decoder.decode(rows.bytes)) return;
+  } catch {
+    // Another try follows, and shows the error.
+  }
+  if (before !== waiting) return;
+  const was = [...folded.keys()], marked = current;
   showAgain();
   const mine = waiting;
   await globalThis.showing;
@@ -128,26 +144,45 @@ async function copied(from, text) {
 }
 
 async function copyAll(event) {
-  const asked = given();
-  asked[2] = ANNOTATED;
-  const { text } = await call("look", ...asked);
-  copied(event.target, decoder.decode(text));
+  try {
+    const asked = given();
+    asked[2] = ANNOTATED;
+    const { text } = await call("look", ...asked);
+    copied(event.target, decoder.decode(text));
+  } catch (error) {
+    at("read").textContent = `not copied: ${error.message || error}`;
+  }
 }
 
-// Returns true if a row is a COSE_Key with a private or symmetric part.
+// Returns true if a row is a COSE_Key or a JWK with a private or symmetric part.
 function hasSecret() {
   for (let i = 0; i < rows.count; i++) {
     if (!/\{(_\d?)?$/.test(row(i).text)) continue;
     const pairs = elementsAt(i).map(it => row(it).text), type = pairs.map(it => /^1(?:_\d)?: (\d+)/.exec(it)?.[1]).find(Boolean);
-    if (pairs.some(it => SECRETS[type]?.test(it))) return true;
+    if (pairs.some(it => SECRETS[type]?.test(it)) || (pairs.some(it => /^"kty"/.test(it)) && pairs.some(it => PRIVATE.test(it)))) return true;
   }
   return false;
+}
+
+// Returns true if bytes that aren't taken apart may be a key's: DER, and what follows a fault outside messages.
+function mayHide() {
+  return /\bDER\b/.test(rows.said) || (firstRefused() >= 0 && messageFrom(0) < 0);
+}
+
+// Returns what a link leaves out, and what it gives away.
+function linkRemarks() {
+  const found = [];
+  if (at("kind").value !== "auto" || at("aad").value.trim() !== "") found.push("the link has only the input, without the kind and external_aad");
+  if (location.protocol === "file:") found.push("the link has the path of this page's file on your computer");
+  return found;
 }
 
 function copyLink(event) {
   const digits = digitsOf(0, rows.count);
   if (digits.length > 2 * LINK) return at("read").textContent = `no link: it would contain more than ${LINK} bytes`;
   if (hasSecret()) return at("read").textContent = "no link: it would contain a private or symmetric key";
+  if (mayHide()) return at("read").textContent = "no link: bytes that aren't taken apart may be a private or symmetric key";
+  if (linkRemarks().length) at("read").textContent = linkRemarks().join("; ");
   copied(event.target, `${location.href.split("#")[0]}#${digits}`);
 }
 
@@ -160,11 +195,11 @@ async function open(files) {
     const bytes = new Uint8Array(await files[0].arrayBuffer());
     if (mine !== waiting) return;
     file = { name, bytes };
-  } catch {
+  } catch (error) {
     if (mine !== waiting) return;
     clearResult();
     say("refused", "Not read");
-    return at("status").append(": ", element("bdi", name), " can't be read: a folder has no bytes");
+    return at("status").append(": ", element("bdi", name), ` can't be read. The browser says: ${error.message || error}`);
   }
   at("input").value = "";
   at("file").value = "";
@@ -172,6 +207,17 @@ async function open(files) {
   const others = files.length > 1 ? `; of ${files.length} files, the first is shown` : "";
   at("dropped").replaceChildren(element("bdi", name), `, ${file.bytes.length.toLocaleString("en")} bytes${others}`);
   showAgain();
+}
+
+// Puts a file into the key field: as text, or in hexadecimal if it is none.
+async function openKey([first]) {
+  try {
+    const bytes = new Uint8Array(await first.arrayBuffer()), text = decoder.decode(bytes);
+    at("key").value = /[^\P{Cc}\s]|\ufffd/u.test(text) ? hexOf(bytes) : text;
+    showAgain();
+  } catch (error) {
+    at("key-said").replaceChildren(problemElement(`the file can't be read: ${error.message || error}`));
+  }
 }
 
 function type(text) {
@@ -223,7 +269,9 @@ function dropped(event) {
   document.body.classList.remove("over");
   if (!event.dataTransfer.types.includes("Files")) return;
   event.preventDefault();
-  open([...event.dataTransfer.files]);
+  const files = [...event.dataTransfer.files];
+  if (event.target === at("key") && files.length) openKey(files);
+  else open(files);
 }
 
 function draggedOver(event) {

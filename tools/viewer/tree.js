@@ -76,7 +76,7 @@ function hiddenBy(i) {
 
 function hideFolded() {
   for (const it of at("rows").getElementsByClassName("row")) it.hidden = hiddenBy(numberOf(it)) >= 0;
-  for (const it of at("rows").getElementsByClassName("gap")) it.hidden = hiddenBy(Number(it.dataset.from)) >= 0 && hiddenBy(Number(it.dataset.to) - 1) >= 0;
+  for (const it of at("rows").getElementsByClassName("gap")) it.hidden = Number(it.dataset.to) <= (folded.get(hiddenBy(Number(it.dataset.from))) ?? 0);
 }
 
 function fold(i, isFolded) {

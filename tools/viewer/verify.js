@@ -13,8 +13,16 @@ const REASONS = {
   kty: "its kty isn't one for the algorithm", crv: "its crv isn't one for the algorithm", length: "a member has a length that the algorithm doesn't allow",
   key_ops: "its key_ops don't allow this", kid: "the message names a key with another kid",
 };
+const UNUSED = "The key checks nothing here. Only signatures and MACs of a message that is the whole input, and of messages in its payload, are checked.";
 const CURVE_NAMES = Object.fromEntries(Object.entries(CURVES).map(([name, number]) => [number, name]));
 const MESSAGE = /^COSE_(Sign1|Sign|Mac0|Mac|Encrypt0|Encrypt)\b/;
+
+// Marks keys that have the same kid, so that sentences name them by their places too.
+function nameTwins(keys) {
+  const places = new Map();
+  for (const { kid, index } of keys) places.set(kid, (places.get(kid) ?? new Set()).add(index));
+  for (const it of keys) it.isTwin = places.get(it.kid).size > 1;
+}
 
 // Parses the module's lines on signatures. Returns these, each with its keys, and the errors of keys that can't be read. `places` has
 // the place of each key in what the user gave, if that differs.
@@ -24,12 +32,13 @@ function sealsIn(text, places) {
     const [sort, ...fields] = line.split("\t");
     if (sort === "S") {
       const [name, form, algorithm, structure, proof, headers] = fields;
-      seals.push({ name, form, algorithm, structure, proof, headers: headers || "-", keys: [] });
+      seals.push({ name, form, algorithm, structure, proof: proof === "-" ? "" : proof, headers: headers || "-", keys: [] });
     } else if (sort === "K") {
       const [index, kid, verdict, kty, crv, ...members] = fields;
       seals[seals.length - 1].keys.push({ index: placeOf(index), kid, verdict, kty, crv, ...Object.fromEntries(members.map(it => it.split("="))) });
     } else if (sort === "X") unread.push(fields[0] === "-" ? `the keys: ${fields[1]}` : `key ${placeOf(fields[0])}: ${fields[1]}`);
   }
+  for (const { keys } of seals) nameTwins(keys);
   return { seals, unread, isCut: /^\.\. more/m.test(text) };
 }
 
@@ -51,9 +60,14 @@ function importable({ kty, crv, x, y, n, e }) {
   return { kty: "EC", crv: CURVE_NAMES[crv], x: base64url(x), y: base64url(y) };
 }
 
+// Returns the bytes of a structure, which are made once for all keys.
+function structureOf(seal) {
+  return seal.bytes ??= bytesOfHex(seal.structure);
+}
+
 // Returns true if the signature or MAC is the key's.
 async function isMadeBy(seal, key) {
-  const [, name, bits, length] = CHECKS[seal.algorithm], hash = bits && `SHA-${bits}`, structure = bytesOfHex(seal.structure);
+  const [, name, bits, length] = CHECKS[seal.algorithm], hash = bits && `SHA-${bits}`, structure = structureOf(seal);
   if (!crypto.subtle) throw new Error("this browser has no ciphers for this page");
   if (name === "HMAC") {
     const made = await crypto.subtle.importKey("raw", bytesOfHex(key.k), { name, hash }, false, ["sign"]);
@@ -79,7 +93,7 @@ function headersOf(structure) {
 
 // Returns true if a protected header has the label crit (2). This page processes no critical label (RFC 8152, section 3.1).
 async function isCritical(seal) {
-  for (const header of headersOf(bytesOfHex(seal.structure))) {
+  for (const header of headersOf(structureOf(seal))) {
     const { text } = await call("look", encoder.encode(hexOf(header)), VALUE, ROWS, NaN, NO_BYTES), of = parsed(new Uint8Array(text));
     for (let i = 0; i < of.count; i++) if (row(i, of).depth === 1 && /^2(_\d)?: /.test(row(i, of).text)) return true;
   }
@@ -88,9 +102,14 @@ async function isCritical(seal) {
 
 // ---- What is said of a signature
 
-function nameOfKey({ index, kid }) {
-  const text = kid === "-" || kid === "" ? "" : decoder.decode(bytesOfHex(kid));
-  return text === "" ? `key ${index}` : /^[\x20-\x26\x28-\x5b\x5d-\x7e]+$/.test(text) ? `key '${text}'` : `key h'${kid}'`;
+function hasKid({ kid }) {
+  return kid !== "-" && kid !== "";
+}
+
+function nameOfKey(key) {
+  const { index, kid, isTwin } = key, text = hasKid(key) ? decoder.decode(bytesOfHex(kid)) : "";
+  const name = /^[\x20-\x26\x28-\x5b\x5d-\x7e]+$/.test(text) ? `'${text}'` : `h'${kid}'`;
+  return text === "" ? `key ${index}` : `key ${isTwin ? `${index} ` : ""}${name}`;
 }
 
 function titleOf({ name, form }) {
@@ -115,24 +134,50 @@ async function doubtsOf(seal) {
   return found.join(", and ");
 }
 
+// Returns true if a key fits, or if it has no kid and nothing else is against it. A kid only helps to find a key (RFC 9052, section 3.1).
+function mayFit(key) {
+  return key.verdict === "fits" || (key.verdict === "kid" && !hasKid(key));
+}
+
+// Returns a sentence for each key that doesn't fit. A key without alg is one key for each algorithm, and the reason of the nearest counts.
+function misfitsOf({ keys }) {
+  const near = new Set(keys.filter(it => it.verdict !== "alg").map(it => it.index));
+  const told = keys.filter(it => !mayFit(it) && (it.verdict !== "alg" || !near.has(it.index)));
+  return [...new Set(told.map(it => `${nameOfKey(it)} doesn't fit: ${REASONS[it.verdict] ?? it.verdict}`))];
+}
+
+// Returns the verdict on a signature that no key is needed for, or nothing.
+function plainVerdict(seal) {
+  const title = titleOf(seal), [name, cipher, , length] = CHECKS[seal.algorithm] ?? [], isMac = seal.form === "mac";
+  const open = why => ({ seal, state: "open", said: [`${title} not checked: ${why}.`] });
+  if (seal.structure === "-") return open("its content is detached, or isn't known here");
+  if (seal.algorithm === "-") return open("its protected header names no algorithm");
+  if (!name) return open(`this page doesn't check ${seal.algorithm.length < 100 ? `algorithm ${seal.algorithm}` : "an algorithm with a long name"}`);
+  if ((cipher === "HMAC") !== isMac) return open(`${name} is no algorithm for a ${isMac ? "MAC" : "signature"}, so the message may be of another kind`);
+  if (!length || seal.proof.length === 2 * length) return null;
+  return { seal, state: "wrong", isByLength: true, said: [`${title} can't be right: ${name} has ${length} bytes, and this one ${seal.proof.length / 2}.`] };
+}
+
 // Returns the state of a signature by its keys, and the sentences on it. `certificates` has the indices of keys from certificates.
 async function verdictOf(seal, certificates) {
-  const title = titleOf(seal), name = CHECKS[seal.algorithm]?.[0], open = said => ({ seal, state: "open", said });
-  if (seal.structure === "-") return open([`${title} not checked: its content is detached, or isn't known here.`]);
-  if (!name) return open([`${title} not checked: this page doesn't check algorithm ${seal.algorithm}.`]);
-  const misfits = seal.keys.filter(it => it.verdict !== "fits").map(it => `${nameOfKey(it)} doesn't fit: ${REASONS[it.verdict] ?? it.verdict}`);
-  const tries = await Promise.all(seal.keys.filter(it => it.verdict === "fits").map(it => tried(seal, it)));
-  const right = tries.find(it => it.isRight), wrong = tries.filter(it => it.isRight === false), problems = tries.filter(it => it.problem).map(it => it.problem);
+  const plain = plainVerdict(seal);
+  if (plain) return plain;
+  const title = titleOf(seal), name = CHECKS[seal.algorithm][0], open = said => ({ seal, state: "open", said });
+  const tries = await Promise.all(seal.keys.filter(mayFit).map(it => tried(seal, it)));
+  const right = tries.find(it => it.isRight && it.key.verdict === "fits") ?? tries.find(it => it.isRight);
+  const wrong = tries.filter(it => it.isRight === false), problems = tries.filter(it => it.problem).map(it => it.problem);
   const doubts = right ? await doubtsOf(seal) : "";
   if (doubts) return { ...open([`${title} is of ${nameOfKey(right.key)} (${name}), but ${doubts}.`]), isChecked: true };
   const how = at("aad").value.trim() === "" ? name : `${name}, with the given external_aad`;
   const more = certificates.includes(right?.key.index) ? [UNCHECKED] : [];
+  if (right?.key.verdict === "kid") more.push("The message names a kid, and this key has none.");
   if (right) return { seal, state: "verified", said: [`${title} verified by ${nameOfKey(right.key)} (${how}).`, ...more] };
   const names = wrong.map(it => nameOfKey(it.key)).join(", ");
-  if (wrong.length) return { seal, state: "wrong", said: [`${title} does not verify with ${names} (${name}).`, ...problems] };
+  const guesses = wrong.some(it => it.key.verdict === "kid") ? ["The message names a kid, and a key without one may be of somebody else."] : [];
+  if (wrong.length) return { seal, state: "wrong", said: [`${title} does not verify with ${names} (${name}).`, ...guesses, ...problems] };
   if (!seal.keys.length) return open([`${title} (${name}) not checked: there is no key to check it with.`]);
   const why = problems.length ? "no key that fits can be used here" : "no key fits";
-  return open([`${title} (${name}) not checked: ${why}.`, ...misfits, ...problems]);
+  return open([`${title} (${name}) not checked: ${why}.`, ...misfitsOf(seal), ...problems]);
 }
 
 // ---- The rows that a signature covers
@@ -194,6 +239,7 @@ function isIn(ranges, i) {
 function stateOf(i, cover) {
   const wrong = verdicts.filter(it => it.state === "wrong").map(it => it.ranges), right = verdicts.filter(it => it.state === "verified");
   if (isIn(wrong.flatMap(it => it.slice(-1)), i)) return "wrong";
+  if (cover === "c" && !isIn(right.flatMap(it => it.ranges.slice(-1)), i)) return "";  // a signature inside a covered part has another key
   return "sac".includes(cover) && isIn(right.flatMap(it => it.ranges), i) && !isIn(wrong.flat(), i) ? "verified" : "";
 }
 
@@ -245,10 +291,11 @@ function uncheckedSummary(summary) {
 async function judged(asked) {
   if (at("aad").getAttribute("aria-invalid") === "true") throw new Error("external_aad isn't hexadecimal");
   const given = await keysGiven(), bare = await sealsOf(asked, NO_BYTES);
-  const rsa = [...new Set(bare.seals.map(it => CHECKS[it.algorithm]?.[0]).filter(it => /^[PR]S/.test(it)))];
-  const { bytes, problems, places, certificates = [] } = given ? given(rsa) : { bytes: null, problems: [] };
+  const names = [...new Set(bare.seals.map(it => CHECKS[it.algorithm]?.[0]))];
+  const { bytes, problems, places, certificates = [] } = given ? given(names) : { bytes: null, problems: [] };
   const found = bytes ? await sealsOf(asked, bytes, places) : bare;
   const more = found.isCut ? [{ state: "open", said: ["Further signatures are not checked."] }] : [];
+  if (given && !found.seals.length) more.push({ state: "open", said: [UNUSED] });
   const told = await Promise.all(found.seals.map(it => verdictOf(it, certificates)));
   return { told: [...told, ...more], problems: [...problems, ...(bytes ? found.unread : []), ...(certificates.length ? [UNCHECKED] : [])] };
 }
@@ -258,11 +305,11 @@ async function verify(asked, isCurrent) {
   const failed = error => ({ told: [{ state: "open", said: [`Signatures not checked: ${error.message}.`] }], problems: [] });
   const { told, problems } = await judged(asked).catch(failed);
   if (!isCurrent()) return;
-  verdicts = told.map(it => ({ ...it, ranges: it.seal ? rangesOf(it.seal) : [] }));
+  verdicts = told.map(it => ({ ...it, ranges: it.seal && it.state !== "open" ? rangesOf(it.seal) : [] }));
   colourVerified();
   at("verdicts").replaceChildren(...verdicts.map(verdictElement));
   at("key-said").replaceChildren(...problems.map(problemElement));
   const isChecked = verdicts.some(it => it.state !== "open" || it.isChecked);
-  at("ciphers").hidden = !isChecked;
+  at("ciphers").hidden = !verdicts.some(it => it.isChecked || (it.state !== "open" && !it.isByLength));
   if (isChecked) saySummary(uncheckedSummary(rows.summary));
 }
