@@ -88,9 +88,9 @@ def issuings():
 
 
 def wrong_signers():
-    """Yields calls of the issuer in C whose signer returns another number than COSET_YES, or sets a length above its room."""
+    """Yields calls of the issuer in C whose signer returns another number than COSET_YES, or sets a length of 0 or above its room."""
     *_, words, _, _ = next(issuings())
-    for answer in ("=0", "=1", "=-1", "=2", "=256", "+1", f"+{(1 << 64) - 129}"):
+    for answer in ("=0", "=1", "=-1", "=2", "=256", "+1", f"+{(1 << 64) - 128}", f"+{(1 << 64) - 129}"):
         yield ("issued", 0, token()[2], [*words[:-1], answer], -1, None)
 
 

@@ -18,8 +18,8 @@ struct token {
 typedef int (*signer)(void *key, const uint8_t *tbs, size_t tbs_len, uint8_t *sig, size_t cap, size_t *sig_len);
 
 /* Writes a token with these claims to `out`, in the order of their labels, signed by ES256. Returns the status, or -1
- * if `sign` didn't sign, or set a length greater than its room. COSET_MISUSE, or COSET_SHORT with `*len` 0, means that
- * the claims are too long for the buffers of this function. */
+ * if `sign` didn't sign, or set a length of 0 or above its room. COSET_MISUSE, or COSET_SHORT with `*len` 0, means that the
+ * claims are too long for the buffers of this function. */
 int32_t issued(const struct token *t, signer sign, void *key, uint8_t *out, size_t cap, size_t *len) {
   coset_pair room[7];
   uint8_t texts[1024], claims[1024], head[16], ids[128], tbs[1200], sig[128];
@@ -37,6 +37,6 @@ int32_t issued(const struct token *t, signer sign, void *key, uint8_t *out, size
   if (!s) s = coset_put_int(COSET_HEADER, NULL, 0, 1, -7, head, sizeof head, &nh);
   if (!s) s = coset_put_bytes(COSET_HEADER, NULL, 0, 4, t->kid.at, t->kid.len, ids, sizeof ids, &ni);
   if (!s) s = coset_structure_of(COSET_SIGN1, head, nh, NULL, 0, NULL, 0, claims, nc, tbs, sizeof tbs, &nt);
-  if (!s && (sign(key, tbs, nt, sig, sizeof sig, &ns) != COSET_YES || ns > sizeof sig)) return -1;
+  if (!s && (sign(key, tbs, nt, sig, sizeof sig, &ns) != COSET_YES || !ns || ns > sizeof sig)) return -1;
   return s ? s : coset_make(COSET_SIGN1 + COSET_TAGGED, head, nh, ids, ni, 1, claims, nc, sig, ns, out, cap, len);
 }
