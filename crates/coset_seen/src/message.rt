@@ -1,7 +1,8 @@
 //! Messages, seen in the bytes that encode them.
 
 ghost use Rattle.std.specs.Option.{option_copied};
-ghost use Rattle.std.specs.Prelude.{◌≡◌, ◌<◌, ◌^◌, ℕ, List, IfSome, IsTrue, false, length};
+ghost use Rattle.std.specs.Prelude.{◌≡◌, ◌<◌, ◌^◌, ℕ, List, IfErr, IfOk, IfSome, IsTrue, false, length};
+ghost use Rattle.coset.specs.CoseError.TheVariants.{OutOfMemory};
 ghost use Rattle.coset.specs.Headers.{HeaderView, ProtectedView, header, protected};
 ghost use Rattle.coset.specs.Item.{bytes, dict};
 ghost use Rattle.coset.specs.Pulls.{pull_item};
@@ -16,7 +17,7 @@ use crate::kind::Kind;
 use crate::structure::{StructureError, put_structure, structure_of};
 use coset::cbor::de::Pull;
 use coset::laws::one_item;
-use coset::{FromPull, Header, ProtectedHeader};
+use coset::{CoseError, FromPull, Header, ProtectedHeader};
 use std::alloc::Global;
 
 /// Bytes of a message, and their place in the input of [`see`] or [`layout_of`].
@@ -197,21 +198,36 @@ fn is_either(first: bool, second: bool) -> bool
     first || second
 }
 
-/// Returns true if the item is a valid protected header. False may also mean that an allocation
-/// failed.
-fn is_protected(alloc: Global, place: Pull<'_>) -> bool
-    ensures { IsTrue result
-        → (x : ProtectedView) × protected.describes (pull_item place.entry) x }
+/// Returns true if the item is a valid protected header.
+///
+/// # Errors
+/// `OutOfMemory` if an allocation fails.
+fn is_protected(alloc: Global, place: Pull<'_>) -> Result<bool, CoseError>
+    ensures valid { IfOk result (λ t. IsTrue t
+        → (x : ProtectedView) × protected.describes (pull_item place.entry) x) }
+    ensures memory { IfErr result (λ e. e ≡ OutOfMemory) }
 {
-    ProtectedHeader::from_pull_bstr(alloc, place).is_ok()
+    match ProtectedHeader::from_pull_bstr(alloc, place) {
+        Ok(_) => Ok(true),
+        Err(CoseError::OutOfMemory) => Err(CoseError::OutOfMemory),
+        Err(_) => Ok(false),
+    }
 }
 
-/// Returns true if the item is a valid unprotected header. False may also mean that an allocation
-/// failed.
-fn is_unprotected(alloc: Global, place: Pull<'_>) -> bool
-    ensures { IsTrue result → (x : HeaderView) × header.describes (pull_item place.entry) x }
+/// Returns true if the item is a valid unprotected header.
+///
+/// # Errors
+/// `OutOfMemory` if an allocation fails.
+fn is_unprotected(alloc: Global, place: Pull<'_>) -> Result<bool, CoseError>
+    ensures valid { IfOk result (λ t. IsTrue t
+        → (x : HeaderView) × header.describes (pull_item place.entry) x) }
+    ensures memory { IfErr result (λ e. e ≡ OutOfMemory) }
 {
-    Header::from_pull(alloc, place).is_ok()
+    match Header::from_pull(alloc, place) {
+        Ok(_) => Ok(true),
+        Err(CoseError::OutOfMemory) => Err(CoseError::OutOfMemory),
+        Err(_) => Ok(false),
+    }
 }
 
 /// Finds the parts of a message of this kind, with or without its tag, in the bytes that encode it.
@@ -239,51 +255,61 @@ pub fn layout_of(kind: Kind, input: &[u8]) -> Option<Layout<'_>>
 
 impl Layout<'_> {
     /// Returns true if the protected header is valid.
-    fn is_first_valid(&self, alloc: Global) -> bool
-        ensures { (k : Kind) (b : List ℕ) (x : IsLayout k b self.now) → IsTrue result
-            → (p : ProtectedView)
-            × protected.describes (bytes self.now.seen.protected.bytes.now) p }
+    ///
+    /// # Errors
+    /// `OutOfMemory` if an allocation fails.
+    fn is_first_valid(&self, alloc: Global) -> Result<bool, CoseError>
+        ensures valid { (k : Kind) (b : List ℕ) (x : IsLayout k b self.now) → IfOk result (λ t.
+            IsTrue t → (p : ProtectedView)
+            × protected.describes (bytes self.now.seen.protected.bytes.now) p) }
+        ensures memory { IfErr result (λ e. e ≡ OutOfMemory) }
     {
         one_item();
         if self.is_first_plain {
-            return true;
+            return Ok(true);
         }
         match Pull::new(self.fronts.0) {
             Ok((protected, _)) => is_protected(alloc, protected),
-            Err(_) => false,
+            Err(_) => Ok(false),
         }
     }
 
     /// Returns true if the unprotected header is valid.
-    fn is_second_valid(&self, alloc: Global) -> bool
-        ensures { (k : Kind) (b : List ℕ) (x : IsLayout k b self.now) → IsTrue result
-            → (u : HeaderView) × header.describes (dict x.second) u }
+    ///
+    /// # Errors
+    /// `OutOfMemory` if an allocation fails.
+    fn is_second_valid(&self, alloc: Global) -> Result<bool, CoseError>
+        ensures valid { (k : Kind) (b : List ℕ) (x : IsLayout k b self.now) → IfOk result (λ t.
+            IsTrue t → (u : HeaderView) × header.describes (dict x.second) u) }
+        ensures memory { IfErr result (λ e. e ≡ OutOfMemory) }
     {
         one_item();
         if self.is_second_plain {
-            return true;
+            return Ok(true);
         }
         match Pull::new(self.fronts.1) {
             Ok((unprotected, _)) => is_unprotected(alloc, unprotected),
-            Err(_) => false,
+            Err(_) => Ok(false),
         }
     }
 
     /// Returns true if both headers are valid and the message has no recipients. The bytes then
     /// describe the message. Headers that aren't plain are decoded by the facade.
     ///
-    /// False may also mean that an allocation failed.
-    pub fn is_valid(&self, alloc: Global) -> bool
-        ensures { (k : Kind) (b : List ℕ) → IsLayout k b self.now → IsTrue result
-            → IsDescribed k b self.now.seen }
+    /// # Errors
+    /// `OutOfMemory` if an allocation fails.
+    pub fn is_valid(&self, alloc: Global) -> Result<bool, CoseError>
+        ensures valid { (k : Kind) (b : List ℕ) → IsLayout k b self.now → IfOk result (λ t.
+            IsTrue t → IsDescribed k b self.now.seen) }
+        ensures memory { IfErr result (λ e. e ≡ OutOfMemory) }
     {
         if self.seen.kind.has_recipients() {
-            return false;
+            return Ok(false);
         }
-        if self.is_first_valid(alloc) {
-            return self.is_second_valid(alloc);
+        match self.is_first_valid(alloc) {
+            Ok(true) => self.is_second_valid(alloc),
+            other => other,
         }
-        false
     }
 }
 

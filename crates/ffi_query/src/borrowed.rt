@@ -293,7 +293,7 @@ pub(crate) fn find_borrowed<'a>(
     let Some(layout) = laid_of(kind, bytes) else {
         return Ok(None);
     };
-    if !can_borrow(alloc, kind, &layout, bytes) {
+    if !can_borrow(alloc, kind, &layout, bytes)? {
         return Ok(None);
     }
     if has_both(layout.seen.content, detached) {

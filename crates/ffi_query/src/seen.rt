@@ -1,7 +1,8 @@
 //! Messages without a list of signatures, found in one walk (`coset_seen`).
 
 ghost use Rattle.std.specs.Option.{option_copied};
-ghost use Rattle.std.specs.Prelude.{◌≡◌, [], IfSome, IsTrue, true};
+ghost use Rattle.std.specs.Prelude.{◌≡◌, [], IfErr, IfOk, IfSome, IsTrue, true};
+ghost use Rattle.coset.specs.CoseError.TheVariants.{OutOfMemory};
 ghost use Rattle.ffi_query.specs.Borrowed.{AreTexts};
 ghost use Rattle.ffi_query.specs.Kinds.{IsOf};
 ghost use Rattle.ffi_query.specs.Located.{IsTextIn};
@@ -14,6 +15,7 @@ use crate::kind::{Form, Kind, check_by_decoding};
 use crate::located::{Text, after};
 use crate::view::{Algorithm, KeyIdPlace};
 use coset::laws::one_item;
+use coset::{CoseError, Result};
 use coset_seen::{Layout, Part, layout_of};
 use std::alloc::Global;
 
@@ -59,6 +61,7 @@ pub(crate) fn laid_of(kind: Kind, bytes: &[u8]) -> Option<Layout<'_>>
 
 /// Returns true if the bytes are a message of this kind, without a list of signatures or
 /// recipients, and its strings have definite lengths. Only headers that aren't plain are decoded.
+/// False may also mean that an allocation failed.
 pub(crate) fn is_message(alloc: Global, kind: Kind, bytes: &[u8]) -> bool
     ensures { IsTrue result → IsOf kind bytes.now }
 {
@@ -67,29 +70,46 @@ pub(crate) fn is_message(alloc: Global, kind: Kind, bytes: &[u8]) -> bool
         _ => {}
     }
     match laid_of(kind, bytes) {
-        Some(layout) => layout.is_valid(alloc),
+        Some(layout) => match layout.is_valid(alloc) {
+            Ok(is_valid) => is_valid,
+            Err(_) => false,
+        },
         None => false,
     }
 }
 
 /// Returns true if the bytes can be decoded as this kind.
-fn is_decoded(alloc: Global, kind: Kind, bytes: &[u8]) -> bool
-    ensures { IsTrue result → IsOf kind bytes.now }
+///
+/// # Errors
+/// `OutOfMemory` if an allocation fails.
+fn is_decoded(alloc: Global, kind: Kind, bytes: &[u8]) -> Result<bool>
+    ensures valid { IfOk result (λ t. IsTrue t → IsOf kind bytes.now) }
+    ensures memory { IfErr result (λ e. e ≡ OutOfMemory) }
 {
     match check_by_decoding(alloc, kind, bytes) {
-        Ok(_) => true,
-        Err(_) => false,
+        Ok(_) => Ok(true),
+        Err(CoseError::OutOfMemory) => Err(CoseError::OutOfMemory),
+        Err(_) => Ok(false),
     }
 }
 
 /// Returns true if the laid out message is valid and has no `crit`. A message with recipients is
 /// decoded.
-pub(crate) fn can_borrow(alloc: Global, kind: Kind, layout: &Layout<'_>, bytes: &[u8]) -> bool
-    ensures { IsLaidOf kind bytes.now layout.now → IsTrue result
-        → IsSeenOf kind bytes.now layout.now }
+///
+/// # Errors
+/// `OutOfMemory` if an allocation fails.
+pub(crate) fn can_borrow(
+    alloc: Global,
+    kind: Kind,
+    layout: &Layout<'_>,
+    bytes: &[u8],
+) -> Result<bool>
+    ensures valid { IsLaidOf kind bytes.now layout.now → IfOk result (λ t. IsTrue t
+        → IsSeenOf kind bytes.now layout.now) }
+    ensures memory { IfErr result (λ e. e ≡ OutOfMemory) }
 {
     if layout.is_critical {
-        return false;
+        return Ok(false);
     }
     match kind {
         Kind::Mac(_) | Kind::Encrypt(_) => is_decoded(alloc, kind, bytes),

@@ -120,7 +120,7 @@ pub fn layout(alloc: Global, words: &Words<'_>) -> Result<String> {
     };
     let told = told(alloc, layout.seen)?;
     let (text, critical) = (layout.has_text, layout.is_critical);
-    let valid = layout.is_valid(alloc);
+    let valid = layout.is_valid(alloc)?;
     Ok(format!(in alloc; "{told} text {text} crit {critical} valid {valid}")?)
 }
 
