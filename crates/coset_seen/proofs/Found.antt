@@ -1,7 +1,6 @@
 -- Messages that are seen or laid out, from their elements.
-use Rattle.std.proofs.Common.{◌≡◌, ◌∙◌, ℕ, pos, negsuc, List, Option, Some, None, Result, Ok, Err, Bool, true, false, true≢false, refl, sym, ap, subst}
-use Rattle.std.proofs.Common.{inl, inr}
-use Rattle.std.specs.Prelude.{IfOk, IfSome, option_map}
+use Rattle.std.proofs.Common.{◌≡◌, ◌∙◌, ℕ, pos, negsuc, List, Option, Some, None, Bool, true, false, true≢false, refl, sym, ap, subst, inl, inr}
+use Rattle.std.specs.Prelude.{IfSome, option_map}
 use Rattle.coset.specs.Item.{Item, Pairs, array, bytes, dict, integer}
 use Rattle.coset.specs.Grammar.{IsItem}
 use Rattle.coset.specs.Headers.{HeaderView, ProtectedView, header, protected}
@@ -180,11 +179,6 @@ layout_is k b t e x m h text critical first second front back =
     }
 
 -- ---- headers that are plain or decoded
-
--- A consequence of a fact about a result, if it is no error.
-pub if_ok : {A E : Type 0} (r : Result A E) (P Q : A → Type 0) → ((a : A) → P a → Q a) → IfOk r P → IfOk r Q
-if_ok (Ok a) P Q f p = f a p
-if_ok (Err e) P Q f p = p
 
 pub first_plain_valid :
     (k : kinds.Kind) (b : List ℕ) (x : Layout) → IsLayout k b x → x.is_first_plain ≡ true
