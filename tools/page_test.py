@@ -189,6 +189,21 @@ def plain(colored):
     return re.sub("\33\\[[0-9;]*m|[\u2068\u2069]", "", colored)
 
 
+def is_short(row, lengths):
+    """Returns true if the row is red because its MAC has none of these lengths. The page needs no key to see that."""
+    digits, _, _, note, word, classes, color = row
+    if (note.split(",")[0], word, classes, color) != ("tag", "does not verify", "row c wrong", "r"):
+        return False
+    head = int(digits[:2], 16) % 32
+    return len(digits) // 2 - (1 if head < 24 else 1 + (1 << head - 24)) not in lengths
+
+
+def without_verdicts(shown):
+    """Returns the rows as they are if no MAC is judged by its length."""
+    lengths = {int(it) // 8 for *_, note, _, _, _ in shown for it in re.findall(r"alg: HMAC \d+/(\d+)", note)}
+    return [[*row[:4], "", "row c", "c"] if lengths and is_short(row, lengths) else row for row in shown]
+
+
 def has_words(shown):
     """Returns true if each row has the word of its cover."""
     return all(WORDS[classes.split()[1]] == word for _, _, _, _, word, classes, _ in shown)
@@ -209,7 +224,7 @@ def compare(page, program, wrong, every, told):
         for place, case in enumerate(some):
             status, wanted = told[case, 1]
             wanted = re.sub("[\u2068\u2069]", "", wanted)  # the page isolates strings by elements
-            said, lines, notes = shown[place]
+            said, lines, notes = shown[place][0], without_verdicts(shown[place][1]), shown[place][2]
             count += len(lines)
             is_sequence = "/ item 1 of " in wanted and "/ refused" not in wanted  # its status is 1, and nothing in it is refused
             if said != ["", "refused"][status and not is_sequence] or annotated(lines, notes) != wanted or not has_words(lines):
