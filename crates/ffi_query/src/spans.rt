@@ -163,8 +163,10 @@ fn borrowed_spans<'a>(
 {
     one_item();
     let layout = laid_of(kind, bytes)?;
-    if !can_borrow(alloc, kind, &layout, bytes) {
-        return None;
+    match can_borrow(alloc, kind, &layout, bytes) {
+        Ok(true) => {}
+        Ok(false) => return None,
+        Err(error) => return Some(Err(Refusal::Cose(error))),
     }
     if has_both(layout.seen.content, detached) {
         return None;

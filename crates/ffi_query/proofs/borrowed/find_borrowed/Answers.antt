@@ -12,7 +12,7 @@ returns-clause-lent c =
     let b = c.args.bytes.now in
     let d = option_copied c.args.detached in
     let x = c.in-Some.layout in
-    let h = c.can_borrow.ensures c.in-Some.ensures c.if-not-can_borrow.false in
+    let h = c.in_ok-can_borrow.ensures.valid c.in-Some.ensures c.if-not-branch.false in
     borrowed_of k i c.args.external_aad.now d ns b (seen_item h) x.seen.is_tagged c.borrowed_by.result (item_of k b x h)
     (tells_of k b x h c.one_item.ensures) (once_of k b x h d (sym c.has_both.ensures ∙ c.if-has_both.false))
     (c.borrowed_by.ensures.lent b d i ns (seen_item h) (c.texts_of_seen-texts.ensures.texts k h)) c.borrowed_by.ensures.tagged

@@ -15,7 +15,7 @@ returns-in-Ok c =
     let aad = c.args.external_aad.now in
     let d = option_copied c.args.detached in
     let y = c.in_ok-layout.layout in
-    let h = c.can_borrow.ensures c.in_ok-layout.ensures c.if-not-can_borrow.false in
+    let h = c.in-Ok-true.ensures.valid c.in_ok-layout.ensures c.in-Ok-true.field-0-test in
     let x = c.texts_of_seen-texts.result in
     let texts = c.texts_of_seen-texts.ensures in
     let found = structure_of_seen k b y h aad c.args.out.now c.put_structure.new.out (option_copied c.given_content-given.result) _
@@ -37,17 +37,19 @@ returns-in-Ok c =
       ),
     )
 
-pub returns-in_ok-refusal-in-Err : goal.returns-in_ok-refusal-in-Err
-returns-in_ok-refusal-in-Err c =
+pub returns-in_ok-refusal-in-Err-put_structure : goal.returns-in_ok-refusal-in-Err-put_structure
+returns-in_ok-refusal-in-Err-put_structure c =
     λ i ns.
     let k = c.args.kind in
     let b = c.args.bytes.now in
     let aad = c.args.external_aad.now in
     let d = option_copied c.args.detached in
     let y = c.in_ok-layout.layout in
-    let h = c.can_borrow.ensures c.in_ok-layout.ensures c.if-not-can_borrow.false in
+    let h = c.in-Ok-true.ensures.valid c.in_ok-layout.ensures c.in-Ok-true.field-0-test in
     let texts = c.texts_of_seen-texts.ensures in
     plain_refused k i aad d (option_copied c.given_content-given.result) ns b y h c.texts_of_seen-texts.result c.in_ok-len.len
-    c.unsized_spans-spans.result c.args.out.now c.put_structure.new.out (HasNoView k i aad d ns) c.in-Err.error c.in_ok-refusal-in-Err.refusal
-    (texts.texts k h) texts.protected texts.signed c.given_content-given.ensures c.unsized_spans-spans.ensures c.in_ok-len.ensures (tells_of k b y h c.one_item.ensures) (once_of k b y h d (sym c.has_both.ensures ∙ c.if-has_both.false))
-    (rw c.in-Err.is at c.put_structure.ensures) (sym c.in_ok-refusal-in-Err.ensures)
+    c.unsized_spans-spans.result c.args.out.now c.put_structure.new.out (HasNoView k i aad d ns) c.in-Err-put_structure.error
+    c.in_ok-refusal-in-Err-put_structure.refusal
+    (texts.texts k h) texts.protected texts.signed c.given_content-given.ensures c.unsized_spans-spans.ensures c.in_ok-len.ensures
+    (tells_of k b y h c.one_item.ensures) (once_of k b y h d (sym c.has_both.ensures ∙ c.if-has_both.false))
+    (rw c.in-Err-put_structure.is at c.put_structure.ensures) (sym c.in_ok-refusal-in-Err-put_structure.ensures)
