@@ -223,6 +223,9 @@ def tried(name, folder, here, lines, calls, check):
 
     `here` is the folder of the library of x86-64 Linux and its object files. Returns the lines to print."""
     target, left = TARGETS[name], f"{folder}/left"
+    if target.runner is WINE:
+        # Wine makes no folder above its own.
+        os.makedirs(f"{HERE}/out/wine", exist_ok=True)
     kept(name, folder, left)
     wanted = calling.answers([caller(here[0], "", "libcoset.a")], lines, check)
     few, told = slice(None, None, max(1, len(lines) // 2000)), []
