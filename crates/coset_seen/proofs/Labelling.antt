@@ -82,6 +82,7 @@ plain_pairs count b n s h = record {
     critical = λ f. no_critical (negsuc 0) h.pairs h.are_plain;
     key_id = h.named.key_id;
     plain = λ f. (h.are_plain, refl);
+    flat = λ f. h.flat f.1;
   };
   placed = h.placed;
 }
@@ -109,6 +110,7 @@ has_none t h e = record {
   critical = λ f. refl;
   key_id = ap (option_map (λ t. bytes t.bytes.now)) (sym e.key_id);
   plain = λ f. (tt, e.has_text);
+  flat = λ f. refl;
 }
 
 -- ---- one more pair
@@ -332,6 +334,7 @@ ended count n b s r h w ends =
         critical = it.critical;
         key_id = it.key_id ∙ or_none (key_id_item h.named);
         plain = λ f. absurd (true≢false (sym f ∙ w.is_plain));
+        flat = λ f. absurd (true≢false (sym f.0 ∙ w.is_plain));
       };
       placed = w.placed;
     }

@@ -1,8 +1,8 @@
 -- Messages, from their elements.
-use Rattle.std.proofs.Common.{◌≡◌, ◌∙◌, ◌++◌, ◌⊎◌, ℕ, List, [], Option, Some, None, Bool, true, false, refl, sym, ap, subst, inl, inr}
+use Rattle.std.proofs.Common.{◌≡◌, ◌∙◌, ◌++◌, ◌⊎◌, ◌≤◌, ℕ, suc, List, [], Option, Some, None, Bool, true, false, refl, sym, ap, subst, inl, inr, arith, max, true≢false}
 use Rattle.std.specs.Prelude.{IfSome}
 use Rattle.std.proofs.lemmas.List.{append_assoc, append-nil}
-use Rattle.coset.specs.Item.{Item, Pairs, item, no_items, no_pairs, tag, array, bytes, dict, null, items_count}
+use Rattle.coset.specs.Item.{Item, Pairs, item, no_items, no_pairs, tag, array, bytes, dict, null, depth, items_count, items_depth, pairs_depth}
 use Rattle.coset.specs.Grammar.{AreEncodings, IsEncoding, IsItem}
 use Rattle.coset_seen.specs.declared.elements.Elements.{Elements}
 use Rattle.coset_seen.specs.declared.forward.Ahead.{Ahead}
@@ -11,10 +11,9 @@ use Rattle.coset_seen.specs.declared.kind.Kind.TheVariants.{Sign1, Mac0, Encrypt
 use Rattle.coset_seen.specs.declared.labels.Header.{Header}
 use Rattle.coset_seen.specs.Begins.{Begins, Closes, IsAhead, Opens}
 use Rattle.coset_seen.specs.Elements.{AreElements, BeginsContent, BeginsElements, BeginsMessage, BeginsProof, IsContent, IsCounted}
-use Rattle.coset_seen.specs.Elements.{IsMessage, IsProof, IsUntagged, items_of}
-use Rattle.coset_seen.specs.Elements.{last_items}
-use Rattle.coset_seen.specs.Kinds.{elements_of, tag_of}
-use Rattle.coset_seen.specs.Labels.{BeginsHeader, EndsWith, IsHeader, TakesNone}
+use Rattle.coset_seen.specs.Elements.{IsFlatMessage, IsMessage, IsProof, IsUntagged, content_item, content_of, items_of, last_items, perhaps_tag}
+use Rattle.coset_seen.specs.Kinds.{elements_of, has_recipients, tag_of}
+use Rattle.coset_seen.specs.Labels.{BeginsHeader, EndsWith, IsFlat, IsHeader, TakesNone}
 use Rattle.coset_seen.proofs.Fronts.{ahead_in}
 use Rattle.coset_seen.proofs.Labelling.{enclosed, has_none, head_of}
 use Rattle.coset_seen.proofs.Walking.{named_in}
@@ -26,6 +25,18 @@ OneItem = (v w : Item) (b c x y : List ℕ) → IsEncoding v b → IsEncoding w 
 -- The one item that bytes are is the item that they begin with.
 pub whole_is : OneItem → (b : List ℕ) (v w : Item) (s : List ℕ) → IsItem b v → Begins w s b → v ≡ w
 whole_is one b v w s is begins = (one v w b begins.0 [] s is.0 begins.1 (append-nil b ∙ begins.2)).0
+
+-- The item that bytes begin with is all of them if nothing follows it.
+item_alone : (b : List ℕ) (v : Item) (s : List ℕ) → s ≡ [] → depth v ≤ 256 → Begins v s b → IsItem b v
+item_alone b v s none deep h = (subst (IsEncoding v) (sym (h.2 ∙ (ap (λ y. h.0 ++ y) none ∙ append-nil h.0))) h.1, deep)
+
+pub flat_header : (b : List ℕ) (n : Header) (s : List ℕ) → IsFlat n → s ≡ [] → BeginsHeader b n s → IsHeader b n
+flat_header b n s flat none h = record {
+  pairs = h.pairs;
+  is_item = item_alone b (dict h.pairs) s none (subst (λ m. suc m ≤ 256) (sym (h.has.flat flat)) (omega (arith))) h.begins;
+  has = h.has;
+  placed = h.placed;
+}
 
 pub header_is : OneItem → (b : List ℕ) (v : Item) (n : Header) (s : List ℕ) → IsItem b v → BeginsHeader b n s → IsHeader b n
 header_is one b v n s is h = record {
@@ -118,9 +129,9 @@ no_proof b t empty front = record {
 pub elements_begin :
     (k : kinds.Kind) (b : List ℕ) (e : Elements) (r s z : List ℕ) → Begins (bytes e.protected.bytes.now) e.protected.behind.now b → IsAhead b e.protected
     → IsContent e.protected.bytes.now e.first → BeginsHeader e.protected.behind.now e.second r → BeginsContent r e.content s → BeginsProof k s e.proof z
-    → e.front.now ≡ b → (e.is_plain ≡ true → (e.first.is_plain ≡ true) × (e.second.is_plain ≡ true))
+    → e.front.now ≡ b → (e.is_plain ≡ true → (e.first.is_plain ≡ true) × (e.second.is_plain ≡ true)) → (e.is_flat ≡ true → IsFlatMessage k e.second)
     → BeginsElements k b e z
-elements_begin k b e r s z p p_in first second content proof front plain =
+elements_begin k b e r s z p p_in first second content proof front plain flat =
     let a : List ℕ = p.0 in
     let m : List ℕ = second.begins.0 in
     let c : List ℕ = content.0.0 in
@@ -136,6 +147,7 @@ elements_begin k b e r s z p p_in first second content proof front plain =
         first = first;
         second = second.has;
         plain = plain;
+        flat = flat;
         is_proof = proof.is_proof;
         front = ((e.protected.behind.now, subst (Begins (bytes e.protected.bytes.now) e.protected.behind.now) (sym front) p), (r, second.begins));
         protected_in = p_in;
@@ -158,6 +170,7 @@ elements_in k b x r ps e parts a = record {
   first = a.first;
   second = a.second;
   plain = a.plain;
+  flat = a.flat;
   is_proof = a.is_proof;
   front = a.front;
   protected_in = ahead_in b x r e.protected parts a.protected_in;
@@ -175,13 +188,12 @@ counted Encrypt e ps w = refl
 
 pub message_begins :
     (k : kinds.Kind) (n : Option ℕ) (b r s z : List ℕ) (e : Elements) → IsCounted k n → Opens 4 n r b → BeginsElements k r e s → Closes n s z
-    → BeginsMessage k b e
+    → BeginsMessage k b e z
 message_begins k n b r s z e is h it close =
     let c = enclosed 4 n (items_count (items_of k e it.pairs it.recipients)) b r it.encoding z h (ends n is close) in
     let x = head_of 4 n r b h in record {
       pairs = it.pairs;
       recipients = it.recipients;
-      behind = z;
       begins = (c.0, (it.encoding, it.are_encoded, c.1), c.2);
       are_elements = elements_in k b x.0 r it.pairs e x.1 it.are_elements;
     }
@@ -190,28 +202,64 @@ message_begins k n b r s z e is h it close =
     ends (Some m) is close = (counted k e it.pairs it.recipients ∙ sym is, it.parts ∙ ap (λ y. it.encoding ++ y) (sym close))
     ends None is close = it.parts ∙ ap (λ y. it.encoding ++ y) close
 
+-- Nothing in a message without recipients is deeper than what is in its unprotected header.
+flat_depth : (k : kinds.Kind) (e : Elements) (ps : Pairs) (w : Item) → has_recipients k ≡ false → pairs_depth ps ≡ 0 → depth (array (items_of k e ps w)) ≡ 2
+flat_depth k e ps w alone flat = go k e.content alone
+  where
+    deep : kinds.Kind → Option Ahead → ℕ → ℕ
+    deep k c n = suc (max 0 (max (suc n) (max (depth (content_item (content_of c))) (items_depth (last_items k e.proof.bytes.now w)))))
+
+    go : (k : kinds.Kind) (c : Option Ahead) → has_recipients k ≡ false → deep k c (pairs_depth ps) ≡ 2
+    go Sign1 None f = ap (deep Sign1 None) flat
+    go Sign1 (Some t) f = ap (deep Sign1 (Some t)) flat
+    go Mac0 None f = ap (deep Mac0 None) flat
+    go Mac0 (Some t) f = ap (deep Mac0 (Some t)) flat
+    go Encrypt0 None f = ap (deep Encrypt0 None) flat
+    go Encrypt0 (Some t) f = ap (deep Encrypt0 (Some t)) flat
+    go Mac c f = absurd (true≢false f)
+    go Encrypt c f = absurd (true≢false f)
+
 -- ---- the tag
 
-pub message_is :
-    OneItem → (k : kinds.Kind) (b : List ℕ) (v : Item) (t : Bool) (r : List ℕ) (e : Elements) → IsItem b v → IsUntagged (tag_of k) b t r
-    → BeginsMessage k r e → IsMessage k b t e
-message_is one k b v true r e is h it =
-    let w = array (items_of k e it.pairs it.recipients) in
-    let c = it.begins.0 in
-    let under : Begins (tag (tag_of k) w) it.behind b = (
-      h.head ++ c,
-      (c, it.begins.1, record { head = h.head; is_head = h.is_head; parts = refl }),
-      h.parts ∙ (ap (λ y. h.head ++ y) it.begins.2 ∙ sym (append_assoc h.head c it.behind)),
-    ) in record {
-      pairs = it.pairs;
-      recipients = it.recipients;
-      is_item = subst (IsItem b) (whole_is one b v (tag (tag_of k) w) it.behind is under) is;
-      are_elements = elements_in k b h.head r it.pairs e h.parts it.are_elements;
-    }
-message_is one k b v false r e is h it = record {
-  pairs = it.pairs;
-  recipients = it.recipients;
-  is_item = subst (IsItem b) (whole_is one b v (array (items_of k e it.pairs it.recipients)) it.behind is
-      (subst (Begins (array (items_of k e it.pairs it.recipients)) it.behind) h it.begins)) is;
-  are_elements = elements_in k b [] r it.pairs e (sym h) it.are_elements;
-}
+shallow : (t : Bool) (n : ℕ) (v : Item) → depth v ≡ 2 → depth (perhaps_tag t n v) ≤ 256
+shallow true n v e = subst (λ m. suc m ≤ 256) (sym e) (omega (arith))
+shallow false n v e = subst (λ m. m ≤ 256) (sym e) (omega (arith))
+
+-- The bytes begin with the item, which is under its tag if t is true.
+with_tag :
+    (n : ℕ) (b : List ℕ) (t : Bool) (r : List ℕ) (w : Item) (s : List ℕ) → IsUntagged n b t r → Begins w s r → Begins (perhaps_tag t n w) s b
+with_tag n b true r w s h begins = (
+  h.head ++ begins.0,
+  (begins.0, begins.1, record { head = h.head; is_head = h.is_head; parts = refl }),
+  h.parts ∙ (ap (λ y. h.head ++ y) begins.2 ∙ sym (append_assoc h.head begins.0 s)),
+)
+with_tag n b false r w s h begins = subst (Begins w s) h begins
+
+under_tag : (n : ℕ) (b : List ℕ) (t : Bool) (r : List ℕ) → IsUntagged n b t r → (x : List ℕ) × (b ≡ x ++ r)
+under_tag n b true r h = (h.head, h.parts)
+under_tag n b false r h = ([], sym h)
+
+module _ (k : kinds.Kind) (b : List ℕ) (t : Bool) (r : List ℕ) (e : Elements) (s : List ℕ) (h : IsUntagged (tag_of k) b t r) (it : BeginsMessage k r e s) where
+  message : Item
+  message = perhaps_tag t (tag_of k) (array (items_of k e it.pairs it.recipients))
+
+  begins : Begins message s b
+  begins = with_tag (tag_of k) b t r (array (items_of k e it.pairs it.recipients)) s h it.begins
+
+  of_item : IsItem b message → IsMessage k b t e
+  of_item is =
+      let x = under_tag (tag_of k) b t r h in record {
+        pairs = it.pairs;
+        recipients = it.recipients;
+        is_item = is;
+        are_elements = elements_in k b x.0 r it.pairs e x.1 it.are_elements;
+      }
+
+  pub message_is : OneItem → (v : Item) → IsItem b v → IsMessage k b t e
+  message_is one v is = of_item (subst (IsItem b) (whole_is one b v message s is begins) is)
+
+  pub flat_message : e.is_flat ≡ true → s ≡ [] → IsMessage k b t e
+  flat_message flat none =
+      let f = it.are_elements.flat flat in
+      let deep = flat_depth k e it.pairs it.recipients f.0 (it.are_elements.second.flat f.1) in
+      of_item (item_alone b message s none (shallow t (tag_of k) (array (items_of k e it.pairs it.recipients)) deep) begins)

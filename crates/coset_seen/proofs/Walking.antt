@@ -1,18 +1,18 @@
 -- Reading plain pairs one after another.
 use Rattle.std.proofs.Common.{◌≡◌, ◌≢◌, ◌<ℤ◌, ◌++◌, ◌∙◌, ℕ, suc, ℤ, pos, negsuc, List, [], Option, Some, None, Bool, true, false, cond}
-use Rattle.std.proofs.Common.{refl, sym, ap, subst, arith, FitsSigned}
+use Rattle.std.proofs.Common.{refl, sym, ap, subst, arith, max, true≢false, FitsSigned}
 use Rattle.std.specs.Int.{w64}
 use Rattle.std.specs.Ordering.{int_eq}
 use Rattle.std.specs.Option.{option_or}
 use Rattle.std.specs.Prelude.{IfSome, option_map}
 use Rattle.std.proofs.lemmas.Bool.Decides.{Decides-int_eq}
 use Rattle.std.proofs.lemmas.List.{append_assoc}
-use Rattle.coset.specs.Item.{Item, Pairs, no_pairs, pair, bytes, integer, pairs_count}
+use Rattle.coset.specs.Item.{Item, Pairs, no_pairs, pair, bytes, depth, integer, pairs_count, pairs_depth}
 use Rattle.coset.specs.Grammar.{ArePairEncodings}
 use Rattle.coset_seen.specs.declared.forward.Ahead.{Ahead}
 use Rattle.coset_seen.specs.declared.header.Named.{Named}
 use Rattle.coset_seen.specs.declared.header.Parameter as parameters
-use Rattle.coset_seen.specs.declared.header.Parameter.TheVariants.{Algorithm, KeyId, Other}
+use Rattle.coset_seen.specs.declared.header.Parameter.TheVariants.{Algorithm, Flat, KeyId, Other}
 use Rattle.coset_seen.specs.Begins.{Begins, IsAhead}
 use Rattle.coset_seen.specs.Named.{BeginsPlain, IsParameter, IsPlaced, Says, value_of, with_parameter}
 use Rattle.coset_seen.proofs.Fronts.{ahead_in}
@@ -34,6 +34,7 @@ pub record Completes (count : ℕ) (b : List ℕ) (n : Named) (a : List ℕ) (qs
   pub are_plain : ArePlain (negsuc 0) pairs
   pub algorithm : value_of (pos 1) pairs ≡ option_or (algorithm_item n) (value_of (pos 1) qs)
   pub key_id : value_of (pos 4) pairs ≡ option_or (key_id_item n) (value_of (pos 4) qs)
+  pub flat : n.is_flat ≡ true → pairs_depth qs ≡ 0 → pairs_depth pairs ≡ 0
 
 -- The walk from b has come to s. `left` pairs are left, and the last label was `last`.
 pub record Walked (count left : ℕ) (b s : List ℕ) (last : ℤ) (n : Named) : Type 0 where
@@ -73,6 +74,7 @@ algorithm_goes last l v n (Algorithm m) qs none above says =
     ∙ (same_label l (pos 1) v qs says.0 ∙ ap Some says.1)
 algorithm_goes last l v n (KeyId t) qs none above says =
     ap (λ o. option_or (algorithm_item n) o) (other_label l (pos 1) v qs (λ h. let s = says.0 in grind arith))
+algorithm_goes last l v n Flat qs none above says = ap (λ o. option_or (algorithm_item n) o) (other_label l (pos 1) v qs says.0)
 algorithm_goes last l v n Other qs none above says = ap (λ o. option_or (algorithm_item n) o) (other_label l (pos 1) v qs says.0)
 
 key_id_goes :
@@ -84,18 +86,36 @@ key_id_goes last l v n (KeyId t) qs none above says =
     ∙ (same_label l (pos 4) v qs says.0 ∙ ap Some says.1)
 key_id_goes last l v n (Algorithm m) qs none above says =
     ap (λ o. option_or (key_id_item n) o) (other_label l (pos 4) v qs (λ h. let s = says.0 in grind arith))
+key_id_goes last l v n Flat qs none above says = ap (λ o. option_or (key_id_item n) o) (other_label l (pos 4) v qs says.1)
 key_id_goes last l v n Other qs none above says = ap (λ o. option_or (key_id_item n) o) (other_label l (pos 4) v qs says.1)
+
+-- One more pair is flat.
+flat_goes :
+    (l : ℤ) (v : Item) (n : Named) (p : parameters.Parameter) (qs : Pairs) → Says l v p → (with_parameter n p).is_flat ≡ true → pairs_depth qs ≡ 0
+    → (n.is_flat ≡ true) × (pairs_depth (pair (integer l) v qs) ≡ 0)
+flat_goes l v n p qs says flat rest = go p says flat
+  where
+    with_value : depth v ≡ 0 → pairs_depth (pair (integer l) v qs) ≡ 0
+    with_value e = ap (λ m. max 0 (max m (pairs_depth qs))) e ∙ ap (λ m. max 0 (max 0 m)) rest
+
+    go : (p : parameters.Parameter) → Says l v p → (with_parameter n p).is_flat ≡ true → (n.is_flat ≡ true) × (pairs_depth (pair (integer l) v qs) ≡ 0)
+    go (Algorithm m) s f = (f, with_value (ap depth s.1))
+    go (KeyId t) s f = (f, with_value (ap depth s.1))
+    go Flat s f = (f, with_value s.2)
+    go Other s f = absurd (true≢false (sym f))
 
 no_algorithm_yet : (last l : ℤ) (v : Item) (n : Named) (p : parameters.Parameter) → (last <ℤ pos 1 → n.algorithm ≡ None) → last <ℤ l → Says l v p → l <ℤ pos 1
     → (with_parameter n p).algorithm ≡ None
 no_algorithm_yet last l v n (Algorithm m) none above says below = let s = says.0 in absurd (grind arith)
 no_algorithm_yet last l v n (KeyId t) none above says below = none (grind arith)
+no_algorithm_yet last l v n Flat none above says below = none (grind arith)
 no_algorithm_yet last l v n Other none above says below = none (grind arith)
 
 no_key_id_yet : (last l : ℤ) (v : Item) (n : Named) (p : parameters.Parameter) → (last <ℤ pos 4 → n.key_id ≡ None) → last <ℤ l → Says l v p → l <ℤ pos 4
     → (with_parameter n p).key_id ≡ None
 no_key_id_yet last l v n (Algorithm m) none above says below = none (grind arith)
 no_key_id_yet last l v n (KeyId t) none above says below = let s = says.0 in absurd (grind arith)
+no_key_id_yet last l v n Flat none above says below = none (grind arith)
 no_key_id_yet last l v n Other none above says below = none (grind arith)
 
 -- A key identifier found in a later part of b is in b.
@@ -103,6 +123,7 @@ placed_in : (b x s r : List ℕ) (n : Named) (p : parameters.Parameter) → b �
     → IfSome (with_parameter n p).key_id (IsAhead b)
 placed_in b x s r n (Algorithm m) parts old placed = old
 placed_in b x s r n (KeyId t) parts old placed = ahead_in b x s t parts placed
+placed_in b x s r n Flat parts old placed = old
 placed_in b x s r n Other parts old placed = old
 
 -- Reading a label and its value.
@@ -127,6 +148,7 @@ goes_on count left more b s t r last l n p w counts label fits above value =
             are_plain = it.are_plain;
             algorithm = it.algorithm ∙ algorithm_goes last l value.value n p qs w.no_algorithm above value.says;
             key_id = it.key_id ∙ key_id_goes last l value.value n p qs w.no_key_id above value.says;
+            flat = λ f none. let g = flat_goes l value.value n p qs value.says f none in it.flat g.0 g.1;
           };
       no_algorithm = no_algorithm_yet last l value.value n p w.no_algorithm above value.says;
       no_key_id = no_key_id_yet last l value.value n p w.no_key_id above value.says;
@@ -152,6 +174,7 @@ ended count b s last n w =
       counted = it.counted;
       are_plain = it.are_plain;
       named = record { algorithm = it.algorithm ∙ or_none (algorithm_item n); key_id = it.key_id ∙ or_none (key_id_item n) };
+      flat = λ f. it.flat f refl;
       placed = w.placed;
     }
   where

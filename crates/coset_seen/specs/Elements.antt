@@ -8,8 +8,8 @@ use Rattle.coset_seen.specs.declared.kind.Kind as kinds
 use Rattle.coset_seen.specs.declared.kind.Kind.TheVariants.{Sign1, Mac0, Encrypt0, Mac, Encrypt}
 use Rattle.coset_seen.specs.declared.labels.Header.{Header}
 use Rattle.coset_seen.specs.Begins.{Begins, IsAhead}
-use Rattle.coset_seen.specs.Kinds.{elements_of, tag_of}
-use Rattle.coset_seen.specs.Labels.{Has}
+use Rattle.coset_seen.specs.Kinds.{elements_of, has_recipients, tag_of}
+use Rattle.coset_seen.specs.Labels.{Has, IsFlat}
 
 -- The content of a protected header's byte string is empty, or a map of these pairs.
 abbrev pub IsFilledMapOf : List ℕ → Pairs → Type 0
@@ -83,11 +83,16 @@ items_of k e us w = laid_items k e.protected.bytes.now us (content_of e.content)
 abbrev pub BeginsHeaders : List ℕ → Pairs → List ℕ → List ℕ → Type 0
 BeginsHeaders p us b d = ((r : List ℕ) × Begins (bytes p) r b) × ((s : List ℕ) × Begins (dict us) s d)
 
+-- A message of kind k with the unprotected header h has no recipients, and no item in a value of this header.
+abbrev pub IsFlatMessage : kinds.Kind → Header → Type 0
+IsFlatMessage k h = (has_recipients k ≡ false) × IsFlat h
+
 -- The elements e of a message of kind k, in the bytes b. The pairs are those of its unprotected header.
 pub record AreElements (k : kinds.Kind) (b : List ℕ) (ps : Pairs) (e : Elements) : Type 0 where
   pub first : IsContent e.protected.bytes.now e.first
   pub second : Has ps e.second
   pub plain : e.is_plain ≡ true → (e.first.is_plain ≡ true) × (e.second.is_plain ≡ true)
+  pub flat : e.is_flat ≡ true → IsFlatMessage k e.second
   pub is_proof : IsProof k e.proof.bytes.now
   pub front : BeginsHeaders e.protected.bytes.now ps e.front.now e.protected.behind.now
   pub protected_in : IsAhead b e.protected
@@ -109,12 +114,11 @@ abbrev pub IsCounted : kinds.Kind → Option ℕ → Type 0
 IsCounted k (Some n) = n ≡ elements_of k
 IsCounted k None = ⊤
 
--- The bytes b begin with an array of the elements e.
-pub record BeginsMessage (k : kinds.Kind) (b : List ℕ) (e : Elements) : Type 0 where
+-- The bytes b begin with an array of the elements e, and s follows it.
+pub record BeginsMessage (k : kinds.Kind) (b : List ℕ) (e : Elements) (s : List ℕ) : Type 0 where
   pub pairs : Pairs
   pub recipients : Item
-  pub behind : List ℕ
-  pub begins : Begins (array (items_of k e pairs recipients)) behind b
+  pub begins : Begins (array (items_of k e pairs recipients)) s b
   pub are_elements : AreElements k b pairs e
 
 -- If t is true, the bytes b are a tag of that number and then r. Otherwise they are r.

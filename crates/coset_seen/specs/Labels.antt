@@ -4,7 +4,7 @@ use Rattle.std.specs.Int.{w64}
 use Rattle.std.specs.Option.{option_or}
 use Rattle.std.specs.Ordering.{int_eq}
 use Rattle.coset.specs.Grammar.{ArePairEncodings, IsItem}
-use Rattle.coset.specs.Item.{Item, Pairs, bytes, dict, pairs_count}
+use Rattle.coset.specs.Item.{Item, Pairs, bytes, dict, pairs_count, pairs_depth}
 use Rattle.coset.specs.Parts.{as_integer}
 use Rattle.coset_seen.specs.declared.forward.Ahead.{Ahead}
 use Rattle.coset_seen.specs.declared.header.Named.{Named}
@@ -36,12 +36,17 @@ names_algorithm None t = t
 abbrev pub key_id_item : Named → Option Item
 key_id_item n = option_map (λ t. bytes t.bytes.now) n.key_id
 
+-- The header is plain, and no value in it has an item in it.
+abbrev pub IsFlat : Header → Type 0
+IsFlat h = (h.is_plain ≡ true) × (h.named.is_flat ≡ true)
+
 -- h has the values of the pairs under the labels 1 (alg), 2 (crit) and 4 (kid).
 pub record Has (ps : Pairs) (h : Header) : Type 0 where
   pub algorithm : NamesAlgorithm (value_of (pos 1) ps) h.named.algorithm h.has_text
   pub critical : h.is_critical ≡ false → value_of (pos 2) ps ≡ None
   pub key_id : value_of (pos 4) ps ≡ key_id_item h.named
   pub plain : h.is_plain ≡ true → ArePlain (negsuc 0) ps × (h.has_text ≡ false)
+  pub flat : IsFlat h → pairs_depth ps ≡ 0
 
 -- ---- one more pair
 

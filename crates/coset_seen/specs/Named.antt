@@ -1,14 +1,14 @@
 -- The algorithm and the key identifier of a plain header, and where they are in the input.
-use Rattle.std.specs.Prelude.{◌≡◌, ◌≢◌, ◌++◌, ℕ, ℤ, pos, negsuc, List, Option, Some, None, Bool, false, IfSome, option_map, if◌then◌else◌, ⊤}
+use Rattle.std.specs.Prelude.{◌≡◌, ◌≢◌, ◌++◌, ℕ, ℤ, pos, negsuc, List, Option, Some, None, Bool, true, false, IfSome, option_map, if◌then◌else◌, ⊤}
 use Rattle.std.specs.Ordering.{int_eq}
-use Rattle.coset.specs.Item.{Item, Pairs, no_pairs, pair, bytes, integer, pairs_count}
+use Rattle.coset.specs.Item.{Item, Pairs, no_pairs, pair, bytes, depth, integer, pairs_count, pairs_depth}
 use Rattle.coset.specs.Parts.{as_integer}
 use Rattle.coset.specs.Grammar.{ArePairEncodings}
 use Rattle.coset.specs.Headers.{HeaderView, layered_header}
 use Rattle.coset.specs.Results.{Describes}
 use Rattle.coset_seen.specs.declared.header.Named.{Named}
 use Rattle.coset_seen.specs.declared.header.Parameter as parameters
-use Rattle.coset_seen.specs.declared.header.Parameter.TheVariants.{Algorithm, KeyId, Other}
+use Rattle.coset_seen.specs.declared.header.Parameter.TheVariants.{Algorithm, Flat, KeyId, Other}
 use Rattle.coset_seen.specs.Begins.{Begins, IsAhead}
 use Rattle.coset_seen.specs.Plain.{ArePlain, IsPlainValue}
 
@@ -26,10 +26,11 @@ first_value test (pair k v ps) = if test k then Some v else first_value test ps
 abbrev pub value_of : ℤ → Pairs → Option Item
 value_of n = first_value (λ k. is_same int_eq (as_integer k) n)
 
--- The parameter is that of this label and value.
+-- The parameter is that of this label and value. The value of a flat one has no item in it.
 abbrev pub Says : ℤ → Item → parameters.Parameter → Type 0
 Says l v (Algorithm n) = (l ≡ pos 1) × (v ≡ integer n)
 Says l v (KeyId t) = (l ≡ pos 4) × (v ≡ bytes t.bytes.now)
+Says l v Flat = (l ≢ pos 1) × (l ≢ pos 4) × (depth v ≡ 0)
 Says l v Other = (l ≢ pos 1) × (l ≢ pos 4)
 
 -- A key identifier is in b.
@@ -49,7 +50,8 @@ pub record IsParameter (l : ℤ) (b : List ℕ) (p : parameters.Parameter) (s : 
 abbrev pub with_parameter : Named → parameters.Parameter → Named
 with_parameter n (Algorithm m) = record n { algorithm = Some m }
 with_parameter n (KeyId t) = record n { key_id = Some t }
-with_parameter n Other = n
+with_parameter n Flat = n
+with_parameter n Other = record n { is_flat = false }
 
 -- n has the values of the pairs under the labels 1 (alg) and 4 (kid).
 pub record AreNamed (ps : Pairs) (n : Named) : Type 0 where
@@ -65,6 +67,7 @@ pub record BeginsPlain (count : ℕ) (b : List ℕ) (n : Named) (s : List ℕ) :
   pub counted : pairs_count pairs ≡ count
   pub are_plain : ArePlain (negsuc 0) pairs
   pub named : AreNamed pairs n
+  pub flat : n.is_flat ≡ true → pairs_depth pairs ≡ 0
   pub placed : IfSome n.key_id (IsAhead b)
 
 -- The bytes describe a header, within any number of layers.

@@ -1,7 +1,7 @@
 //! The elements of a message, read forward.
 
 ghost use Rattle.std.specs.Prelude.{◌≡◌, [], IfSome, true};
-ghost use Rattle.coset_seen.specs.Elements.{BeginsContent, BeginsElements, BeginsMessage, BeginsProof, IsContent, IsCounted, IsMessage, IsUntagged};
+ghost use Rattle.coset_seen.specs.Elements.{BeginsContent, BeginsElements, BeginsMessage, BeginsProof, IsContent, IsCounted, IsFlatMessage, IsMessage, IsUntagged};
 ghost use Rattle.coset_seen.specs.Kinds.{elements_of};
 
 use crate::forward::{Ahead, bytes_at, closed, headed, item_at, null_at, opened};
@@ -16,6 +16,9 @@ use coset_codec::traits::whole_item;
 pub(crate) struct Elements<'a> {
     /// Whether the array has a definite length and both headers are plain.
     pub(crate) is_plain: bool,
+    /// Whether the message is known to have no recipients, and only integers and strings as values
+    /// of its unprotected header.
+    pub(crate) is_flat: bool,
     /// The bytes from the first element on.
     pub(crate) front: &'a [u8],
     pub(crate) protected: Ahead<'a>,
@@ -90,6 +93,14 @@ fn are_plain(is_definite: bool, first: bool, second: bool) -> bool
     is_definite && first && second
 }
 
+/// Returns true if a message with this unprotected header has no recipients, and only integers and
+/// strings as values of this header. Nothing in it then nests deeper than 256 levels.
+fn is_flat(kind: Kind, second: &Header<'_>) -> bool
+    ensures { result ≡ true → IsFlatMessage kind second.now }
+{
+    second.is_flat() && !kind.has_recipients()
+}
+
 /// Returns the elements of a message, which begin at the front, and the bytes after them.
 /// `is_definite` says whether their array has a definite length.
 #[inline(always)]
@@ -103,6 +114,7 @@ fn elements_at(kind: Kind, is_definite: bool, input: &[u8]) -> Option<(Elements<
     let (proof, rest) = proof_at(kind, rest)?;
     let elements = Elements {
         is_plain: are_plain(is_definite, first.is_plain, second.is_plain),
+        is_flat: is_flat(kind, &second),
         front: input,
         protected,
         first,
@@ -123,18 +135,18 @@ fn is_counted(count: Option<u64>, kind: Kind) -> bool
     }
 }
 
-/// Returns the elements of the message at the front.
+/// Returns the elements of the message at the front, and the bytes after the message.
 #[inline(always)]
-pub(crate) fn message_at(kind: Kind, input: &[u8]) -> Option<Elements<'_>>
-    ensures { IfSome result (BeginsMessage kind input.now) }
+pub(crate) fn message_at(kind: Kind, input: &[u8]) -> Option<(Elements<'_>, &[u8])>
+    ensures { IfSome result (λ x. BeginsMessage kind input.now x.0 x.1.now) }
 {
     let (count, rest) = opened(input, MajorType::Array)?;
     if !is_counted(count, kind) {
         return None;
     }
     let (elements, rest) = elements_at(kind, count.is_some(), rest)?;
-    closed(count, rest)?;
-    Some(elements)
+    let rest = closed(count, rest)?;
+    Some((elements, rest))
 }
 
 /// Returns true and the bytes after the tag, if a tag of this number is at the front. Otherwise
@@ -155,7 +167,14 @@ pub(crate) fn elements_of(kind: Kind, input: &[u8]) -> Option<(bool, Elements<'_
     ensures { IfSome result (λ x. IsMessage kind input.now x.0 x.1) }
 {
     let (is_tagged, rest) = untagged(kind.tag(), input);
-    let elements = message_at(kind, rest)?;
+    let (elements, rest) = message_at(kind, rest)?;
+    if elements.is_flat {
+        // Nothing nests too deep, so the item that was read is valid.
+        if !rest.is_empty() {
+            return None;
+        }
+        return Some((is_tagged, elements));
+    }
     let Ok(_) = whole_item(input) else {
         return None;
     };

@@ -14,13 +14,17 @@ use coset::iana::{Algorithm, CoapContentFormat, EnumI64, WithPrivateRange};
 pub(crate) struct Named<'a> {
     pub(crate) algorithm: Option<i64>,
     pub(crate) key_id: Option<Ahead<'a>>,
+    /// Whether each value is known to be an integer or a string.
+    pub(crate) is_flat: bool,
 }
 
-/// A header parameter. `Other` is any parameter except `alg` and `kid`.
+/// A header parameter. `Flat` and `Other` are any parameters except `alg` and `kid`. The value of
+/// `Flat` is an integer or a string.
 #[derive(Clone, Copy)]
 enum Parameter<'a> {
     Algorithm(i64),
     KeyId(Ahead<'a>),
+    Flat,
     Other,
 }
 
@@ -60,7 +64,7 @@ fn content_format_at(input: &[u8]) -> Option<(Parameter<'_>, &[u8])>
     if !is_content_format(number) {
         return None;
     }
-    Some((Parameter::Other, rest))
+    Some((Parameter::Flat, rest))
 }
 
 /// Returns the content of the byte string at the front. Returns `None` for any other item, and if
@@ -97,7 +101,7 @@ fn parameter_at(label: i64, value: &[u8]) -> Option<(Parameter<'_>, &[u8])>
         // IV
         5 => {
             let found = filled_at(value)?;
-            Some((Parameter::Other, found.behind))
+            Some((Parameter::Flat, found.behind))
         }
         // crit, Partial IV, and countersignatures of both versions
         2 | 6 | 7 | 11 | 12 => None,
@@ -117,6 +121,7 @@ impl<'a> Named<'a> {
         Named {
             algorithm: None,
             key_id: None,
+            is_flat: true,
         }
     }
 
@@ -128,13 +133,17 @@ impl<'a> Named<'a> {
         match parameter {
             Parameter::Algorithm(number) => Named {
                 algorithm: Some(number),
-                key_id: self.key_id,
+                ..self
             },
             Parameter::KeyId(found) => Named {
-                algorithm: self.algorithm,
                 key_id: Some(found),
+                ..self
             },
-            Parameter::Other => self,
+            Parameter::Flat => self,
+            Parameter::Other => Named {
+                is_flat: false,
+                ..self
+            },
         }
     }
 }

@@ -4,7 +4,7 @@ ghost use Rattle.std.specs.Ordering.{int_eq};
 ghost use Rattle.std.specs.Prelude.{◌≡◌, List, ℕ, IfSome, IsTrue, MatchOption, None, Some};
 ghost use Rattle.coset.specs.Pulls.{pull_item};
 ghost use Rattle.coset_seen.specs.Begins.{Begins};
-ghost use Rattle.coset_seen.specs.Labels.{BeginsHeader, BeginsPairs, GoesOn, IsHeader, IsNoNumber, IsNumber, Takes, TakesAlgorithm, TakesKeyId, TakesNone, TakesNumber, names_algorithm};
+ghost use Rattle.coset_seen.specs.Labels.{BeginsHeader, BeginsPairs, GoesOn, IsFlat, IsHeader, IsNoNumber, IsNumber, Takes, TakesAlgorithm, TakesKeyId, TakesNone, TakesNumber, names_algorithm};
 ghost use Rattle.coset_seen.specs.Named.{DescribesHeader, is_same};
 
 use crate::forward::{Ahead, break_at, bytes_at, opened};
@@ -60,6 +60,14 @@ impl<'a> Header<'a> {
         }
     }
 
+    /// Returns true if the header is plain and each value in it is known to be an integer or a
+    /// string.
+    pub(crate) fn is_flat(&self) -> bool
+        ensures { result ≡ true → IsFlat self.now }
+    {
+        self.is_plain && self.named.is_flat
+    }
+
     /// Returns true if there is a value under `alg`.
     fn has_algorithm(self) -> bool
         ensures { result ≡ names_algorithm self.entry.named.algorithm self.entry.has_text }
@@ -77,7 +85,7 @@ impl<'a> Header<'a> {
         Header {
             named: Named {
                 algorithm: number,
-                key_id: self.named.key_id,
+                ..self.named
             },
             has_text: match number {
                 Some(_) => false,
@@ -106,8 +114,8 @@ impl<'a> Header<'a> {
             Some(_) => self,
             None => Header {
                 named: Named {
-                    algorithm: self.named.algorithm,
                     key_id: Some(value),
+                    ..self.named
                 },
                 has_text: self.has_text,
                 is_critical: self.is_critical,
@@ -227,7 +235,14 @@ pub(crate) fn header_at(input: &[u8]) -> Option<(Header<'_>, &[u8])>
 pub(crate) fn whole_header(input: &[u8]) -> Option<Header<'_>>
     ensures { IfSome result (IsHeader input.now) }
 {
-    let (header, _) = header_at(input)?;
+    let (header, rest) = header_at(input)?;
+    if header.is_flat() {
+        // Nothing nests too deep, so the item that was read is valid.
+        if !rest.is_empty() {
+            return None;
+        }
+        return Some(header);
+    }
     let Ok(_) = whole_item(input) else {
         return None;
     };

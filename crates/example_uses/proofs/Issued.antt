@@ -1,9 +1,11 @@
 -- Why a message isn't sent, and a token of claims isn't issued.
-use Rattle.std.proofs.Common.{◌≡◌, ℕ, ℤ, List, [], ◌∷◌, ◌++◌, Option, Some, None, Result, Ok, Err, true, option_map, refl, subst, inl, inr}
-use Rattle.std.specs.Prelude.{IfErr}
+use Rattle.std.proofs.Common.{◌≡◌, ℕ, ℤ, List, [], ◌∷◌, ◌++◌, Option, Some, None, Result, Ok, Err, true, option_map, refl, subst, inl, inr, Vec}
+use Rattle.std.specs.Global.{Global}
+use Rattle.std.specs.Prelude.{IfErr, IfOk}
 use Rattle.coset_value.specs.Item.{Item, Items, array, bytes, dict, item}
 use Rattle.coset_codec.specs.Maps.{entries_image, labelled_image}
 use Rattle.coset_codec.specs.ReadAgain.{IsWritten}
+use Rattle.coset_codec.specs.Results.{Describes}
 use Rattle.coset_codec.specs.Shape.{both, bstr, tstr}
 use Rattle.coset_codec.specs.declared.error.CallError.{CallError}
 use Rattle.coset_codec.specs.declared.error.CallError.TheVariants.{Coset, Caller}
@@ -18,6 +20,7 @@ use Rattle.coset_codec.proofs.EncodingMaps.{optional-has}
 use Rattle.coset_sign.specs.SignatureStructure.{signature_structure}
 use Rattle.coset_sign.specs.Sign1.{sign1, sign1_attached, with_signature}
 use Rattle.coset_sign.specs.declared.signature.SignatureContext.TheVariants.{CoseSign1}
+use Rattle.example_uses.specs.Exchange.{IsIssued, IsSent}
 use Rattle.example_uses.specs.Refusals.{IsNotIssued, IsNotSent, unsigned}
 use Rattle.example_uses.specs.declared.cipher.Refused.{Refused}
 use Rattle.example_uses.proofs.NamedAlgorithm.{IsAlgorithm, has_signed, is_read}
@@ -93,8 +96,8 @@ not_issued :
     (refuses : List ℕ → Refused → Type 0) (external_aad payload : List ℕ) (n : ℤ) → IsAlgorithm n → (c : ClaimsView) → IsWritten claims c payload
     → (e : CallError Refused)
     → IsNotSent refuses external_aad (with_algorithm (assigned n) empty_header) payload e → IsNotIssued refuses external_aad (assigned n) c e
-not_issued refuses a payload n is c w (Coset e) (inl none) = only_memory e (λ other. has_signed n payload a (none other).1)
-not_issued refuses a payload n is c w (Coset e) (inr h) = only_memory e (λ other. (h.3 other).1 _ (is_read n is payload h.0 h.1 h.2))
+not_issued refuses a payload n is c w (Coset e) (inl none) = inl (only_memory e (λ other. has_signed n payload a (none other).1))
+not_issued refuses a payload n is c w (Coset e) (inr h) = inl (only_memory e (λ other. (h.3 other).1 _ (is_read n is payload h.0 h.1 h.2)))
 not_issued refuses a payload n is c w (Caller r) h = (payload, h.0, w, h.1, h.2)
 
 pub none_issued :
@@ -104,3 +107,10 @@ pub none_issued :
     → IfErr r (λ e. IsNotIssued refuses external_aad (assigned n) c e)
 none_issued refuses a payload n is c w h names (Ok x) k = tt
 none_issued refuses a payload n is c w h names (Err e) k = not_issued refuses a payload n is c w e (subst (λ x. IsNotSent refuses a x payload e) names k)
+
+pub issued :
+    {R : Type 0} (signs : List ℕ → List ℕ → Type 0) (external_aad : List ℕ) (c : ClaimsView) (payload : List ℕ) (n : ClaimsView)
+    → IsWritten claims c payload → Describes claims payload n
+    → (r : Result (Vec ℕ Global) R) → IfOk r (λ b. IsSent signs external_aad payload b.items) → IfOk r (λ b. IsIssued signs external_aad c b.items)
+issued signs a c payload n w read (Ok b) sent = (payload, w, (n, read), sent)
+issued signs a c payload n w read (Err e) sent = tt

@@ -45,9 +45,10 @@ pub record IsVerified (accepts : List ℕ → List ℕ → Type 0) (external_aad
   pub read : Describes sign1 b n
   pub signed : (t : List ℕ) × IsStructure (sign1_attached n external_aad) t × accepts t n.signature
 
--- A token whose payload is these claims (RFC 8392, section 7.1).
+-- A token whose payload is these claims, which can be read (RFC 8392, section 7.1).
 abbrev pub IsIssued : (List ℕ → List ℕ → Type 0) → List ℕ → ClaimsView → List ℕ → Type 0
-IsIssued signs external_aad c b = (payload : List ℕ) × IsWritten claims c payload × IsSent signs external_aad payload b
+IsIssued signs external_aad c b =
+    (payload : List ℕ) × IsWritten claims c payload × ((n : ClaimsView) × Describes claims payload n) × IsSent signs external_aad payload b
 
 -- The claims in the payload of a verified token.
 pub record AreVerified (accepts : List ℕ → List ℕ → Type 0) (external_aad b : List ℕ) (c : ClaimsView) : Type 0 where

@@ -58,10 +58,14 @@ IsNotSent refuses external_aad h payload (Coset e) =
     ⊎ ((s : List ℕ) × (b : List ℕ) × IsWritten sign1 (with_signature s (unsigned h payload)) b × IsRefused sign1 b e)
 IsNotSent refuses external_aad h payload (Caller r) = (t : List ℕ) × IsStructure (sign1_attached (unsigned h payload) external_aad) t × refuses t r
 
+-- The claims are written, and their encoding can't be read.
+abbrev pub AreUnreadable : ClaimsView → CoseError → Type 0
+AreUnreadable c e = (payload : List ℕ) × IsWritten claims c payload × IsRefused claims payload e
+
 -- Why a token of these claims isn't issued, whose protected header names the algorithm a. An allocation failed, or the
--- key refuses the structure.
+-- claims can't be read, or the key refuses the structure.
 abbrev pub IsNotIssued : (List ℕ → Refused → Type 0) → List ℕ → RegisteredLabelView → ClaimsView → CallError Refused → Type 0
-IsNotIssued refuses external_aad a c (Coset e) = e ≡ OutOfMemory
+IsNotIssued refuses external_aad a c (Coset e) = (e ≡ OutOfMemory) ⊎ AreUnreadable c e
 IsNotIssued refuses external_aad a c (Caller r) =
     (payload : List ℕ) × (t : List ℕ) × IsWritten claims c payload
     × IsStructure (sign1_attached (unsigned (with_algorithm a empty_header) payload) external_aad) t × refuses t r

@@ -50,8 +50,12 @@ pub fn sign_token<K: SigningKey>(
 
 /// Issues a web token with these claims. Its protected header names the algorithm.
 ///
+/// The claims are read once before they are signed, because claims may be built that no reader
+/// accepts.
+///
 /// # Errors
-/// The errors of [`sign_token`].
+/// - The error of reading the claims, for example `DuplicateMapKey` if a name occurs twice.
+/// - The errors of [`sign_token`].
 pub fn issue_token<K: SigningKey>(
     alloc: Global,
     key: &K,
@@ -65,6 +69,7 @@ pub fn issue_token<K: SigningKey>(
         (assigned (algorithms.number algorithm)) (claims_view claims) e) }
 {
     let payload = claims.to_vec(alloc)?;
+    drop(ClaimsSet::from_slice(alloc, &payload)?);
     let protected = HeaderBuilder::new(alloc).algorithm(algorithm).build();
     sign_token(alloc, key, protected, payload, external_aad)
 }

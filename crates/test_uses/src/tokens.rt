@@ -1,5 +1,6 @@
 //! Tokens that are signed, sent and verified, with a stand-in for ciphers.
 
+use coset::cbor::value::Value;
 use coset::cwt::{ClaimsSet, ClaimsSetBuilder};
 use coset::iana::Algorithm;
 use coset::{CallError, CoseError, Header, HeaderBuilder};
@@ -111,5 +112,17 @@ fn claims_that_are_issued(rt: HostRuntime) -> Result<(), Fail> {
         .ok()
         .ok_or("refused")?;
     assert!(rt; claims_read == claims(alloc)?);
+    Ok(())
+}
+
+#[test]
+fn claims_with_a_name_twice_are_not_issued(rt: HostRuntime) -> Result<(), Fail> {
+    let alloc = rt.alloc();
+    let claims = ClaimsSetBuilder::new(alloc)
+        .text_claim(String::from_str(alloc, "a")?, Value::Null)?
+        .text_claim(String::from_str(alloc, "a")?, Value::Null)?
+        .build();
+    let refused = issue_token(alloc, &StandInKey, Algorithm::ES256, claims, EXTERNAL_AAD);
+    assert!(rt; matches!(refused, Err(CallError::Coset(CoseError::DuplicateMapKey))));
     Ok(())
 }

@@ -8,6 +8,7 @@ returns c =
     elements_begin c.args.kind c.args.input.now
     (record {
       is_plain = c.are_plain.result;
+      is_flat = c.is_flat.result;
       front = c.args.input;
       protected = p.protected;
       first = c.in_ok-first.first;
@@ -16,4 +17,4 @@ returns c =
       proof = c.in_ok-proof.proof;
     })
     c.in_ok-second.rest.now c.in_ok-content.rest.now c.in_ok-proof.rest.now p.ensures.begins p.ensures.ahead c.in_ok-first.ensures c.in_ok-second.ensures
-    c.in_ok-content.ensures c.in_ok-proof.ensures refl c.are_plain.ensures
+    c.in_ok-content.ensures c.in_ok-proof.ensures refl c.are_plain.ensures c.is_flat.ensures

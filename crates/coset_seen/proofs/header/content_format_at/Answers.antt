@@ -12,6 +12,6 @@ returns c =
       value = integer n.number;
       begins = n.ensures.begins;
       is_plain = subst (λ z. IsPlainValue (pos 3) (integer z)) same (c.is_content_format.ensures c.if-not-is_content_format.false);
-      says = ((λ e. grind arith), (λ e. grind arith));
+      says = ((λ e. grind arith), (λ e. grind arith), refl);
       placed = tt;
     }

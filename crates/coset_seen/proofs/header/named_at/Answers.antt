@@ -11,7 +11,7 @@ loop-preserved c =
     let label = c.in_ok-label in
     let parameter = c.in_ok-parameter in
     let same = to_z-of_z w64 label.label label.ensures.fits in
-    let n : Named = record { algorithm = c.loop.named.0; key_id = c.loop.named.1.0 } in
+    let n : Named = record { algorithm = c.loop.named.0; key_id = c.loop.named.1.0; is_flat = c.loop.named.1.1.0 } in
     let w : Walked c.args.count (c.args.count - (c.loop.counter + 1)) c.args.bytes.now parameter.behind.now label.label (with_parameter n parameter.parameter) =
     goes_on c.args.count (c.args.count - c.loop.counter) (c.args.count - (c.loop.counter + 1)) c.args.bytes.now c.loop.rest.now label.value.now
     parameter.behind.now (to_z w64 c.loop.last-bits) label.label n parameter.parameter c.loop.invariant (omega (arith, c.loop-test.true))
@@ -23,6 +23,6 @@ loop-preserved c =
 
 pub returns : goal.returns
 returns c =
-    let n : Named = record { algorithm = c.loop.named.0; key_id = c.loop.named.1.0 } in
+    let n : Named = record { algorithm = c.loop.named.0; key_id = c.loop.named.1.0; is_flat = c.loop.named.1.1.0 } in
     ended c.args.count c.args.bytes.now c.loop.rest.now (to_z w64 c.loop.last-bits) n
     (subst (λ k. Walked c.args.count k c.args.bytes.now c.loop.rest.now (to_z w64 c.loop.last-bits) n) (omega (arith, c.loop-test.false)) c.loop.invariant)

@@ -28,7 +28,7 @@ returns-in_ok-found-in-5 c =
       value = bytes found.found.bytes.now;
       begins = found.ensures.begins;
       is_plain = subst (λ l. IsPlainValue l (bytes found.found.bytes.now)) (sym is) (iv_value found.found.bytes.now found.ensures.filled);
-      says = ((λ e. grind (arith, e, is)), (λ e. grind (arith, e, is)));
+      says = ((λ e. grind (arith, e, is)), (λ e. grind (arith, e, is)), refl);
       placed = tt;
     }
 
