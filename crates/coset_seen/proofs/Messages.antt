@@ -2,7 +2,7 @@
 use Rattle.std.proofs.Common.{◌≡◌, ◌∙◌, ◌++◌, ◌⊎◌, ◌≤◌, ℕ, suc, List, [], Option, Some, None, Bool, true, false, refl, sym, ap, subst, inl, inr, arith, max, true≢false}
 use Rattle.std.specs.Prelude.{IfSome}
 use Rattle.std.proofs.lemmas.List.{append_assoc, append-nil}
-use Rattle.coset.specs.Item.{Item, Pairs, item, no_items, no_pairs, tag, array, bytes, dict, null, depth, items_count, items_depth, pairs_depth}
+use Rattle.coset.specs.Item.{Item, Pairs, item, no_items, no_pairs, array, bytes, dict, null, depth, items_count, items_depth, pairs_depth}
 use Rattle.coset.specs.Grammar.{AreEncodings, IsEncoding, IsItem}
 use Rattle.coset_seen.specs.declared.elements.Elements.{Elements}
 use Rattle.coset_seen.specs.declared.forward.Ahead.{Ahead}
@@ -240,7 +240,7 @@ under_tag n b true r h = (h.head, h.parts)
 under_tag n b false r h = ([], sym h)
 
 module _ (k : kinds.Kind) (b : List ℕ) (t : Bool) (r : List ℕ) (e : Elements) (s : List ℕ) (h : IsUntagged (tag_of k) b t r) (it : BeginsMessage k r e s) where
-  message : Item
+  abbrev message : Item
   message = perhaps_tag t (tag_of k) (array (items_of k e it.pairs it.recipients))
 
   begins : Begins message s b

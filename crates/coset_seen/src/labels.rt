@@ -1,7 +1,7 @@
 //! Headers, plain or not, with their algorithm, `crit` and key identifier.
 
 ghost use Rattle.std.specs.Ordering.{int_eq};
-ghost use Rattle.std.specs.Prelude.{◌≡◌, List, ℕ, IfSome, IsTrue, MatchOption, None, Some};
+ghost use Rattle.std.specs.Prelude.{◌≡◌, List, ℕ, IfSome, IsTrue, MatchOption, None, Some, true};
 ghost use Rattle.coset.specs.Pulls.{pull_item};
 ghost use Rattle.coset_seen.specs.Begins.{Begins};
 ghost use Rattle.coset_seen.specs.Labels.{BeginsHeader, BeginsPairs, GoesOn, IsFlat, IsHeader, IsNoNumber, IsNumber, Takes, TakesAlgorithm, TakesKeyId, TakesNone, TakesNumber, names_algorithm};

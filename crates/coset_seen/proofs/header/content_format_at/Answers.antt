@@ -1,5 +1,5 @@
 use mir.Syntax.{w64}
-use Rattle.std.proofs.Common.{pos, subst, arith}
+use Rattle.std.proofs.Common.{pos, refl, subst, arith}
 use Rattle.std.proofs.lemmas.Int.{to_z-of_z}
 use Rattle.coset.specs.Item.{integer}
 use Rattle.coset_seen.specs.Plain.{IsPlainValue}

@@ -1,4 +1,4 @@
-use Rattle.std.proofs.Common.{◌+◌, arith, refl}
+use Rattle.std.proofs.Common.{◌+◌, arith}
 use Rattle.coset_seen.proofs.Labelling.{begun, ended, goes_on}
 use Rattle.coset_seen.proofs.labels.counted_at.Goals as goal
 

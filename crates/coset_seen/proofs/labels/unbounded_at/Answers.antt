@@ -1,4 +1,4 @@
-use Rattle.std.proofs.Common.{◌+◌, ◌∙◌, ◌++◌, ap, arith, refl, None}
+use Rattle.std.proofs.Common.{◌+◌, ◌∙◌, ◌++◌, ap, arith, None}
 use Rattle.coset_seen.proofs.Labelling.{begun, ended, goes_on}
 use Rattle.coset_seen.proofs.labels.unbounded_at.Goals as goal
 
