@@ -91,7 +91,7 @@ export class OutOfMemory extends CosetError {
   }
 }
 
-/** The caller's function said no to the signature, the tag or the ciphertext. */
+/** The caller's function said no to the signature, the tag or the ciphertext. Or a signature or tag is empty. */
 export class Refused extends CosetError {}
 
 /** The protected header doesn't name an allowed algorithm by its number. */
