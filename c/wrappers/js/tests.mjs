@@ -237,6 +237,18 @@ const tests = {
     for (const field of Object.keys(layer)) assert.ok(await thrown(() => coset.keyFits(key, { ...layer, [field]: undefined })) instanceof coset.Misuse, field);
   },
 
+  async "a hole in a list is a misuse, and no empty text"() {
+    const hole = new Array(1), yes = layer => [layer.form === ENCRYPT0 ? layer.proof : true, "as"];
+    for (const list of ["algorithms", "critical", "required", "audience", "types"]) {
+      const error = await thrown(() => coset.verifyToken(nested(1), yes, { ...POLICY, [list]: [...(POLICY[list] ?? [])].concat(hole) }));
+      assert.ok(error instanceof coset.Misuse, `${list}: ${error}`);
+    }
+    for (const list of ["algorithms", "critical"]) {
+      const error = await thrown(() => coset.verify(SIGN1 + TAGGED, signed("x"), { algorithms: [-7], [list]: hole }, () => true));
+      assert.ok(error instanceof coset.Misuse, `${list}: ${error}`);
+    }
+  },
+
   async "nothing is taken from a prototype"() {
     const open = layer => [layer.form === ENCRYPT0 ? layer.proof : true, "as"], required = { ...POLICY, required: [8] };
     const base = Object.assign(Object.create(null), required), { Object: Other } = runInNewContext("({ Object })");
