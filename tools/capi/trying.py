@@ -111,7 +111,12 @@ def wheels_refused(prefix, folder, library):
     with open(f"{folder}/wrong/lib/libcoset.so", "wb") as file:
         file.write(contents[:18] + b"\xb7" + contents[19:])
     got = run(sys.executable, "-c", WHEEL, f"{folder}/wrong", cwd=source, env={**where, "COSET_LIB_DIR": f"{folder}/wrong/lib"})
-    return told + ([] if got.endswith("-linux_aarch64.whl") else [f"a wheel for another processor: {got}"])
+    told += [] if got.endswith("-linux_aarch64.whl") else [f"a wheel for another processor: {got}"]
+    for setting in ("System", "", f"{library}/libcoset.so"):
+        made = WHEEL.replace("argv[1]", "argv[1], {'library': sys.argv[2]}")
+        got = run(sys.executable, "-c", made, f"{folder}/wrong", setting, cwd=source, env={**where, "COSET_LIB_DIR": library})
+        told += [] if "RuntimeError" in got else [f"a wheel with the library {setting}: {got}"]
+    return told
 
 
 def by_pip(prefix, folder, token):
