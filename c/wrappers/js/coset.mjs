@@ -287,7 +287,7 @@ function blank(shape, count = 1) {
 function writeStruct(shape, values, bytes, index = 0) {
   const view = new DataView(bytes.buffer, shape.size * index, shape.size);
   for (const { name, type, at } of shape.fields) {
-    const value = values[name] ?? 0;
+    const value = Object.hasOwn(values, name) ? values[name] : 0;
     if (type === "u32") view.setUint32(at, value, true);
     else view.setBigUint64(at, BigInt.asUintN(64, BigInt(value)), true);
   }

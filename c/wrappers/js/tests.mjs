@@ -261,6 +261,24 @@ const tests = {
     }
   },
 
+  async "a prototype that was changed names no issuer"() {
+    const fields = { issuer: 0, issuer_len: 2 };
+    const open = layer => {
+      if (layer.form !== ENCRYPT0) {
+        for (const [name, value] of Object.entries(fields)) Object.defineProperty(Object.prototype, name, { value, configurable: true });
+        return true;
+      }
+      fields.issuer = layer.input.length + Buffer.from(layer.proof).indexOf("as"); // the name in `iss` of the claims
+      return layer.proof;
+    };
+    try {
+      assert.equal((await thrown(() => coset.verifyToken(nested(1), open, POLICY))).reason, "ISSUER");
+      assert.equal(Object.prototype.issuer, fields.issuer);
+    } finally {
+      for (const name of Object.keys(fields)) delete Object.prototype[name];
+    }
+  },
+
   async "an empty signature or MAC is refused, and nobody is asked"() {
     const never = () => assert.fail("the verifier is called");
     for (const [kind, algorithm] of [[SIGN1, -7], [MAC0, 5]]) {
