@@ -498,7 +498,7 @@ coset_status coset_token_open(const coset_rules *rules, const int64_t *algorithm
  * - alg of the key is the layer's algorithm (RFC 8725, section 3.1), which has a number of IANA and is for the form.
  * - kty, crv, and the lengths of the key's members are those that the algorithm requires (RFC 9053).
  * - key_ops is absent, or has an operation for layers of this form (RFC 9052, section 7.1).
- * - The MAC has the algorithm's length. The ciphertext isn't shorter than its tag.
+ * - The MAC has the algorithm's length. The ciphertext isn't shorter than its tag. A signature may have any length.
  * - For encryption, the layer has an IV of the algorithm's length. Or it has no IV but a Partial IV, and the key has a
  *   Base IV (RFC 9052, section 3.1).
  * - The layer names no key identifier, or the key's.

@@ -14,7 +14,7 @@ extern "C" {
 
 /* One more status, which these calls return. */
 enum {
-  COSET_REFUSED = 18 /* the caller's function said no */
+  COSET_REFUSED = 18 /* the caller's function said no, or a signature or tag is empty */
 };
 
 /* The caller's requirements for a message. A policy of all zeros accepts nothing. */
@@ -62,7 +62,8 @@ enum {
  * Any other result counts as COSET_NO.
  *
  * It isn't called for an empty proof, because no algorithm has one (RFC 9053, sections 2 and 3). No other length is
- * checked. So compare the proof's length with the algorithm's before its bytes, or call coset_key_fits. */
+ * checked. So compare the proof's length with the algorithm's before its bytes. coset_key_fits compares that of a MAC,
+ * and not that of a signature. */
 typedef int (*coset_verifier)(void *context, const coset_question *question);
 
 /* Decrypts the ciphertext by such a key. Returns:
@@ -449,7 +450,8 @@ typedef struct coset_layer_question {
  * - COSET_NO otherwise. Any other result counts as COSET_NO. For COSET_ENCRYPT0, so does COSET_YES with a length greater
  *   than `cap`, or if `*len` isn't set.
  *
- * It isn't called for an empty signature or MAC. No other length of the question is checked before. */
+ * It isn't called for an empty signature or MAC. No other length of the question is checked before. coset_key_fits
+ * doesn't check that of a signature, so compare it with the algorithm's before its bytes. */
 typedef int (*coset_opener)(void *context, const coset_layer_question *question, uint8_t *plain, size_t cap, size_t *len,
                             coset_text *issuer);
 
@@ -581,8 +583,8 @@ static inline coset_status coset_work_ask(struct coset_work *work, const coset_l
  *
  * If the status is COSET_OK, `opener` said yes to each layer, and the token meets the policy. `*token` then has its
  * parts. After any other status the pointers of `*token` are NULL, and `work` has zeros, unless `cap` is above
- * PTRDIFF_MAX. COSET_REFUSED means that `opener` said no, or that a signature or MAC is empty. A leeway or a greatest age above INT64_MAX, such as a
- * converted -1, is COSET_MISUSE, because it would switch off the checks of times.
+ * PTRDIFF_MAX. COSET_REFUSED means that `opener` said no, or that a signature or MAC is empty. A leeway or a greatest
+ * age above INT64_MAX, such as a converted -1, is COSET_MISUSE, because it would switch off the checks of times.
  *
  * `work` needs room for the texts of each layer, plaintexts, names of issuers, and the verified token. Nine times the
  * token's length and 64 bytes for each of its layers are enough, if the names of issuers and audience are short

@@ -85,6 +85,7 @@ def issuings():
     says = [claims[("int", label)][1] for label in (1, 2, 3, 7, 4, 5, 6)]
     yield ("issued", 0, key_id, says + [signed, message[3][1]], OK, data)
     yield ("issued", 0, key_id, says + [signed + b"x", message[3][1]], -1, None)
+    yield ("issued", 0, key_id, says + [signed, b""], -1, None)
 
 
 def wrong_signers():

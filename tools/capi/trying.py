@@ -46,18 +46,31 @@ def by_pkg_config(prefix, folder, token):
     return [told or run(f"{folder}/try_pc", token)]
 
 
+def found_by_cmake(prefix, folder, built, token):
+    """Returns the outputs of the two programs, built in this folder, if CMake looks below the prefix."""
+    told = run("cmake", "-S", folder, "-B", built, f"-DCMAKE_PREFIX_PATH={prefix}", "-DCMAKE_LIBRARY_ARCHITECTURE=x86_64-linux-gnu")
+    told += run("cmake", "--build", built)
+    return [run(it, token) if os.path.exists(it) else told for it in (f"{built}/try_shared", f"{built}/try_static")]
+
+
 def by_cmake(prefix, folder, token):
-    told = run("cmake", "-S", folder, "-B", f"{folder}/built", f"-DCMAKE_PREFIX_PATH={prefix}",
-               "-DCMAKE_LIBRARY_ARCHITECTURE=x86_64-linux-gnu")
-    told += run("cmake", "--build", f"{folder}/built")
+    told = found_by_cmake(prefix, folder, f"{folder}/built", token)
     # As /lib, which may be a link to /usr/lib.
     os.makedirs(f"{folder}/linked")
     os.symlink(f"{prefix}/lib", f"{folder}/linked/lib")
-    told += run("cmake", "-S", folder, "-B", f"{folder}/built_linked", f"-DCMAKE_PREFIX_PATH={folder}/linked",
-                "-DCMAKE_LIBRARY_ARCHITECTURE=x86_64-linux-gnu")
-    told += run("cmake", "--build", f"{folder}/built_linked")
-    found = [f"{folder}/{built}/{name}" for built in ("built", "built_linked") for name in ("try_shared", "try_static")]
-    return [run(it, token) if os.path.exists(it) else told for it in found]
+    told += found_by_cmake(f"{folder}/linked", folder, f"{folder}/built_linked", token)
+    # The prefix's own folder may be a link, next to whose files there are no headers.
+    os.makedirs(f"{folder}/apart")
+    os.rename(f"{prefix}/lib", f"{folder}/apart/lib")
+    os.symlink(f"{folder}/apart/lib", f"{prefix}/lib")
+    told += found_by_cmake(prefix, folder, f"{folder}/built_apart", token)
+    os.remove(f"{prefix}/lib")
+    os.rename(f"{folder}/apart/lib", f"{prefix}/lib")
+    # A moved installation.
+    os.rename(prefix, f"{folder}/moved")
+    told += found_by_cmake(f"{folder}/moved", folder, f"{folder}/built_moved", token)
+    os.rename(f"{folder}/moved", prefix)
+    return told
 
 
 def packed(prefix, folder, library):
@@ -98,7 +111,12 @@ def wheels_refused(prefix, folder, library):
     with open(f"{folder}/wrong/lib/libcoset.so", "wb") as file:
         file.write(contents[:18] + b"\xb7" + contents[19:])
     got = run(sys.executable, "-c", WHEEL, f"{folder}/wrong", cwd=source, env={**where, "COSET_LIB_DIR": f"{folder}/wrong/lib"})
-    return told + ([] if got.endswith("-linux_aarch64.whl") else [f"a wheel for another processor: {got}"])
+    told += [] if got.endswith("-linux_aarch64.whl") else [f"a wheel for another processor: {got}"]
+    for setting in ("System", "", f"{library}/libcoset.so"):
+        made = WHEEL.replace("argv[1]", "argv[1], {'library': sys.argv[2]}")
+        got = run(sys.executable, "-c", made, f"{folder}/wrong", setting, cwd=source, env={**where, "COSET_LIB_DIR": library})
+        told += [] if "RuntimeError" in got else [f"a wheel with the library {setting}: {got}"]
+    return told
 
 
 def by_pip(prefix, folder, token):

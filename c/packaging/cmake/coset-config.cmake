@@ -1,7 +1,13 @@
 # Defines the targets coset::coset, the shared library, and coset::static.
-# The folder may be a link, as /lib is to /usr/lib.
+# The folder may be reached through a link, as by /lib to /usr/lib, or by a link from the prefix to another disk.
 get_filename_component(_coset_here "${CMAKE_CURRENT_LIST_DIR}" REALPATH)
-get_filename_component(_coset_prefix "${_coset_here}/@UP@" ABSOLUTE)
+get_filename_component(_coset_there "@PREFIX@/@LIBDIR@/cmake/coset" REALPATH)
+if(_coset_here STREQUAL _coset_there)
+  set(_coset_prefix "@PREFIX@")
+else()
+  # The installation was moved.
+  get_filename_component(_coset_prefix "${_coset_here}/@UP@" ABSOLUTE)
+endif()
 if(NOT TARGET coset::coset)
   add_library(coset::coset SHARED IMPORTED)
   set_target_properties(coset::coset PROPERTIES
@@ -15,4 +21,5 @@ if(NOT TARGET coset::coset)
 endif()
 set(coset_PROVED @PROVED@)
 unset(_coset_here)
+unset(_coset_there)
 unset(_coset_prefix)

@@ -83,7 +83,10 @@ def _about(tag):
 
 
 def build_wheel(wheel_directory, config_settings=None, metadata_directory=None):
-    library = None if (config_settings or {}).get("library") == "system" else _library()
+    wanted = (config_settings or {}).get("library")
+    if wanted not in (None, "system"):
+        raise RuntimeError(f"the setting library is system, or isn't given, and not {wanted}")
+    library = _library() if wanted is None else None
     tag = f"py3-none-{'any' if library is None else _platform(library)}"
     files = {path: _read(path) for path in _package()}
     if library is not None:

@@ -19,7 +19,9 @@ fn folders() -> Vec<PathBuf> {
 }
 
 fn main() {
-    println!("cargo:rerun-if-env-changed=COSET_LIB_DIR");
+    for name in ["COSET_LIB_DIR", "PKG_CONFIG_PATH", "PKG_CONFIG_LIBDIR"] {
+        println!("cargo:rerun-if-env-changed={name}");
+    }
     println!("cargo:rustc-check-cfg=cfg(coset_no_std)");
     if env::var_os("CARGO_FEATURE_STD").is_none() {
         println!("cargo:rustc-cfg=coset_no_std");

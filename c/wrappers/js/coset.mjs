@@ -91,7 +91,7 @@ export class OutOfMemory extends CosetError {
   }
 }
 
-/** The caller's function said no to the signature, the tag or the ciphertext. */
+/** The caller's function said no to the signature, the tag or the ciphertext. Or a signature or tag is empty. */
 export class Refused extends CosetError {}
 
 /** The protected header doesn't name an allowed algorithm by its number. */
@@ -287,7 +287,7 @@ function blank(shape, count = 1) {
 function writeStruct(shape, values, bytes, index = 0) {
   const view = new DataView(bytes.buffer, shape.size * index, shape.size);
   for (const { name, type, at } of shape.fields) {
-    const value = values[name] ?? 0;
+    const value = Object.hasOwn(values, name) ? values[name] : 0;
     if (type === "u32") view.setUint32(at, value, true);
     else view.setBigUint64(at, BigInt.asUintN(64, BigInt(value)), true);
   }
@@ -464,7 +464,7 @@ function decoded(data) {
 
 function texts(names, name) {
   if (!Array.isArray(names)) throw new Misuse(`${name} is a list of texts`);
-  return new Texts(names.map(utf8));
+  return new Texts(Array.from(names, utf8)); // unlike `map`, it doesn't pass over holes
 }
 
 function joined(parts) {
@@ -711,7 +711,7 @@ export function sign1(kind, data, options = {}) {
 /** Returns the question about a message, or throws an error if the message isn't allowed. */
 function asked(kind, found, algorithms, proof) {
   if (!Array.isArray(algorithms)) throw new Misuse("algorithms is a list of integers");
-  const allowed = algorithms.map(it => exact(int64(it)));
+  const allowed = Array.from(algorithms, it => exact(int64(it)));
   if (found.critical === NOT_UNDERSTOOD) throw new Critical(Status.CRITICAL);
   if (found.algorithm === null || !allowed.includes(found.algorithm)) throw new NotAllowed(Status.NOT_ALLOWED);
   const { algorithm, keyId, keyIdMap, input } = found;

@@ -237,6 +237,18 @@ const tests = {
     for (const field of Object.keys(layer)) assert.ok(await thrown(() => coset.keyFits(key, { ...layer, [field]: undefined })) instanceof coset.Misuse, field);
   },
 
+  async "a hole in a list is a misuse, and no empty text"() {
+    const hole = new Array(1), yes = layer => [layer.form === ENCRYPT0 ? layer.proof : true, "as"];
+    for (const list of ["algorithms", "critical", "required", "audience", "types"]) {
+      const error = await thrown(() => coset.verifyToken(nested(1), yes, { ...POLICY, [list]: [...(POLICY[list] ?? [])].concat(hole) }));
+      assert.ok(error instanceof coset.Misuse, `${list}: ${error}`);
+    }
+    for (const list of ["algorithms", "critical"]) {
+      const error = await thrown(() => coset.verify(SIGN1 + TAGGED, signed("x"), { algorithms: [-7], [list]: hole }, () => true));
+      assert.ok(error instanceof coset.Misuse, `${list}: ${error}`);
+    }
+  },
+
   async "nothing is taken from a prototype"() {
     const open = layer => [layer.form === ENCRYPT0 ? layer.proof : true, "as"], required = { ...POLICY, required: [8] };
     const base = Object.assign(Object.create(null), required), { Object: Other } = runInNewContext("({ Object })");
@@ -246,6 +258,24 @@ const tests = {
     for (const options of inherited) assert.ok(await thrown(() => coset.verifyToken(nested(1), open, options)) instanceof coset.Misuse, typeof options);
     for (const options of [required, base, Other.assign(new Other(), required)]) {
       assert.equal((await thrown(() => coset.verifyToken(nested(1), open, options))).reason, "MISSING");
+    }
+  },
+
+  async "a prototype that was changed names no issuer"() {
+    const fields = { issuer: 0, issuer_len: 2 };
+    const open = layer => {
+      if (layer.form !== ENCRYPT0) {
+        for (const [name, value] of Object.entries(fields)) Object.defineProperty(Object.prototype, name, { value, configurable: true });
+        return true;
+      }
+      fields.issuer = layer.input.length + Buffer.from(layer.proof).indexOf("as"); // the name in `iss` of the claims
+      return layer.proof;
+    };
+    try {
+      assert.equal((await thrown(() => coset.verifyToken(nested(1), open, POLICY))).reason, "ISSUER");
+      assert.equal(Object.prototype.issuer, fields.issuer);
+    } finally {
+      for (const name of Object.keys(fields)) delete Object.prototype[name];
     }
   },
 

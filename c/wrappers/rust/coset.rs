@@ -314,7 +314,7 @@ pub struct TokenPolicy<'a> {
     pub may_not_expire: bool,
     /// True if a token may have an `iat` later than now.
     pub may_be_issued_later: bool,
-    /// The age in seconds since `iat` at which a token is refused: at least 1.
+    /// The age in seconds since `iat`, plus `leeway`, at which a token is refused: at least 1.
     pub max_age: Option<u64>,
     /// The number of seconds by which the clocks of issuer and verifier may differ.
     pub leeway: u64,
@@ -470,7 +470,7 @@ pub enum Error {
     NotAllowed,
     /// A critical label isn't understood, or isn't protected.
     Critical,
-    /// The caller's function said no.
+    /// The caller's function said no, or a signature or MAC is empty.
     Refused,
     /// The token has more than four nested layers.
     TooDeep,

@@ -2,7 +2,7 @@ package main
 
 import "coset"
 
-// issued returns a token with these claims, signed by ES256, or nil if sign returns nil for the bytes to sign.
+// issued returns a token with these claims, signed by ES256, or nil if sign returns no bytes. sign gets the bytes to sign.
 func issued(claims []coset.Pair, keyID []byte, sign func(signed []byte) []byte) ([]byte, error) {
 	payload, err := coset.PutAll(coset.Claims, nil, claims)
 	if err != nil {
@@ -21,7 +21,7 @@ func issued(claims []coset.Pair, keyID []byte, sign func(signed []byte) []byte) 
 		return nil, err
 	}
 	signature := sign(signed)
-	if signature == nil {
+	if len(signature) == 0 {
 		return nil, nil
 	}
 	return coset.Make(coset.Sign1+coset.Tagged, header, unprotected, payload, signature)

@@ -122,7 +122,7 @@ class Misuse(TypeError):
 
 
 class Refused(Exception):
-    """The caller's function said no to the signature, the tag or the ciphertext."""
+    """The caller's function said no to the signature, the tag or the ciphertext. Or a signature or tag is empty."""
 
 
 class NotAllowed(Refused):
@@ -766,9 +766,11 @@ def verify(kind, data, algorithms, verify, index=0, critical=(), external_aad=b"
 
     `verify` returns True if the question's proof is a signature or MAC of its input, by a key that the caller trusts
     for that algorithm. It isn't called for an empty proof, which is refused. No other length of a proof is checked, so
-    compare its length with the algorithm's before its bytes. `algorithms` are those that are allowed. List only algorithms for that kind: a MAC0's algorithm
-    in a SIGN1's list would be accepted. `critical` are the critical labels that the caller understands, and acts on.
-    Those of a MAC's recipients aren't looked at.
+    compare its length with the algorithm's before its bytes.
+
+    `algorithms` are those that are allowed. List only algorithms for that kind: a MAC0's algorithm in a SIGN1's list
+    would be accepted. `critical` are the critical labels that the caller understands, and acts on. Those of a MAC's
+    recipients aren't looked at.
 
     For a message with signers, the question is about the signer at `index`. The caller decides which signers are
     enough. A signature may be in the list twice: count keys, not indices. For another kind, an index other than 0 is a
@@ -1130,8 +1132,8 @@ def status_text(status):
 
 def put(kind, data, name, value):
     """Returns the header, key or claims set, which may be empty, with one more pair at its end. The pair is a label, an
-    int or a str, and an int, a float, a str, bytes, or an Encoded. True and False are no integers of CBOR: `put_encoded` takes them, as
-    b"\xf5" and b"\xf4"."""
+    int or a str, and an int, a float, a str, bytes, or an Encoded. True and False are no integers of CBOR: `put_encoded`
+    takes them, as b"\\xf5" and b"\\xf4"."""
     if isinstance(value, bool):
         raise TypeError("True and False are no integers of CBOR: put_encoded takes their encodings")
     if isinstance(name, str) or isinstance(value, Encoded):
