@@ -335,6 +335,12 @@ def fails(page):
         page.run(f"(async () => {{ {broken}; await copyAll({{ target: at('copy') }}); call = plainCall, given = plainGiven; }})()")
         if page.run('at("read").textContent') != "not copied: no room":
             yield f"{broken}: nothing is said of copying"
+    opened = page.run("""(async () => { const now = Date.now; Date.now = () => 1444050000000; showSample(0); await globalThis.showing;
+      let give; const opening = open([{ name: "some", arrayBuffer: () => new Promise(done => { give = done; }) }]); Date.now = now;
+      await judgeAgain(); give(new Uint8Array([0x83, 1, 2, 3]).buffer); await opening; await globalThis.showing;
+      return at("dropped").textContent; })()""")
+    if opened != "some, 4 bytes":
+        yield f"a file isn't shown if times are judged again while it is opened: {opened}"
     show(page, 'open([{ name: "some", arrayBuffer: async () => { throw new Error("it is gone"); } }])')
     if not wait(page, 'at("status").textContent === "Not read: some can\'t be read. The browser says: it is gone"'):
         yield f"of a file that can't be read is said: {page.run('at(`status`).textContent')}"

@@ -7,7 +7,7 @@ const KINDS = {
 const LINK = 4000;  // the most bytes of an input that a link contains
 const MINUTE = 60000;
 
-let file = null, waiting = null;  // a file that was dropped or opened: its name and its bytes; the last call of `show`
+let file = null, waiting = null;  // a file that was dropped or opened: its name and its bytes; the last call of `show` or `open`
 let sampleKey = "";  // the key of the sample that is shown
 
 // Returns the moment by which times are judged, in seconds since 1970, or NaN.
@@ -107,9 +107,9 @@ function showAgain() {
   globalThis.showing = show();
 }
 
-// Judges times again by the browser's clock. If the answer differs, shows it with the same rows folded and marked.
+// Judges times again by the browser's clock, unless a file is opened. If the answer differs, shows it with the same rows folded and marked.
 async function judgeAgain() {
-  if (!isReady || isEmpty() || !at("clock").checked) return;
+  if (!isReady || isEmpty() || !at("clock").checked || waiting?.isFile) return;
   const before = waiting;
   try {
     const { text } = await call("look", ...given());
@@ -173,7 +173,7 @@ function copyLink(event) {
 
 async function open(files) {
   if (!files.length) return;
-  const [{ name }] = files, mine = waiting = {};
+  const [{ name }] = files, mine = waiting = { isFile: true };
   try {
     const bytes = new Uint8Array(await files[0].arrayBuffer());
     if (mine !== waiting) return;
