@@ -3,8 +3,9 @@
 const SECRETS = { 1: [-4], 2: [-4], 3: [-3, -4, -5, -6, -7, -8, -9, -10, -11, -12], 4: [-1], 7: [-2] };
 const PARTS = ["d", "p", "q", "dp", "dq", "qi", "oth", "k", "priv"];  // such parts of a JWK
 const JWK = [/"kty\\*"\s*:/, /"(?:d|p|q|dp|dq|qi|oth|k|priv)\\*"\s*:/];
-// The first line of PEM. And DER of PKCS #8, PKCS #1, SEC 1 and PKCS #12: a sequence that begins with a version.
-const PRIVATE = /BEGIN [A-Z0-9 ]*PRIVATE KEY|\x30(?:[^]|\x81[^]|\x82[^]{2})\x02\x01[\x00\x01\x03][\x30\x02\x04]/;
+const PRIVATE = /BEGIN [A-Z0-9 ]*PRIVATE KEY/;  // the first line of PEM
+// DER of PKCS #1, SEC 1, PKCS #8 and PKCS #12: a sequence of a version, and of a number, a string or a sequence with an object identifier.
+const DER = /\x30(?:[^]|\x81[^]|\x82[^]{2})\x02\x01(?:[\x00\x01]\x02|\x01\x04|[\x00\x01\x03]\x30(?:[^]|\x81[^]|\x82[^]{2})\x06)/;
 const DEPTH = 4;  // the most levels inside a key's value that are passed over
 
 // Reads the head of an item: its major type, its number (infinite for an indefinite length), and the place after it.
@@ -56,7 +57,7 @@ function charactersOf(bytes) {
 // Returns true if a private or symmetric key is somewhere in the bytes: as a map, as JSON, or in PEM or DER.
 function holdsKey(bytes) {
   const text = charactersOf(bytes);
-  return PRIVATE.test(text) || JWK.every(it => it.test(text)) || bytes.some((_, i) => isKeyAt(bytes, i));
+  return PRIVATE.test(text) || DER.test(text) || JWK.every(it => it.test(text)) || bytes.some((_, i) => isKeyAt(bytes, i));
 }
 
 // Returns the bytes that texts in the bytes may spell, in hexadecimal or base64. A spelling may begin anywhere in such a run.
