@@ -4,7 +4,8 @@ const SECRETS = { 1: [-4], 2: [-4], 3: [-3, -4, -5, -6, -7, -8, -9, -10, -11, -1
 const PARTS = ["d", "p", "q", "dp", "dq", "qi", "oth", "k", "priv"];  // such parts of a JWK
 const JWK = [/"kty\\*"\s*:/, /"(?:d|p|q|dp|dq|qi|oth|k|priv)\\*"\s*:/];
 const PRIVATE = /BEGIN [A-Z0-9 ]*PRIVATE KEY/;  // the first line of PEM
-// DER of PKCS #1, SEC 1, PKCS #8 and PKCS #12: a sequence of a version, and of a number, a string or a sequence with an object identifier.
+// DER of PKCS #1, SEC 1, PKCS #8 and PKCS #12: a sequence that begins with a version. A number, a string, or a sequence with an object
+// identifier follows it.
 const DER = /\x30(?:[^]|\x81[^]|\x82[^]{2})\x02\x01(?:[\x00\x01]\x02|\x01\x04|[\x00\x01\x03]\x30(?:[^]|\x81[^]|\x82[^]{2})\x06)/;
 const DEPTH = 4;  // the most levels inside a key's value that are passed over
 
@@ -16,7 +17,7 @@ function headAt(bytes, place) {
   return { major: bytes[place] >> 5, number, next: place + 1 + width };
 }
 
-// Returns the place after an item. It is after the bytes if they end within the item, or if the item nests deeper than a key does.
+// Returns the place after an item. It is after the bytes if they end within the item, or if that nests deeper than a key.
 function placeAfter(bytes, place, depth = 0) {
   const { major, number, next } = headAt(bytes, place), isString = major === 2 || major === 3;
   if (depth > DEPTH) return Infinity;
@@ -36,7 +37,7 @@ function labelAt(bytes, place) {
   return major === 0 ? number : major === 1 ? -1 - number : major === 3 ? decoder.decode(bytes.subarray(next, next + number)) : undefined;
 }
 
-// Returns true if a map that begins at a place is a COSE_Key or a JWK with a private or symmetric part. The bytes may end within it.
+// Returns true if a COSE_Key or JWK with a private or symmetric part begins at a place. The bytes may end within it.
 function isKeyAt(bytes, start) {
   const { major, number, next } = headAt(bytes, start), labels = [];
   let type, place = next;
@@ -54,7 +55,7 @@ function charactersOf(bytes) {
   return Array.from(bytes, it => String.fromCharCode(it)).join("");
 }
 
-// Returns true if a private or symmetric key is somewhere in the bytes: as a map, as JSON, or in PEM or DER.
+// Returns true if bytes contain a private or symmetric key: as a map, as JSON, or in PEM or DER.
 function holdsKey(bytes) {
   const text = charactersOf(bytes);
   return PRIVATE.test(text) || DER.test(text) || JWK.every(it => it.test(text)) || bytes.some((_, i) => isKeyAt(bytes, i));
@@ -68,7 +69,7 @@ function spelledIn(bytes) {
   return [...digits.map(bytesOfHex), ...others.map(it => bytesOfBase64(it.length % 4 === 1 ? it.slice(0, -1) : it))];
 }
 
-// Returns true if a link of the input would contain a private or symmetric key, wherever that is, and whether the rows show it or not.
+// Returns true if a link would contain a private or symmetric key, whether the rows show it or not.
 function hasSecret() {
   const bytes = bytesOfHex(digitsOf(0, rows.count));
   return holdsKey(bytes) || spelledIn(bytes).some(holdsKey);
