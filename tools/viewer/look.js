@@ -6,11 +6,8 @@ const KINDS = {
 };
 const LINK = 4000;  // the most bytes of an input that a link contains
 const MINUTE = 60000;
-// For each key type (kty): the labels of private and symmetric parts.
-const SECRETS = { 1: /^-4(?!\d)/, 2: /^-4(?!\d)/, 3: /^-([3-9]|1[0-2])(?!\d)/, 4: /^-1(?!\d)/, 7: /^-2(?!\d)/ };
-const PRIVATE = /^"(d|p|q|dp|dq|qi|oth|k|priv)"(_\d)?: /;  // such parts of a JWK
 
-let file = null, waiting = null;  // a file that was dropped or opened: its name and its bytes; the last call of `show`
+let file = null, waiting = null;  // a file that was dropped or opened: its name and its bytes; the last call of `show` or `open`
 let sampleKey = "";  // the key of the sample that is shown
 
 // Returns the moment by which times are judged, in seconds since 1970, or NaN.
@@ -110,9 +107,9 @@ function showAgain() {
   globalThis.showing = show();
 }
 
-// Judges times again by the browser's clock. If the answer differs, shows it with the same rows folded and marked.
+// Judges times again by the browser's clock, unless a file is opened. If the answer differs, shows it with the same rows folded and marked.
 async function judgeAgain() {
-  if (!isReady || isEmpty() || !at("clock").checked) return;
+  if (!isReady || isEmpty() || !at("clock").checked || waiting?.isFile) return;
   const before = waiting;
   try {
     const { text } = await call("look", ...given());
@@ -154,21 +151,6 @@ async function copyAll(event) {
   }
 }
 
-// Returns true if a row is a COSE_Key or a JWK with a private or symmetric part.
-function hasSecret() {
-  for (let i = 0; i < rows.count; i++) {
-    if (!/\{(_\d?)?$/.test(row(i).text)) continue;
-    const pairs = elementsAt(i).map(it => row(it).text), type = pairs.map(it => /^1(?:_\d)?: (\d+)/.exec(it)?.[1]).find(Boolean);
-    if (pairs.some(it => SECRETS[type]?.test(it)) || (pairs.some(it => /^"kty"/.test(it)) && pairs.some(it => PRIVATE.test(it)))) return true;
-  }
-  return false;
-}
-
-// Returns true if bytes that aren't taken apart may be a key's: DER, and what follows a fault outside messages.
-function mayHide() {
-  return /\bDER\b/.test(rows.said) || (firstRefused() >= 0 && messageFrom(0) < 0);
-}
-
 // Returns what a link leaves out, and what it gives away.
 function linkRemarks() {
   const found = [];
@@ -181,6 +163,7 @@ function copyLink(event) {
   const digits = digitsOf(0, rows.count);
   if (digits.length > 2 * LINK) return at("read").textContent = `no link: it would contain more than ${LINK} bytes`;
   if (hasSecret()) return at("read").textContent = "no link: it would contain a private or symmetric key";
+  if (hasPrivateInformation()) return at("read").textContent = "no link: it would contain SuppPrivInfo, which is private";
   if (mayHide()) return at("read").textContent = "no link: bytes that aren't taken apart may be a private or symmetric key";
   if (linkRemarks().length) at("read").textContent = linkRemarks().join("; ");
   copied(event.target, `${location.href.split("#")[0]}#${digits}`);
@@ -190,7 +173,7 @@ function copyLink(event) {
 
 async function open(files) {
   if (!files.length) return;
-  const [{ name }] = files, mine = waiting = {};
+  const [{ name }] = files, mine = waiting = { isFile: true };
   try {
     const bytes = new Uint8Array(await files[0].arrayBuffer());
     if (mine !== waiting) return;

@@ -130,7 +130,7 @@ async function doubtsOf(seal) {
   const found = [], isCrit = /critical/.test(seal.headers) || await isCritical(seal);
   if (isCrit) found.push("the message has critical labels (crit), and this page processes none");
   if (seal.headers !== "-" && seal.headers !== "critical") found.push("a label is in both of its headers");
-  if (!seal.name.startsWith("layer ") && messageFrom(0) < 0) found.push("the rows show no message");
+  if (messageFrom(0) < 0) found.push("the rows show no message");
   return found.join(", and ");
 }
 
