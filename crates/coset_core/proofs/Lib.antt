@@ -4,6 +4,7 @@ pub mod Reading
 pub mod Writing
 pub mod WritingHeaders
 pub mod Keeping
+pub mod PassedOn
 pub mod Building
 pub mod Labelled
 pub mod Kept

@@ -1,13 +1,13 @@
 -- Writing headers and signatures part by part.
 use Rattle.std.specs.Prelude.{◌==◌, ◌≢◌, not, filter, true, false, is_some, Result, Ok, Err, IfErr, OnOk, IsErrAnd}
 use Rattle.std.specs.Map.{keys_of}
-use Rattle.std.proofs.Common.{◌≡◌, ℕ, ℤ, Option, Some, None, option_map, true≢false, ◌+◌, ◌<◌, ◌^◌, List, [], ◌∷◌, ◌++◌, map, length, refl, sym, ◌∙◌, ap, subst}
-use Rattle.std.proofs.Common.{append-nil, arith}
-use Rattle.std.proofs.lemmas.List.{length-append, length-map}
+use Rattle.std.proofs.Common.{◌≡◌, ℕ, ℤ, Option, Some, None, option_map, true≢false, ◌+◌, ◌<◌, ◌≤◌, ◌^◌, List, [], ◌∷◌, ◌++◌, map, take, length, refl, sym, ◌∙◌, ap}
+use Rattle.std.proofs.Common.{append-nil, arith, subst}
+use Rattle.std.proofs.lemmas.List.{length-append, length-map, take_all}
 use Rattle.coset_value.specs.Item.{Item, integer, bytes, array, Items, no_items, item}
 use Rattle.coset_value.specs.View.{items_of, value_item}
 use Rattle.coset_value.specs.declared.value.Value.{Value}
-use Rattle.coset_cbor.specs.Least.{least_head, least_encoding}
+use Rattle.coset_cbor.specs.Least.{Extends, least_head, least_encoding, least_encodings}
 use Rattle.coset_iana.specs.HeaderParameter as parameters
 use Rattle.coset_iana.specs.declared.headers.HeaderParameter.{HeaderParameter}
 use Rattle.coset_iana.specs.declared.headers.HeaderParameter.TheVariants.{CounterSignature, CounterSignatureV2, CounterSignature0V2}
@@ -26,7 +26,7 @@ use Rattle.coset_label.specs.Views.{label_view, algorithm_view, entry_view}
 use Rattle.coset_label.specs.declared.label.Label.{Label}
 use Rattle.coset_core.specs.Fields.{FieldsView, fields, parts_of, partial_header, critical, content_type}
 use Rattle.coset_core.specs.Headers.{HeaderView, header_of, fields_in, counter_signatures_in, countersignatures_in, ProtectedView, SignatureView, Signatures}
-use Rattle.coset_core.specs.Headers.{no_signatures, signature_and, signatures_of, are_none, counter_signatures_item, header_item, signatures_image}
+use Rattle.coset_core.specs.Headers.{no_signatures, signature_and, signatures_of, are_none, counter_signatures_item, header_item, signature_item, signatures_image}
 use Rattle.coset_core.specs.Headers.{header_image, protected_bytes}
 use Rattle.coset_core.specs.HeaderWrites.{images_signatures, signature_image_is}
 use Rattle.coset_core.specs.ViewLaws.{HeaderLevel, header_level}
@@ -58,6 +58,18 @@ pub signature-put :
 signature-put s old head mid half new first p u b =
     array-put-elements 3 (omega arith) first (place-put p (place-put u (place-put (bytes s.signature, refl, b) (nothing-put new))))
 
+-- A signature has no image if a header of it has none.
+pub unwritten-protected : (s : SignatureView) → option_map bytes (protected_bytes s.protected) ≡ None → signature_array s ≡ None
+unwritten-protected s e = ap (λ p. signature_item p (header_image s.unprotected) s.signature) e
+
+pub unwritten-unprotected : (s : SignatureView) → header_image s.unprotected ≡ None → signature_array s ≡ None
+unwritten-unprotected s e = ap (λ u. signature_item (option_map bytes (protected_bytes s.protected)) u s.signature) e
+    ∙ behind (option_map bytes (protected_bytes s.protected))
+  where
+    behind : (p : Option Item) → signature_item p None s.signature ≡ None
+    behind (Some p) = refl
+    behind None = refl
+
 -- The byte string of a protected header's bytes is its image.
 pub string-put : (p : ProtectedView) (b old new : List ℕ) → protected_bytes p ≡ Some b → AppendsItem old new (bytes b)
     → AppendsImage (option_map bytes (protected_bytes p)) old new
@@ -86,6 +98,20 @@ signatures-push ss s old mid new p q =
       length-append p.0 (q.0 ∷ []) ∙ (ap (λ n. n + 1) p.2 ∙ sym (length-append ss (s ∷ []))),
       items-push old mid new p.0 q.0 p.3 q.2,
     )
+
+-- No signature so far.
+pub no_signatures-put : (s : List ℕ) → AppendsSignatures s s []
+no_signatures-put s = ([], refl, refl, record { in_range = tt; parts = sym (append-nil s) })
+
+-- No signature is left.
+pub signatures-done :
+    {S : Type 0} (see : S → SignatureView) (ss : List S) (i : ℕ) (old new : List ℕ) → length ss ≤ i → AppendsSignatures old new (map see (take i ss))
+    → AppendsSignatures old new (map see ss)
+signatures-done see ss i old new le p = subst (λ ts. AppendsSignatures old new (map see ts)) (take_all i ss le) p
+
+-- The signatures follow the old bytes.
+pub signatures-kept : (ss : List SignatureView) (old new : List ℕ) → AppendsSignatures old new ss → Extends old new
+signatures-kept ss old new p = (least_encodings (items_of p.0), p.3.parts)
 
 -- If one signature has no image, the list has none.
 pub signatures-none : (ss more : List SignatureView) (s : SignatureView) → signature_array s ≡ None → signatures_image (signatures_of (ss ++ s ∷ more)) ≡ None

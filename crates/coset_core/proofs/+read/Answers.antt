@@ -15,12 +15,14 @@ use Rattle.coset_core.specs.ViewLaws.{protected-made, protected-opened, signatur
 use Rattle.coset_core.specs.declared.protected.ProtectedHeader.{out-ProtectedHeader}
 use Rattle.coset_core.specs.declared.signature.CoseSignature.{out-roll-CoseSignature}
 use Rattle.coset_core.proofs.Reading.{no_layer_left, protected_filled}
+use Rattle.coset_codec.proofs.Entered.{moves_on}
 use Rattle.coset_codec.proofs.InPlace.{last_filled, one_filled_more, one_refused_more}
 use Rattle.coset_codec.proofs.Lists.{all_read}
 use Rattle.coset_core.proofs.Forward.{not_entered, one_iv_yet, so_far_none, so_far_more, ends, pairs_refused, counter_signatures_refused, not_kept}
 use Rattle.coset_core.proofs.Forward.{second_refused, one_filled, more_filled, elements_refused, second_read}
 use Rattle.coset_core.proofs.Forward.{last_refused, elements_filled, unprotected_refused}
 use Rattle.coset_core.proofs.Forward.{protected_refused}
+use Rattle.coset_core.proofs.PassedOn.{no_success}
 use Rattle.coset_core.proofs.+read.Goals as goal
 use Rattle.coset_core.proofs.+read.Goals.{header::reading::fill_counter_signatures-then-one, header::reading::fill_counter_signatures-else-one}
 
@@ -265,3 +267,107 @@ signature::fill_elements-returns-clause-fills t c = λ vs z within.
     (λ d is. c.fill_protected.ensures d (ap (λ g. (protected_view g.protected).original) (out-roll-CoseSignature _)
     ∙ (ap (λ g. (protected_view g.protected).original) (out-roll-CoseSignature _)
     ∙ (ap (λ g. (protected_view g.protected).original) (out-roll-CoseSignature _) ∙ (ap (λ g. g.original) (protected-made _) ∙ is))))))
+
+-- ---- how much of the input is left, and why the recursion ends
+
+pub header::reading::fill_counter_signatures-returns-in_err-one-clause-shrinks : goal.header::reading::fill_counter_signatures-returns-in_err-one-clause-shrinks
+header::reading::fill_counter_signatures-returns-in_err-one-clause-shrinks t c = c.in_err-one.ensures.shrinks
+
+pub header::reading::fill_counter_signatures-fill_single_signature-filled-requires :
+    goal.header::reading::fill_counter_signatures-fill_single_signature-filled-requires
+header::reading::fill_counter_signatures-fill_single_signature-filled-requires t c = (omega (arith, c.in_ok-one.ensures.deeper, c.decreases), c.requires.empty)
+
+pub header::reading::fill_counter_signatures-fill_signature_list-filled-requires :
+    goal.header::reading::fill_counter_signatures-fill_signature_list-filled-requires
+header::reading::fill_counter_signatures-fill_signature_list-filled-requires t c = (omega (arith, c.in_ok-one.ensures.deeper, c.decreases), c.requires.empty)
+
+pub header::reading::fill_counter_signatures-returns-clause-shrinks : goal.header::reading::fill_counter_signatures-returns-clause-shrinks
+header::reading::fill_counter_signatures-returns-clause-shrinks t c =
+    elim c.if-one.branch [
+      | header::reading::fill_counter_signatures-then-one w ↦
+          let last = rw w.input-is at c.finish.ensures.shrinks in
+          omega (arith, c.in_ok-one.ensures.shrinks, w.fill_single_signature-filled.ensures.shrinks, last)
+      | header::reading::fill_counter_signatures-else-one w ↦
+          let last = rw w.input-is at c.finish.ensures.shrinks in
+          omega (arith, c.in_ok-one.ensures.shrinks, w.fill_signature_list-filled.ensures.shrinks, last)
+    ]
+
+pub header::reading::fill_header-returns-in_err-begin_pairs-clause-shrinks : goal.header::reading::fill_header-returns-in_err-begin_pairs-clause-shrinks
+header::reading::fill_header-returns-in_err-begin_pairs-clause-shrinks t c = c.in_err-begin_pairs.ensures.shrinks
+
+pub header::reading::fill_header-returns-in_err-begin_pairs-clause-strictly : goal.header::reading::fill_header-returns-in_err-begin_pairs-clause-strictly
+header::reading::fill_header-returns-in_err-begin_pairs-clause-strictly t c =
+    no_success c.from_residual.result c.in_err-begin_pairs.field-0.0 _ c.from_residual.ensures.1
+
+pub header::reading::fill_header-fill_pairs-filled-requires : goal.header::reading::fill_header-fill_pairs-filled-requires
+header::reading::fill_header-fill_pairs-filled-requires t c = (omega (arith, c.in_ok-begin_pairs.ensures.deeper, c.decreases), c.requires.empty)
+
+pub signature::fill_signature-returns-in_err-begin_items-clause-shrinks : goal.signature::fill_signature-returns-in_err-begin_items-clause-shrinks
+signature::fill_signature-returns-in_err-begin_items-clause-shrinks t c = c.in_err-begin_items.ensures.shrinks
+
+pub signature::fill_signature-returns-in_err-begin_items-clause-strictly : goal.signature::fill_signature-returns-in_err-begin_items-clause-strictly
+signature::fill_signature-returns-in_err-begin_items-clause-strictly t c =
+    no_success c.from_residual.result c.in_err-begin_items.field-0.0 _ c.from_residual.ensures.1
+
+pub signature::fill_signature-fill_elements-filled-requires : goal.signature::fill_signature-fill_elements-filled-requires
+signature::fill_signature-fill_elements-filled-requires t c = (omega (arith, c.in_ok-begin_items.ensures.deeper, c.decreases), c.requires.empty)
+
+pub signature::fill_signature-returns-clause-shrinks : goal.signature::fill_signature-returns-clause-shrinks
+signature::fill_signature-returns-clause-shrinks t c =
+    omega (arith, c.in_ok-begin_items.ensures.shrinks, c.fill_elements-filled.ensures.shrinks, c.finish.ensures.shrinks)
+
+pub signature::fill_signature-returns-clause-strictly : goal.signature::fill_signature-returns-clause-strictly
+signature::fill_signature-returns-clause-strictly t c =
+    moves_on c.fill_elements-filled.result _ _ _ c.in_ok-begin_items.ensures.strictly
+    (omega (arith, c.fill_elements-filled.ensures.shrinks, c.finish.ensures.shrinks))
+
+pub header::reading::fill_pairs-returns-in_err-version-clause-shrinks : goal.header::reading::fill_pairs-returns-in_err-version-clause-shrinks
+header::reading::fill_pairs-returns-in_err-version-clause-shrinks t c = omega (arith, c.fill_fields.ensures.shrinks, c.loop-version.invariant.shrinks)
+
+pub header::reading::fill_pairs-returns-then-has_signatures_of-clause-shrinks : goal.header::reading::fill_pairs-returns-then-has_signatures_of-clause-shrinks
+header::reading::fill_pairs-returns-then-has_signatures_of-clause-shrinks t c =
+    omega (arith, c.reject_second_value.ensures.shrinks, c.fill_fields.ensures.shrinks, c.loop-version.invariant.shrinks)
+
+pub header::reading::fill_pairs-returns-in-Err-clause-shrinks : goal.header::reading::fill_pairs-returns-in-Err-clause-shrinks
+header::reading::fill_pairs-returns-in-Err-clause-shrinks t c =
+    omega (arith, c.fill_counter_signatures.ensures.shrinks, c.fill_fields.ensures.shrinks, c.loop-version.invariant.shrinks)
+
+pub header::reading::fill_pairs-returns-in_err-keep_signatures-clause-shrinks : goal.header::reading::fill_pairs-returns-in_err-keep_signatures-clause-shrinks
+header::reading::fill_pairs-returns-in_err-keep_signatures-clause-shrinks t c =
+    omega (arith, c.fill_counter_signatures.ensures.shrinks, c.fill_fields.ensures.shrinks, c.loop-version.invariant.shrinks)
+
+pub header::reading::fill_pairs-returns-clause-shrinks : goal.header::reading::fill_pairs-returns-clause-shrinks
+header::reading::fill_pairs-returns-clause-shrinks t c = omega (arith, c.fill_fields.ensures.shrinks, c.loop-version.invariant.shrinks)
+
+pub signature::fill_elements-returns-in_err-is_string-clause-shrinks : goal.signature::fill_elements-returns-in_err-is_string-clause-shrinks
+signature::fill_elements-returns-in_err-is_string-clause-shrinks t c = c.begin_elements.ensures.shrinks
+
+pub signature::fill_elements-returns-in_err-end_elements-clause-shrinks : goal.signature::fill_elements-returns-in_err-end_elements-clause-shrinks
+signature::fill_elements-returns-in_err-end_elements-clause-shrinks t c =
+    omega (arith, c.begin_elements.ensures.shrinks, c.fill_header-unprotected.ensures.shrinks, c.end_elements.ensures.shrinks)
+
+pub signature::fill_elements-returns-in_err-unprotected-clause-shrinks : goal.signature::fill_elements-returns-in_err-unprotected-clause-shrinks
+signature::fill_elements-returns-in_err-unprotected-clause-shrinks t c =
+    omega (arith, c.begin_elements.ensures.shrinks, c.fill_header-unprotected.ensures.shrinks, c.end_elements.ensures.shrinks)
+
+pub signature::fill_elements-returns-then-not-is_string-clause-shrinks : goal.signature::fill_elements-returns-then-not-is_string-clause-shrinks
+signature::fill_elements-returns-then-not-is_string-clause-shrinks t c =
+    omega (arith, c.begin_elements.ensures.shrinks, c.fill_header-unprotected.ensures.shrinks, c.end_elements.ensures.shrinks)
+
+pub signature::fill_elements-returns-clause-shrinks : goal.signature::fill_elements-returns-clause-shrinks
+signature::fill_elements-returns-clause-shrinks t c =
+    omega (arith, c.begin_elements.ensures.shrinks, c.fill_header-unprotected.ensures.shrinks, c.end_elements.ensures.shrinks)
+
+pub signature::fill_signature_list-returns-in_err-next_place-clause-shrinks : goal.signature::fill_signature_list-returns-in_err-next_place-clause-shrinks
+signature::fill_signature_list-returns-in_err-next_place-clause-shrinks t c = omega (arith, c.next_place.ensures.shrinks, c.loop-all.invariant.shrinks)
+
+pub signature::fill_signature_list-returns-in_err-fill_signature-clause-shrinks :
+    goal.signature::fill_signature_list-returns-in_err-fill_signature-clause-shrinks
+signature::fill_signature_list-returns-in_err-fill_signature-clause-shrinks t c =
+    omega (arith, c.fill_signature.ensures.shrinks, c.next_place.ensures.shrinks, c.loop-all.invariant.shrinks)
+
+pub signature::fill_signature_list-returns-clause-shrinks : goal.signature::fill_signature_list-returns-clause-shrinks
+signature::fill_signature_list-returns-clause-shrinks t c = omega (arith, c.next_place.ensures.shrinks, c.loop-all.invariant.shrinks)
+
+pub signature::fill_single_signature-returns-clause-shrinks : goal.signature::fill_single_signature-returns-clause-shrinks
+signature::fill_single_signature-returns-clause-shrinks t c = c.fill_elements.ensures.shrinks

@@ -3,11 +3,12 @@ use Rattle.std.proofs.lemmas.List.{length-map}
 use Rattle.coset_value.specs.Item.{bytes}
 use Rattle.coset_iana.specs.declared.headers.HeaderParameter.TheVariants.{CounterSignature, CounterSignatureV2}
 use Rattle.coset_cbor.specs.Least.{least_head, least_encoding}
+use Rattle.coset_codec.specs.declared.error.CoseError.TheVariants.{OutOfMemory}
 use Rattle.coset_codec.specs.Encoding.{AppendsItem, AppendsImage, Encodes}
 use Rattle.coset_codec.specs.Shape.{bstr}
 use Rattle.coset_codec.proofs.Encoding.{extends-on, extends-same}
 use Rattle.coset_codec.proofs.EncodingMaps.{optional-view}
-use Rattle.coset_core.specs.Headers.{header_image, signatures_image, signatures_of, fields_in, counter_signatures_in, countersignatures_in}
+use Rattle.coset_core.specs.Headers.{header_image, protected_bytes, signatures_image, signatures_of, fields_in, counter_signatures_in, countersignatures_in}
 use Rattle.coset_core.specs.ViewLaws.{countersignature_level, countersignature-opened, header_level, header-opened, signature_level, signature-opened}
 use Rattle.coset_core.specs.ViewLaws.{protected-opened}
 use Rattle.coset_core.specs.Views.{countersignature_view, header_view, protected_view, signature_view}
@@ -19,6 +20,9 @@ use Rattle.coset_core.proofs.Keeping.{protected_bytes-read, protected_bytes-fres
 use Rattle.coset_codec.proofs.EncodingMaps.{taken, around}
 use Rattle.coset_core.proofs.WritingHeaders.{field-view, passes, unencoded, string-put, signature-put, counter_signatures-put, map-put, unwritten-rest}
 use Rattle.coset_core.proofs.WritingHeaders.{unwritten-counter_signatures, unwritten-countersignatures, signatures-push, signatures-none}
+use Rattle.coset_core.proofs.WritingHeaders.{unwritten-protected, unwritten-unprotected, no_signatures-put, signatures-done, signatures-kept}
+use Rattle.coset_core.proofs.PassedOn.{no_success, on_error, memory_encodes, memory_refuses}
+use Rattle.coset_codec.proofs.Lists.{on_err}
 use Rattle.coset_core.proofs.+write.Goals as goal
 
 pub header::writing::write_counter_signatures-returns-clause-ok : goal.header::writing::write_counter_signatures-returns-clause-ok
@@ -274,3 +278,241 @@ countersignature::write_countersignature-returns-clause-kept t c =
     extends-on c.args.out.now.items c.write_array_head.new.out.items _ (least_head 4 3, c.in_ok-write_array_head.ensures.ok)
     (extends-on _ c.write_protected.new.out.items _ c.in_ok-write_protected.ensures.kept
     (extends-on _ c.write_header.new.out.items _ c.in_ok-write_header.ensures.kept (least_encoding (bytes c.deref.result.now), c.in_ok-write_bytes.ensures.ok)))
+
+-- ---- errors that are passed on, and loops
+
+pub countersignature::write_countersignature-returns-in_err-write_array_head-clause-written :
+    goal.countersignature::write_countersignature-returns-in_err-write_array_head-clause-written
+countersignature::write_countersignature-returns-in_err-write_array_head-clause-written t c =
+    memory_encodes c.from_residual.result OutOfMemory _ _ _ c.from_residual.ensures.1 refl
+
+pub countersignature::write_countersignature-returns-in_err-write_bytes-clause-written :
+    goal.countersignature::write_countersignature-returns-in_err-write_bytes-clause-written
+countersignature::write_countersignature-returns-in_err-write_bytes-clause-written t c =
+    memory_encodes c.from_residual-in_err-write_bytes.result OutOfMemory _ _ _ c.from_residual-in_err-write_bytes.ensures.1 refl
+
+pub countersignature::write_countersignature-returns-in_err-write_array_head-clause-kept :
+    goal.countersignature::write_countersignature-returns-in_err-write_array_head-clause-kept
+countersignature::write_countersignature-returns-in_err-write_array_head-clause-kept t c =
+    extends-same c.args.out.now.items _ c.in_err-write_array_head.ensures.refused
+
+pub countersignature::write_countersignature-returns-in_err-write_protected-clause-written :
+    goal.countersignature::write_countersignature-returns-in_err-write_protected-clause-written
+countersignature::write_countersignature-returns-in_err-write_protected-clause-written t c =
+    let s = c.args.signature.now in
+    let level = countersignature_level (out-CoseCountersignature s) in
+    unencoded c.from_residual-in_err-write_protected.result c.in_err-write_protected.field-0.0 _ (signature_array (countersignature_view s)) _ _
+    c.from_residual-in_err-write_protected.ensures.1
+    (λ e. ap signature_array (countersignature-opened s) ∙ unwritten-protected level e) c.in_err-write_protected.ensures.written
+
+pub countersignature::write_countersignature-returns-in_err-write_header-clause-written :
+    goal.countersignature::write_countersignature-returns-in_err-write_header-clause-written
+countersignature::write_countersignature-returns-in_err-write_header-clause-written t c =
+    let s = c.args.signature.now in
+    let level = countersignature_level (out-CoseCountersignature s) in
+    unencoded c.from_residual-in_err-write_header.result c.in_err-write_header.field-0.0 _ (signature_array (countersignature_view s)) _ _
+    c.from_residual-in_err-write_header.ensures.1
+    (λ e. ap signature_array (countersignature-opened s) ∙ unwritten-unprotected level e) c.in_err-write_header.ensures.written
+
+pub signature::write_signature-returns-in_err-write_array_head-clause-written : goal.signature::write_signature-returns-in_err-write_array_head-clause-written
+signature::write_signature-returns-in_err-write_array_head-clause-written t c =
+    memory_encodes c.from_residual.result OutOfMemory _ _ _ c.from_residual.ensures.1 refl
+
+pub signature::write_signature-returns-in_err-write_bytes-clause-written : goal.signature::write_signature-returns-in_err-write_bytes-clause-written
+signature::write_signature-returns-in_err-write_bytes-clause-written t c =
+    memory_encodes c.from_residual-in_err-write_bytes.result OutOfMemory _ _ _ c.from_residual-in_err-write_bytes.ensures.1 refl
+
+pub signature::write_signature-returns-in_err-write_array_head-clause-kept : goal.signature::write_signature-returns-in_err-write_array_head-clause-kept
+signature::write_signature-returns-in_err-write_array_head-clause-kept t c = extends-same c.args.out.now.items _ c.in_err-write_array_head.ensures.refused
+
+pub signature::write_signature-returns-in_err-write_protected-clause-written : goal.signature::write_signature-returns-in_err-write_protected-clause-written
+signature::write_signature-returns-in_err-write_protected-clause-written t c =
+    let s = c.args.signature.now in
+    let level = signature_level (out-CoseSignature s) in
+    unencoded c.from_residual-in_err-write_protected.result c.in_err-write_protected.field-0.0 _ (signature_array (signature_view s)) _ _
+    c.from_residual-in_err-write_protected.ensures.1
+    (λ e. ap signature_array (signature-opened s) ∙ unwritten-protected level e) c.in_err-write_protected.ensures.written
+
+pub signature::write_signature-returns-in_err-write_header-clause-written : goal.signature::write_signature-returns-in_err-write_header-clause-written
+signature::write_signature-returns-in_err-write_header-clause-written t c =
+    let s = c.args.signature.now in
+    let level = signature_level (out-CoseSignature s) in
+    unencoded c.from_residual-in_err-write_header.result c.in_err-write_header.field-0.0 _ (signature_array (signature_view s)) _ _
+    c.from_residual-in_err-write_header.ensures.1
+    (λ e. ap signature_array (signature-opened s) ∙ unwritten-unprotected level e) c.in_err-write_header.ensures.written
+
+pub countersignature::write_each_countersignature-loop-signature-init : goal.countersignature::write_each_countersignature-loop-signature-init
+countersignature::write_each_countersignature-loop-signature-init t c = no_signatures-put c.args.out.now.items
+
+pub countersignature::write_each_countersignature-returns-in_err-write_countersignature-clause-ok :
+    goal.countersignature::write_each_countersignature-returns-in_err-write_countersignature-clause-ok
+countersignature::write_each_countersignature-returns-in_err-write_countersignature-clause-ok t c =
+    no_success c.from_residual.result c.in_err-write_countersignature.field-0.0 _ c.from_residual.ensures.1
+
+pub countersignature::write_each_countersignature-returns-in_err-write_countersignature-clause-kept :
+    goal.countersignature::write_each_countersignature-returns-in_err-write_countersignature-clause-kept
+countersignature::write_each_countersignature-returns-in_err-write_countersignature-clause-kept t c =
+    let so_far = map countersignature_view (take c.loop-signature.signature-index c.args.signatures.now) in
+    let kept = signatures-kept so_far c.args.out.now.items c.loop-signature.out.items c.loop-signature.invariant in
+    extends-on c.args.out.now.items c.loop-signature.out.items _ kept c.in_err-write_countersignature.ensures.kept
+
+pub countersignature::write_each_countersignature-returns-clause-ok : goal.countersignature::write_each_countersignature-returns-clause-ok
+countersignature::write_each_countersignature-returns-clause-ok t c =
+    signatures-done countersignature_view c.args.signatures.now c.loop-signature.signature-index _ _ (omega arith) c.loop-signature.invariant
+
+pub countersignature::write_each_countersignature-returns-clause-kept : goal.countersignature::write_each_countersignature-returns-clause-kept
+countersignature::write_each_countersignature-returns-clause-kept t c =
+    let so_far = map countersignature_view (take c.loop-signature.signature-index c.args.signatures.now) in
+    signatures-kept so_far c.args.out.now.items c.loop-signature.out.items c.loop-signature.invariant
+
+pub signature::write_signatures-loop-signature-init : goal.signature::write_signatures-loop-signature-init
+signature::write_signatures-loop-signature-init t c = no_signatures-put c.args.out.now.items
+
+pub signature::write_signatures-returns-in_err-write_signature-clause-ok : goal.signature::write_signatures-returns-in_err-write_signature-clause-ok
+signature::write_signatures-returns-in_err-write_signature-clause-ok t c =
+    no_success c.from_residual.result c.in_err-write_signature.field-0.0 _ c.from_residual.ensures.1
+
+pub signature::write_signatures-returns-in_err-write_signature-clause-kept : goal.signature::write_signatures-returns-in_err-write_signature-clause-kept
+signature::write_signatures-returns-in_err-write_signature-clause-kept t c =
+    let so_far = map signature_view (take c.loop-signature.signature-index c.args.signatures.now) in
+    let kept = signatures-kept so_far c.args.out.now.items c.loop-signature.out.items c.loop-signature.invariant in
+    extends-on c.args.out.now.items c.loop-signature.out.items _ kept c.in_err-write_signature.ensures.kept
+
+pub signature::write_signatures-returns-clause-ok : goal.signature::write_signatures-returns-clause-ok
+signature::write_signatures-returns-clause-ok t c =
+    signatures-done signature_view c.args.signatures.now c.loop-signature.signature-index _ _ (omega arith) c.loop-signature.invariant
+
+pub signature::write_signatures-returns-clause-kept : goal.signature::write_signatures-returns-clause-kept
+signature::write_signatures-returns-clause-kept t c =
+    let so_far = map signature_view (take c.loop-signature.signature-index c.args.signatures.now) in
+    signatures-kept so_far c.args.out.now.items c.loop-signature.out.items c.loop-signature.invariant
+
+pub header::writing::write_counter_signatures-returns-then-is_empty-clause-kept :
+    goal.header::writing::write_counter_signatures-returns-then-is_empty-clause-kept
+header::writing::write_counter_signatures-returns-then-is_empty-clause-kept t c = extends-same c.args.out.now.items _ refl
+
+pub header::writing::write_counter_signatures-returns-in_err-write_parameter-clause-ok :
+    goal.header::writing::write_counter_signatures-returns-in_err-write_parameter-clause-ok
+header::writing::write_counter_signatures-returns-in_err-write_parameter-clause-ok t c =
+    no_success c.from_residual.result OutOfMemory _ c.from_residual.ensures.1
+
+pub header::writing::write_counter_signatures-returns-in_err-write_parameter-clause-refused :
+    goal.header::writing::write_counter_signatures-returns-in_err-write_parameter-clause-refused
+header::writing::write_counter_signatures-returns-in_err-write_parameter-clause-refused t c = memory_refuses c.from_residual.result _ c.from_residual.ensures.1
+
+pub header::writing::write_counter_signatures-returns-in_err-write_counter_signatures_head-clause-ok :
+    goal.header::writing::write_counter_signatures-returns-in_err-write_counter_signatures_head-clause-ok
+header::writing::write_counter_signatures-returns-in_err-write_counter_signatures_head-clause-ok t c =
+    no_success c.from_residual-in_err-write_counter_signatures_head.result OutOfMemory _ c.from_residual-in_err-write_counter_signatures_head.ensures.1
+
+pub header::writing::write_counter_signatures-returns-in_err-write_counter_signatures_head-clause-refused :
+    goal.header::writing::write_counter_signatures-returns-in_err-write_counter_signatures_head-clause-refused
+header::writing::write_counter_signatures-returns-in_err-write_counter_signatures_head-clause-refused t c =
+    memory_refuses c.from_residual-in_err-write_counter_signatures_head.result _ c.from_residual-in_err-write_counter_signatures_head.ensures.1
+
+pub header::writing::write_counter_signatures-returns-in_err-write_parameter-clause-kept :
+    goal.header::writing::write_counter_signatures-returns-in_err-write_parameter-clause-kept
+header::writing::write_counter_signatures-returns-in_err-write_parameter-clause-kept t c = c.in_err-write_parameter.ensures.kept
+
+pub header::writing::write_counter_signatures-returns-in_err-write_signatures-clause-ok :
+    goal.header::writing::write_counter_signatures-returns-in_err-write_signatures-clause-ok
+header::writing::write_counter_signatures-returns-in_err-write_signatures-clause-ok t c =
+    no_success c.from_residual-in_err-write_signatures.result _ _ c.from_residual-in_err-write_signatures.ensures.1
+
+pub header::writing::write_counter_signatures-returns-in_err-write_signatures-clause-refused :
+    goal.header::writing::write_counter_signatures-returns-in_err-write_signatures-clause-refused
+header::writing::write_counter_signatures-returns-in_err-write_signatures-clause-refused t c =
+    let told = c.in_err-write_signatures.ensures.refused in
+    on_err c.from_residual-in_err-write_signatures.result _ _ c.from_residual-in_err-write_signatures.ensures.1 told
+
+pub header::writing::write_countersignatures-returns-then-is_empty-clause-kept : goal.header::writing::write_countersignatures-returns-then-is_empty-clause-kept
+header::writing::write_countersignatures-returns-then-is_empty-clause-kept t c = extends-same c.args.out.now.items _ refl
+
+pub header::writing::write_countersignatures-returns-in_err-write_parameter-clause-ok :
+    goal.header::writing::write_countersignatures-returns-in_err-write_parameter-clause-ok
+header::writing::write_countersignatures-returns-in_err-write_parameter-clause-ok t c =
+    no_success c.from_residual.result OutOfMemory _ c.from_residual.ensures.1
+
+pub header::writing::write_countersignatures-returns-in_err-write_parameter-clause-refused :
+    goal.header::writing::write_countersignatures-returns-in_err-write_parameter-clause-refused
+header::writing::write_countersignatures-returns-in_err-write_parameter-clause-refused t c = memory_refuses c.from_residual.result _ c.from_residual.ensures.1
+
+pub header::writing::write_countersignatures-returns-in_err-write_counter_signatures_head-clause-ok :
+    goal.header::writing::write_countersignatures-returns-in_err-write_counter_signatures_head-clause-ok
+header::writing::write_countersignatures-returns-in_err-write_counter_signatures_head-clause-ok t c =
+    no_success c.from_residual-in_err-write_counter_signatures_head.result OutOfMemory _ c.from_residual-in_err-write_counter_signatures_head.ensures.1
+
+pub header::writing::write_countersignatures-returns-in_err-write_counter_signatures_head-clause-refused :
+    goal.header::writing::write_countersignatures-returns-in_err-write_counter_signatures_head-clause-refused
+header::writing::write_countersignatures-returns-in_err-write_counter_signatures_head-clause-refused t c =
+    memory_refuses c.from_residual-in_err-write_counter_signatures_head.result _ c.from_residual-in_err-write_counter_signatures_head.ensures.1
+
+pub header::writing::write_countersignatures-returns-in_err-write_parameter-clause-kept :
+    goal.header::writing::write_countersignatures-returns-in_err-write_parameter-clause-kept
+header::writing::write_countersignatures-returns-in_err-write_parameter-clause-kept t c = c.in_err-write_parameter.ensures.kept
+
+pub header::writing::write_countersignatures-returns-in_err-write_each_countersignature-clause-ok :
+    goal.header::writing::write_countersignatures-returns-in_err-write_each_countersignature-clause-ok
+header::writing::write_countersignatures-returns-in_err-write_each_countersignature-clause-ok t c =
+    no_success c.from_residual-in_err-write_each_countersignature.result _ _ c.from_residual-in_err-write_each_countersignature.ensures.1
+
+pub header::writing::write_countersignatures-returns-in_err-write_each_countersignature-clause-refused :
+    goal.header::writing::write_countersignatures-returns-in_err-write_each_countersignature-clause-refused
+header::writing::write_countersignatures-returns-in_err-write_each_countersignature-clause-refused t c =
+    let told = c.in_err-write_each_countersignature.ensures.refused in
+    on_err c.from_residual-in_err-write_each_countersignature.result _ _ c.from_residual-in_err-write_each_countersignature.ensures.1 told
+
+pub header::writing::write_header-returns-in_err-check_distinct-clause-kept : goal.header::writing::write_header-returns-in_err-check_distinct-clause-kept
+header::writing::write_header-returns-in_err-check_distinct-clause-kept t c = extends-same c.args.out.now.items _ refl
+
+pub header::writing::write_header-returns-in_err-write_head-clause-written : goal.header::writing::write_header-returns-in_err-write_head-clause-written
+header::writing::write_header-returns-in_err-write_head-clause-written t c =
+    memory_encodes c.from_residual-in_err-write_head.result OutOfMemory _ _ _ c.from_residual-in_err-write_head.ensures.1 refl
+
+pub header::writing::write_header-returns-in_err-write_head-clause-kept : goal.header::writing::write_header-returns-in_err-write_head-clause-kept
+header::writing::write_header-returns-in_err-write_head-clause-kept t c = c.in_err-write_head.ensures.kept
+
+pub header::writing::write_header-returns-in_err-write_fields-clause-written : goal.header::writing::write_header-returns-in_err-write_fields-clause-written
+header::writing::write_header-returns-in_err-write_fields-clause-written t c =
+    memory_encodes c.from_residual-in_err-write_fields.result _ _ _ _ c.from_residual-in_err-write_fields.ensures.1 c.in_err-write_fields.ensures.memory
+
+pub protected::write_protected-returns-in_err-write_bytes-clause-written : goal.protected::write_protected-returns-in_err-write_bytes-clause-written
+protected::write_protected-returns-in_err-write_bytes-clause-written t c =
+    memory_encodes c.from_residual.result OutOfMemory _ _ _ c.from_residual.ensures.1 refl
+
+pub protected::write_protected-returns-in_err-write_bytes-clause-kept : goal.protected::write_protected-returns-in_err-write_bytes-clause-kept
+protected::write_protected-returns-in_err-write_bytes-clause-kept t c = extends-same c.args.out.now.items _ c.in_err-write_bytes.ensures.refused
+
+pub protected::write_protected-returns-in_err-write_bytes-clause-refused : goal.protected::write_protected-returns-in_err-write_bytes-clause-refused
+protected::write_protected-returns-in_err-write_bytes-clause-refused t c = on_error c.from_residual.result _ c.in_err-write_bytes.ensures.refused
+
+pub protected::write_protected-returns-in_err-write_bytes-2-clause-written : goal.protected::write_protected-returns-in_err-write_bytes-2-clause-written
+protected::write_protected-returns-in_err-write_bytes-2-clause-written t c =
+    memory_encodes c.from_residual-in_err-write_bytes-2.result OutOfMemory _ _ _ c.from_residual-in_err-write_bytes-2.ensures.1 refl
+
+pub protected::write_protected-returns-in_err-write_bytes-2-clause-kept : goal.protected::write_protected-returns-in_err-write_bytes-2-clause-kept
+protected::write_protected-returns-in_err-write_bytes-2-clause-kept t c = extends-same c.args.out.now.items _ c.in_err-write_bytes-2.ensures.refused
+
+pub protected::write_protected-returns-in_err-write_bytes-2-clause-refused : goal.protected::write_protected-returns-in_err-write_bytes-2-clause-refused
+protected::write_protected-returns-in_err-write_bytes-2-clause-refused t c =
+    on_error c.from_residual-in_err-write_bytes-2.result _ c.in_err-write_bytes-2.ensures.refused
+
+pub protected::write_protected-returns-in-Some-clause-kept : goal.protected::write_protected-returns-in-Some-clause-kept
+protected::write_protected-returns-in-Some-clause-kept t c = (least_encoding (bytes c.deref.result.now), c.in_ok-write_bytes.ensures.ok)
+
+pub protected::write_protected-returns-clause-kept : goal.protected::write_protected-returns-clause-kept
+protected::write_protected-returns-clause-kept t c = (least_encoding (bytes c.deref-2.result.now), c.in_ok-write_bytes-2.ensures.ok)
+
+pub protected::write_protected-returns-in_err-bytes-clause-written : goal.protected::write_protected-returns-in_err-bytes-clause-written
+protected::write_protected-returns-in_err-bytes-clause-written t c =
+    let p = protected_view c.args.protected.now in
+    let opened = protected-opened c.args.protected.now in
+    let unread = ap (λ p. p.original) opened ∙ ap (option_map (λ v. v.items)) c.in_default.is in
+    unencoded c.from_residual-in_err-bytes.result c.in_err-bytes.field-0.0 _ (option_map bytes (protected_bytes p)) _ _ c.from_residual-in_err-bytes.ensures.1
+    (λ e. ap (option_map bytes) (protected_bytes-fresh p _ unread (ap (λ p. p.header) opened) ∙ e)) c.in_err-bytes.ensures.refused
+
+pub protected::write_protected-returns-in_err-bytes-clause-kept : goal.protected::write_protected-returns-in_err-bytes-clause-kept
+protected::write_protected-returns-in_err-bytes-clause-kept t c = extends-same c.args.out.now.items _ refl
+
+pub protected::write_protected-returns-in_err-bytes-clause-refused : goal.protected::write_protected-returns-in_err-bytes-clause-refused
+protected::write_protected-returns-in_err-bytes-clause-refused t c = on_error c.from_residual-in_err-bytes.result _ refl

@@ -1,7 +1,7 @@
 use Rattle.std.proofs.Common.{◌≡◌, [], ◌∷◌, ◌++◌, map, refl, sym, ◌∙◌, ap, subst, inl, inr}
 use Rattle.std.proofs.lemmas.List.{map_push}
 use Rattle.coset_codec.specs.Maps.{Adds, RefusesValue, optional}
-use Rattle.coset_codec.specs.Shape.{any}
+use Rattle.coset_codec.specs.Shape.{any, bstr}
 use Rattle.coset_label.specs.Views.{label_view, entry_view}
 use Rattle.coset_label.specs.Labels.{algorithm, cose_labels}
 use Rattle.coset_label.specs.LabelData.{same_label}
@@ -86,6 +86,31 @@ returns-in-Crit-clause-refused c = λ o v z stands.
       here.0,
       refuses_at labels.crit (label_view c.args.label) v c.set_critical.result (parts_of (fields_view c.args.header.now, o)) _
           (rw c.in-Crit.is at c.requires.goes) here.1 (λ e p. inl p),
+    )
+
+pub returns-in-ContentType-clause-refused : goal.returns-in-ContentType-clause-refused
+returns-in-ContentType-clause-refused c = λ o v z stands.
+    let here = c.set_content_type.ensures.refused v z stands in (
+      here.0,
+      refuses_at labels.content_type (label_view c.args.label) v c.set_content_type.result (parts_of (fields_view c.args.header.now, o)) _
+          (rw c.in-ContentType.is at c.requires.goes) here.1 (λ e p. inl p),
+    )
+
+pub returns-in-KeyId-clause-refused : goal.returns-in-KeyId-clause-refused
+returns-in-KeyId-clause-refused c = λ o v z stands.
+    let here = c.set_nonempty.ensures.refused v z stands in (
+      here.0,
+      refuses_at labels.kid (label_view c.args.label) v c.set_nonempty.result (parts_of (fields_view c.args.header.now, o)) _
+          (rw c.in-KeyId.is at c.requires.goes) here.1 (λ e p. inl p),
+    )
+
+pub returns-in-Countersignature0V2-clause-refused : goal.returns-in-Countersignature0V2-clause-refused
+returns-in-Countersignature0V2-clause-refused c = λ o v z stands.
+    let here = c.set_field-in-Countersignature0V2.ensures.refused v z stands in (
+      here.0,
+      refuses_at labels.countersignature0_v2 (label_view c.args.label) v c.set_field-in-Countersignature0V2.result (parts_of (fields_view c.args.header.now, o))
+          (RefusesValue (optional bstr) v (fields_view c.args.header.now).countersignature0_v2)
+          (rw c.in-Countersignature0V2.is at c.requires.goes) here.1 (λ e p. inl p),
     )
 
 pub returns-in-Iv-clause-refused : goal.returns-in-Iv-clause-refused

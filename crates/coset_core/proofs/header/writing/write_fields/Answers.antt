@@ -1,4 +1,5 @@
 use Rattle.std.proofs.Common.{refl, ◌∙◌, rules}
+use Rattle.coset_codec.proofs.Encoding.{extends-on}
 use Rattle.coset_codec.proofs.EncodingMaps.{optional-has, optional-view}
 use Rattle.coset_label.specs.Labels.{algorithm}
 use Rattle.coset_label.specs.Views.{algorithm_view}
@@ -41,3 +42,44 @@ returns-clause-ok c =
       iv = field-view _ _ ((search rules) ∙ c.to_i64-4.ensures) refl c.in_ok-write_nonempty-2.ensures.ok;
       partial_iv = field-view _ _ ((search rules) ∙ c.to_i64-5.ensures) refl c.in_ok-write_nonempty-3.ensures.ok;
     }
+
+pub returns-in_err-write_optional-clause-kept : goal.returns-in_err-write_optional-clause-kept
+returns-in_err-write_optional-clause-kept c = c.in_err-write_optional.ensures.kept
+
+pub returns-in_err-write_critical-clause-kept : goal.returns-in_err-write_critical-clause-kept
+returns-in_err-write_critical-clause-kept c =
+    extends-on c.args.out.now.items c.write_optional.new.out.items _ c.in_ok-write_optional.ensures.kept c.in_err-write_critical.ensures.kept
+
+pub returns-in_err-write_optional-2-clause-kept : goal.returns-in_err-write_optional-2-clause-kept
+returns-in_err-write_optional-2-clause-kept c =
+    extends-on c.args.out.now.items c.write_optional.new.out.items _ c.in_ok-write_optional.ensures.kept
+    (extends-on _ c.write_critical.new.out.items _ c.in_ok-write_critical.ensures.kept c.in_err-write_optional-2.ensures.kept)
+
+pub returns-in_err-write_nonempty-clause-kept : goal.returns-in_err-write_nonempty-clause-kept
+returns-in_err-write_nonempty-clause-kept c =
+    extends-on c.args.out.now.items c.write_optional.new.out.items _ c.in_ok-write_optional.ensures.kept
+    (extends-on _ c.write_critical.new.out.items _ c.in_ok-write_critical.ensures.kept
+    (extends-on _ c.write_optional-2.new.out.items _ c.in_ok-write_optional-2.ensures.kept c.in_err-write_nonempty.ensures.kept))
+
+pub returns-in_err-write_nonempty-2-clause-kept : goal.returns-in_err-write_nonempty-2-clause-kept
+returns-in_err-write_nonempty-2-clause-kept c =
+    extends-on c.args.out.now.items c.write_optional.new.out.items _ c.in_ok-write_optional.ensures.kept
+    (extends-on _ c.write_critical.new.out.items _ c.in_ok-write_critical.ensures.kept
+    (extends-on _ c.write_optional-2.new.out.items _ c.in_ok-write_optional-2.ensures.kept
+    (extends-on _ c.write_nonempty.new.out.items _ c.in_ok-write_nonempty.ensures.kept c.in_err-write_nonempty-2.ensures.kept)))
+
+pub returns-in_err-write_nonempty-3-clause-kept : goal.returns-in_err-write_nonempty-3-clause-kept
+returns-in_err-write_nonempty-3-clause-kept c =
+    extends-on c.args.out.now.items c.write_optional.new.out.items _ c.in_ok-write_optional.ensures.kept
+    (extends-on _ c.write_critical.new.out.items _ c.in_ok-write_critical.ensures.kept
+    (extends-on _ c.write_optional-2.new.out.items _ c.in_ok-write_optional-2.ensures.kept
+    (extends-on _ c.write_nonempty.new.out.items _ c.in_ok-write_nonempty.ensures.kept
+    (extends-on _ c.write_nonempty-2.new.out.items _ c.in_ok-write_nonempty-2.ensures.kept c.in_err-write_nonempty-3.ensures.kept))))
+
+pub returns-clause-kept : goal.returns-clause-kept
+returns-clause-kept c =
+    extends-on c.args.out.now.items c.write_optional.new.out.items _ c.in_ok-write_optional.ensures.kept
+    (extends-on _ c.write_critical.new.out.items _ c.in_ok-write_critical.ensures.kept
+    (extends-on _ c.write_optional-2.new.out.items _ c.in_ok-write_optional-2.ensures.kept
+    (extends-on _ c.write_nonempty.new.out.items _ c.in_ok-write_nonempty.ensures.kept
+    (extends-on _ c.write_nonempty-2.new.out.items _ c.in_ok-write_nonempty-2.ensures.kept c.in_ok-write_nonempty-3.ensures.kept))))
