@@ -1,5 +1,6 @@
 use Rattle.std.proofs.Common.{◌≡◌, [], ◌∷◌, ◌++◌, map, option_map, refl, sym, ◌∙◌, ap}
 use Rattle.std.proofs.lemmas.List.{map_push}
+use Rattle.std.proofs.lemmas.Result.{on_err_weaker}
 use Rattle.std.specs.Prelude.{string_bytes}
 use Rattle.coset_codec.specs.Maps.{RefusesValue, TakesValue, optional}
 use Rattle.coset_codec.specs.Shape.{bstr, tstr}
@@ -29,6 +30,11 @@ returns-then-is_claim-clause-refused c = λ v z stands.
           (λ e p. p),
     )
 
+pub returns-then-is_claim-clause-kept : goal.returns-then-is_claim-clause-kept
+returns-then-is_claim-clause-kept c =
+    on_err_weaker c.set_field.result (λ e. ap (λ x. record (claims_view c.args.claims.now) { issuer = option_map string_bytes x }) e)
+    c.set_field.ensures.kept
+
 pub returns-then-is_claim-2-clause-takes : goal.returns-then-is_claim-2-clause-takes
 returns-then-is_claim-2-clause-takes c = λ v z stands.
     let here = c.set_field-then-is_claim-2.ensures.takes v z stands in
@@ -48,6 +54,11 @@ returns-then-is_claim-2-clause-refused c = λ v z stands.
           (RefusesValue (optional tstr) v (option_map string_bytes old.subject)) (sym c.is_claim-2.ensures ∙ c.if-is_claim-2.true) here.1
           (λ e p. p),
     )
+
+pub returns-then-is_claim-2-clause-kept : goal.returns-then-is_claim-2-clause-kept
+returns-then-is_claim-2-clause-kept c =
+    on_err_weaker c.set_field-then-is_claim-2.result (λ e. ap (λ x. record (claims_view c.args.claims.now) { subject = option_map string_bytes x }) e)
+    c.set_field-then-is_claim-2.ensures.kept
 
 pub returns-then-is_claim-3-clause-takes : goal.returns-then-is_claim-3-clause-takes
 returns-then-is_claim-3-clause-takes c = λ v z stands.
@@ -69,6 +80,11 @@ returns-then-is_claim-3-clause-refused c = λ v z stands.
           (λ e p. p),
     )
 
+pub returns-then-is_claim-3-clause-kept : goal.returns-then-is_claim-3-clause-kept
+returns-then-is_claim-3-clause-kept c =
+    on_err_weaker c.set_field-then-is_claim-3.result (λ e. ap (λ x. record (claims_view c.args.claims.now) { audience = option_map string_bytes x }) e)
+    c.set_field-then-is_claim-3.ensures.kept
+
 pub returns-then-is_claim-4-clause-takes : goal.returns-then-is_claim-4-clause-takes
 returns-then-is_claim-4-clause-takes c = λ v z stands.
     let here = c.set_field-then-is_claim-4.ensures.takes v z stands in
@@ -88,6 +104,11 @@ returns-then-is_claim-4-clause-refused c = λ v z stands.
           (RefusesValue (optional timestamp) v (option_map timestamp_view old.expiration_time)) (sym c.is_claim-4.ensures ∙ c.if-is_claim-4.true) here.1
           (λ e p. p),
     )
+
+pub returns-then-is_claim-4-clause-kept : goal.returns-then-is_claim-4-clause-kept
+returns-then-is_claim-4-clause-kept c =
+    on_err_weaker c.set_field-then-is_claim-4.result (λ e. ap (λ x. record (claims_view c.args.claims.now) { expiration_time = option_map timestamp_view x }) e)
+    c.set_field-then-is_claim-4.ensures.kept
 
 pub returns-then-is_claim-5-clause-takes : goal.returns-then-is_claim-5-clause-takes
 returns-then-is_claim-5-clause-takes c = λ v z stands.
@@ -109,6 +130,11 @@ returns-then-is_claim-5-clause-refused c = λ v z stands.
           (λ e p. p),
     )
 
+pub returns-then-is_claim-5-clause-kept : goal.returns-then-is_claim-5-clause-kept
+returns-then-is_claim-5-clause-kept c =
+    on_err_weaker c.set_field-then-is_claim-5.result (λ e. ap (λ x. record (claims_view c.args.claims.now) { not_before = option_map timestamp_view x }) e)
+    c.set_field-then-is_claim-5.ensures.kept
+
 pub returns-then-is_claim-6-clause-takes : goal.returns-then-is_claim-6-clause-takes
 returns-then-is_claim-6-clause-takes c = λ v z stands.
     let here = c.set_field-then-is_claim-6.ensures.takes v z stands in
@@ -129,6 +155,11 @@ returns-then-is_claim-6-clause-refused c = λ v z stands.
           (λ e p. p),
     )
 
+pub returns-then-is_claim-6-clause-kept : goal.returns-then-is_claim-6-clause-kept
+returns-then-is_claim-6-clause-kept c =
+    on_err_weaker c.set_field-then-is_claim-6.result (λ e. ap (λ x. record (claims_view c.args.claims.now) { issued_at = option_map timestamp_view x }) e)
+    c.set_field-then-is_claim-6.ensures.kept
+
 pub returns-then-is_claim-7-clause-takes : goal.returns-then-is_claim-7-clause-takes
 returns-then-is_claim-7-clause-takes c = λ v z stands.
     let here = c.set_field-then-is_claim-7.ensures.takes v z stands in
@@ -148,6 +179,11 @@ returns-then-is_claim-7-clause-refused c = λ v z stands.
           (RefusesValue (optional bstr) v (option_map (λ b. b.items) old.cwt_id)) (sym c.is_claim-7.ensures ∙ c.if-is_claim-7.true) here.1
           (λ e p. p),
     )
+
+pub returns-then-is_claim-7-clause-kept : goal.returns-then-is_claim-7-clause-kept
+returns-then-is_claim-7-clause-kept c =
+    on_err_weaker c.set_field-then-is_claim-7.result (λ e. ap (λ x. record (claims_view c.args.claims.now) { cwt_id = option_map (λ b. b.items) x }) e)
+    c.set_field-then-is_claim-7.ensures.kept
 
 pub returns-clause-takes : goal.returns-clause-takes
 returns-clause-takes c = λ v z stands.
