@@ -1,20 +1,15 @@
-use Rattle.std.proofs.Common.{◌≡◌, ℕ, List, ◌++◌, Some, true, rules, sym, ◌∙◌, ap, refl, append_assoc}
+use Rattle.std.proofs.Common.{◌≡◌, Some, true, rules, sym, ◌∙◌, ap, refl}
 use Rattle.std.specs.Prelude.{ℤ, string_bytes}
 use Rattle.coset_value.specs.Item.{integer}
 use Rattle.coset_value.specs.View.{value_item}
-use Rattle.coset_cbor.specs.Least.{Extends}
 use Rattle.coset_codec.specs.Shape.{bstr, tstr}
-use Rattle.coset_codec.proofs.Encoding.{passes}
+use Rattle.coset_codec.proofs.Encoding.{passes, extends-on}
 use Rattle.coset_codec.proofs.EncodingMaps.{optional-put, no-field, optional-has, map-written}
 use Rattle.coset_label.specs.LabelData.{assigned}
 use Rattle.coset_claims.specs.Claims.{claim_name, claims, name_view, names}
 use Rattle.coset_claims.specs.Timestamp.{timestamp, timestamp_view}
 use Rattle.coset_claims.proofs.ClaimWriting.{timestamp-has}
 use Rattle.coset_claims.proofs.claims_set.ClaimsSetCodec.write.Goals as goal
-
--- One call after another extends the output.
-behind : (old mid new : List ℕ) → Extends old mid → Extends mid new → Extends old new
-behind old mid new p q = (p.0 ++ q.0, q.1 ∙ (ap (λ s. s ++ q.0) p.1 ∙ append_assoc old p.0 q.0))
 
 pub returns-in_err-write_optional-4-clause-written : goal.returns-in_err-write_optional-4-clause-written
 returns-in_err-write_optional-4-clause-written c =
@@ -68,27 +63,70 @@ returns-clause-written c =
     (no-field f c.write_optional-7.new.out.items))))))))
     (rw c.deref-2.ensures.value at c.write_rest.ensures.ok) (rw c.deref-2.ensures.value at c.write_rest.ensures.refused)
 
+pub returns-in_err-write_optional-clause-kept : goal.returns-in_err-write_optional-clause-kept
+returns-in_err-write_optional-clause-kept c =
+    extends-on c.args.out.now.items c.write_pairs_head.new.out.items c.write_optional.new.out.items c.write_pairs_head.ensures.kept
+    c.write_optional.ensures.kept
+
+pub returns-in_err-write_optional-2-clause-kept : goal.returns-in_err-write_optional-2-clause-kept
+returns-in_err-write_optional-2-clause-kept c =
+    let new = c.write_optional-2.new.out.items in
+    extends-on c.args.out.now.items c.write_pairs_head.new.out.items new c.write_pairs_head.ensures.kept
+    (extends-on c.write_pairs_head.new.out.items c.write_optional.new.out.items new c.write_optional.ensures.kept c.write_optional-2.ensures.kept)
+
+pub returns-in_err-write_optional-3-clause-kept : goal.returns-in_err-write_optional-3-clause-kept
+returns-in_err-write_optional-3-clause-kept c =
+    let new = c.write_optional-3.new.out.items in
+    extends-on c.args.out.now.items c.write_pairs_head.new.out.items new c.write_pairs_head.ensures.kept
+    (extends-on c.write_pairs_head.new.out.items c.write_optional.new.out.items new c.write_optional.ensures.kept
+    (extends-on c.write_optional.new.out.items c.write_optional-2.new.out.items new c.write_optional-2.ensures.kept c.write_optional-3.ensures.kept))
+
+pub returns-in_err-write_optional-4-clause-kept : goal.returns-in_err-write_optional-4-clause-kept
+returns-in_err-write_optional-4-clause-kept c =
+    let new = c.write_optional-4.new.out.items in
+    extends-on c.args.out.now.items c.write_pairs_head.new.out.items new c.write_pairs_head.ensures.kept
+    (extends-on c.write_pairs_head.new.out.items c.write_optional.new.out.items new c.write_optional.ensures.kept
+    (extends-on c.write_optional.new.out.items c.write_optional-2.new.out.items new c.write_optional-2.ensures.kept
+    (extends-on c.write_optional-2.new.out.items c.write_optional-3.new.out.items new c.write_optional-3.ensures.kept c.write_optional-4.ensures.kept)))
+
+pub returns-in_err-write_optional-5-clause-kept : goal.returns-in_err-write_optional-5-clause-kept
+returns-in_err-write_optional-5-clause-kept c =
+    let new = c.write_optional-5.new.out.items in
+    extends-on c.args.out.now.items c.write_pairs_head.new.out.items new c.write_pairs_head.ensures.kept
+    (extends-on c.write_pairs_head.new.out.items c.write_optional.new.out.items new c.write_optional.ensures.kept
+    (extends-on c.write_optional.new.out.items c.write_optional-2.new.out.items new c.write_optional-2.ensures.kept
+    (extends-on c.write_optional-2.new.out.items c.write_optional-3.new.out.items new c.write_optional-3.ensures.kept
+    (extends-on c.write_optional-3.new.out.items c.write_optional-4.new.out.items new c.write_optional-4.ensures.kept c.write_optional-5.ensures.kept))))
+
+pub returns-in_err-write_optional-6-clause-kept : goal.returns-in_err-write_optional-6-clause-kept
+returns-in_err-write_optional-6-clause-kept c =
+    let new = c.write_optional-6.new.out.items in
+    extends-on c.args.out.now.items c.write_pairs_head.new.out.items new c.write_pairs_head.ensures.kept
+    (extends-on c.write_pairs_head.new.out.items c.write_optional.new.out.items new c.write_optional.ensures.kept
+    (extends-on c.write_optional.new.out.items c.write_optional-2.new.out.items new c.write_optional-2.ensures.kept
+    (extends-on c.write_optional-2.new.out.items c.write_optional-3.new.out.items new c.write_optional-3.ensures.kept
+    (extends-on c.write_optional-3.new.out.items c.write_optional-4.new.out.items new c.write_optional-4.ensures.kept
+    (extends-on c.write_optional-4.new.out.items c.write_optional-5.new.out.items new c.write_optional-5.ensures.kept c.write_optional-6.ensures.kept)))))
+
 pub returns-in_err-write_optional-7-clause-kept : goal.returns-in_err-write_optional-7-clause-kept
 returns-in_err-write_optional-7-clause-kept c =
     let new = c.write_optional-7.new.out.items in
-    behind c.args.out.now.items c.write_pairs_head.new.out.items new c.write_pairs_head.ensures.kept
-    (behind c.write_pairs_head.new.out.items c.write_optional.new.out.items new c.write_optional.ensures.kept
-    (behind c.write_optional.new.out.items c.write_optional-2.new.out.items new c.write_optional-2.ensures.kept
-    (behind c.write_optional-2.new.out.items c.write_optional-3.new.out.items new c.write_optional-3.ensures.kept
-    (behind c.write_optional-3.new.out.items c.write_optional-4.new.out.items new c.write_optional-4.ensures.kept
-    (behind c.write_optional-4.new.out.items c.write_optional-5.new.out.items new c.write_optional-5.ensures.kept
-    (behind c.write_optional-5.new.out.items c.write_optional-6.new.out.items new c.write_optional-6.ensures.kept
-    c.write_optional-7.ensures.kept))))))
+    extends-on c.args.out.now.items c.write_pairs_head.new.out.items new c.write_pairs_head.ensures.kept
+    (extends-on c.write_pairs_head.new.out.items c.write_optional.new.out.items new c.write_optional.ensures.kept
+    (extends-on c.write_optional.new.out.items c.write_optional-2.new.out.items new c.write_optional-2.ensures.kept
+    (extends-on c.write_optional-2.new.out.items c.write_optional-3.new.out.items new c.write_optional-3.ensures.kept
+    (extends-on c.write_optional-3.new.out.items c.write_optional-4.new.out.items new c.write_optional-4.ensures.kept
+    (extends-on c.write_optional-4.new.out.items c.write_optional-5.new.out.items new c.write_optional-5.ensures.kept
+    (extends-on c.write_optional-5.new.out.items c.write_optional-6.new.out.items new c.write_optional-6.ensures.kept c.write_optional-7.ensures.kept))))))
 
 pub returns-clause-kept : goal.returns-clause-kept
 returns-clause-kept c =
     let new = c.write_rest.new.out.items in
-    behind c.args.out.now.items c.write_pairs_head.new.out.items new c.write_pairs_head.ensures.kept
-    (behind c.write_pairs_head.new.out.items c.write_optional.new.out.items new c.write_optional.ensures.kept
-    (behind c.write_optional.new.out.items c.write_optional-2.new.out.items new c.write_optional-2.ensures.kept
-    (behind c.write_optional-2.new.out.items c.write_optional-3.new.out.items new c.write_optional-3.ensures.kept
-    (behind c.write_optional-3.new.out.items c.write_optional-4.new.out.items new c.write_optional-4.ensures.kept
-    (behind c.write_optional-4.new.out.items c.write_optional-5.new.out.items new c.write_optional-5.ensures.kept
-    (behind c.write_optional-5.new.out.items c.write_optional-6.new.out.items new c.write_optional-6.ensures.kept
-    (behind c.write_optional-6.new.out.items c.write_optional-7.new.out.items new c.write_optional-7.ensures.kept
-    c.write_rest.ensures.kept)))))))
+    extends-on c.args.out.now.items c.write_pairs_head.new.out.items new c.write_pairs_head.ensures.kept
+    (extends-on c.write_pairs_head.new.out.items c.write_optional.new.out.items new c.write_optional.ensures.kept
+    (extends-on c.write_optional.new.out.items c.write_optional-2.new.out.items new c.write_optional-2.ensures.kept
+    (extends-on c.write_optional-2.new.out.items c.write_optional-3.new.out.items new c.write_optional-3.ensures.kept
+    (extends-on c.write_optional-3.new.out.items c.write_optional-4.new.out.items new c.write_optional-4.ensures.kept
+    (extends-on c.write_optional-4.new.out.items c.write_optional-5.new.out.items new c.write_optional-5.ensures.kept
+    (extends-on c.write_optional-5.new.out.items c.write_optional-6.new.out.items new c.write_optional-6.ensures.kept
+    (extends-on c.write_optional-6.new.out.items c.write_optional-7.new.out.items new c.write_optional-7.ensures.kept c.write_rest.ensures.kept)))))))

@@ -3,7 +3,7 @@ use Rattle.coset_value.specs.Item.{integer}
 use Rattle.coset_value.specs.View.{value_item}
 use Rattle.coset_codec.specs.RestLaws.{as_view, repeated-view, distinct-view, no-entries}
 use Rattle.coset_codec.specs.Shape.{nonempty_bstr}
-use Rattle.coset_codec.proofs.Encoding.{passes}
+use Rattle.coset_codec.proofs.Encoding.{passes, extends-on}
 use Rattle.coset_codec.proofs.EncodingMaps.{no-field, field-put, optional-put, listed-put, optional-has, filled-there, map-written}
 use Rattle.coset_label.specs.LabelData.{number, same_label}
 use Rattle.coset_label.specs.Views.{label_view, algorithm_view}
@@ -49,3 +49,47 @@ returns-clause-written c =
     (named _ _ ((search rules) ∙ c.to_i64-4.ensures)) c.in_ok-write_nonempty-2.ensures.ok
     (no-field f c.write_nonempty-2.new.out.items))))))
     (rw c.deref-3.ensures.value at c.write_rest.ensures.ok) (rw c.deref-3.ensures.value at c.write_rest.ensures.refused)
+
+pub returns-in_err-write_field-clause-kept : goal.returns-in_err-write_field-clause-kept
+returns-in_err-write_field-clause-kept c =
+    extends-on c.args.out.now.items c.write_pairs_head.new.out.items c.write_field.new.out.items c.write_pairs_head.ensures.kept c.write_field.ensures.kept
+
+pub returns-in_err-write_nonempty-clause-kept : goal.returns-in_err-write_nonempty-clause-kept
+returns-in_err-write_nonempty-clause-kept c =
+    let new = c.write_nonempty.new.out.items in
+    extends-on c.args.out.now.items c.write_pairs_head.new.out.items new c.write_pairs_head.ensures.kept
+    (extends-on c.write_pairs_head.new.out.items c.write_field.new.out.items new c.write_field.ensures.kept c.write_nonempty.ensures.kept)
+
+pub returns-in_err-write_optional-clause-kept : goal.returns-in_err-write_optional-clause-kept
+returns-in_err-write_optional-clause-kept c =
+    let new = c.write_optional.new.out.items in
+    extends-on c.args.out.now.items c.write_pairs_head.new.out.items new c.write_pairs_head.ensures.kept
+    (extends-on c.write_pairs_head.new.out.items c.write_field.new.out.items new c.write_field.ensures.kept
+    (extends-on c.write_field.new.out.items c.write_nonempty.new.out.items new c.write_nonempty.ensures.kept c.write_optional.ensures.kept))
+
+pub returns-in_err-write_key_ops-clause-kept : goal.returns-in_err-write_key_ops-clause-kept
+returns-in_err-write_key_ops-clause-kept c =
+    let new = c.write_key_ops.new.out.items in
+    extends-on c.args.out.now.items c.write_pairs_head.new.out.items new c.write_pairs_head.ensures.kept
+    (extends-on c.write_pairs_head.new.out.items c.write_field.new.out.items new c.write_field.ensures.kept
+    (extends-on c.write_field.new.out.items c.write_nonempty.new.out.items new c.write_nonempty.ensures.kept
+    (extends-on c.write_nonempty.new.out.items c.write_optional.new.out.items new c.write_optional.ensures.kept c.write_key_ops.ensures.kept)))
+
+pub returns-in_err-write_nonempty-2-clause-kept : goal.returns-in_err-write_nonempty-2-clause-kept
+returns-in_err-write_nonempty-2-clause-kept c =
+    let new = c.write_nonempty-2.new.out.items in
+    extends-on c.args.out.now.items c.write_pairs_head.new.out.items new c.write_pairs_head.ensures.kept
+    (extends-on c.write_pairs_head.new.out.items c.write_field.new.out.items new c.write_field.ensures.kept
+    (extends-on c.write_field.new.out.items c.write_nonempty.new.out.items new c.write_nonempty.ensures.kept
+    (extends-on c.write_nonempty.new.out.items c.write_optional.new.out.items new c.write_optional.ensures.kept
+    (extends-on c.write_optional.new.out.items c.write_key_ops.new.out.items new c.write_key_ops.ensures.kept c.write_nonempty-2.ensures.kept))))
+
+pub returns-clause-kept : goal.returns-clause-kept
+returns-clause-kept c =
+    let new = c.write_rest.new.out.items in
+    extends-on c.args.out.now.items c.write_pairs_head.new.out.items new c.write_pairs_head.ensures.kept
+    (extends-on c.write_pairs_head.new.out.items c.write_field.new.out.items new c.write_field.ensures.kept
+    (extends-on c.write_field.new.out.items c.write_nonempty.new.out.items new c.write_nonempty.ensures.kept
+    (extends-on c.write_nonempty.new.out.items c.write_optional.new.out.items new c.write_optional.ensures.kept
+    (extends-on c.write_optional.new.out.items c.write_key_ops.new.out.items new c.write_key_ops.ensures.kept
+    (extends-on c.write_key_ops.new.out.items c.write_nonempty-2.new.out.items new c.write_nonempty-2.ensures.kept c.write_rest.ensures.kept)))))
