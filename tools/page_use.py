@@ -201,8 +201,8 @@ def leaves(page):
 
 
 def doubts(page):
-    """Gives the page messages that a key made. They aren't verified if the module has a word on their headers, or if the rows show no
-    message. Yields what is wrong."""
+    """Gives the page messages that a key made. They aren't verified if the module has a word on their headers, or if the rows don't
+    show them. Yields what is wrong."""
     if not page_keys.HAS_CIPHERS:
         return
     signer = page_keys.Signer("ES256", -7, page_keys.private("ES256"), 256)
@@ -226,14 +226,20 @@ def doubts(page):
         yield f"a signature is verified, and no message is shown: {found}"
     show(page, f"at('kind').value = 'value'; type('{page_keys.message(signer, content=made).hex()}')")
     found = page.run('[...at("verdicts").children].map(it => it.textContent)')
-    wanted = [f"{it} is of key 'our key' (ES256), but the rows show no message." for it in ("Signature", "Layer 1: signature")]
-    if found != wanted:
+    told = "of key 'our key' (ES256), but the rows don't show its message."
+    if found != [f"{it} is {told}" for it in ("Signature", "Layer 1: signature")]:
         yield f"no message is shown, and one in its payload: {found}"
+    outer = signer.sign(page_keys.structure("Signature1", bytes.fromhex("a10126"), b"", made))
+    chunked = bytes.fromhex("d28443a10126a05f") + byte_string(made) + b"\xff" + byte_string(outer)
+    show(page, f"at('kind').value = 'auto'; type('{chunked.hex()}')")
+    found = page.run('[...at("verdicts").children].map(it => it.textContent)')
+    if found != ["Signature verified by key 'our key' (ES256).", f"Layer 1: signature is {told}"]:
+        yield f"a message is in a payload in chunks: {found}"
     page.run("clearFields(), globalThis.plainMessage = messageFrom, messageFrom = () => -1, null")
     show(page, f"at('key').value = '{key}'; type('{made.hex()}')")
     found = page.run('[...at("verdicts").children].map(it => it.textContent)')
     page.run("void (messageFrom = plainMessage)")
-    if found != ["Signature is of key 'our key' (ES256), but the rows show no message."]:
+    if found != [f"Signature is {told}"]:
         yield f"no message is shown: {found}"
     page.run('at("key").value = ""')
 

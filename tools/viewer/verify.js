@@ -130,7 +130,8 @@ async function doubtsOf(seal) {
   const found = [], isCrit = /critical/.test(seal.headers) || await isCritical(seal);
   if (isCrit) found.push("the message has critical labels (crit), and this page processes none");
   if (seal.headers !== "-" && seal.headers !== "critical") found.push("a label is in both of its headers");
-  if (messageFrom(0) < 0) found.push("the rows show no message");
+  const [, layer = "0"] = /^layer (\d+): /.exec(seal.name) ?? [];
+  if (messageOfLayer(Number(layer)) < 0) found.push("the rows don't show its message");
   return found.join(", and ");
 }
 
