@@ -122,7 +122,9 @@ def compare(check):
     check(f'#define COSET_VERSION "{version()}"\n#define COSET_VERSION_NUMBER 0x{number():08x}\n' in names.header(),
           "the header's version isn't that of VERSION")
     check(f"const VERSION_NUMBER = 0x{number():08x};" in names.javascript(), "coset.mjs doesn't have the number of VERSION")
-    check(f'"{soname()}"' in read("c/wrappers/python/coset/__init__.py"), f"the Python wrapper doesn't load {soname()}")
+    python = read("c/wrappers/python/coset/__init__.py")
+    check(f'"{soname()}"' in python, f"the Python wrapper doesn't load {soname()}")
+    check(f"\n_VERSION_NUMBER = 0x{number():08x}\n" in python, "the Python wrapper doesn't have the number of VERSION")
     check(f"`{soname()}`" in read("docs/C.md"), f"docs/C.md doesn't name {soname()}")
     check(len(set(there)) == len(there), "coset.h declares something twice")
     for line in lines.keys() - set(there):

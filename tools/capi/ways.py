@@ -121,8 +121,20 @@ def with_memory(given, folder, lines, wanted, wrong):
     return told
 
 
+def with_earlier_library(library, check):
+    """Checks that the Python package refuses a library of an earlier version than its own."""
+    with tempfile.TemporaryDirectory() as folder:
+        shutil.copytree(f"{WRAPPERS}/python/coset", f"{folder}/coset", ignore=shutil.ignore_patterns("__pycache__"))
+        later, there = re.subn(r"_VERSION_NUMBER = 0x0", "_VERSION_NUMBER = 0x1", read("c", "wrappers", "python", "coset", "__init__.py"))
+        with open(f"{folder}/coset/__init__.py", "w", encoding="utf-8") as file:
+            file.write(later)
+        ran = subprocess.run([sys.executable, "-c", "import coset"], cwd=folder, capture_output=True, text=True, **library)
+    check(there == 1 and "ImportError: the library is of version " in ran.stderr, f"Python takes an earlier library: {ran.stderr[-300:]}")
+
+
 def python_tests(library, wrong):
     """Runs the tests of the Python package. Returns their lines. Those with signatures need the package `cryptography`."""
+    with_earlier_library(library, wrong.check)
     told = []
     for name in ("tests", "nested_tests", "token_tests"):
         if name == "token_tests" and not importlib.util.find_spec("cryptography"):

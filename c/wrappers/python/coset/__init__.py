@@ -407,6 +407,10 @@ def _declare():
 
 
 _declare()
+# The version of this file. An earlier library may have other structs and statuses.
+_VERSION_NUMBER = 0x00040207
+if _library.coset_version_number() < _VERSION_NUMBER:
+    raise ImportError(f"the library is of version {_library.coset_version().decode()}, earlier than this package")
 
 
 def _raise(status, offset=None):
