@@ -5,6 +5,7 @@ returns the lines to print."""
 import glob
 import importlib.util
 import os
+import re
 import shutil
 import subprocess
 import sys
