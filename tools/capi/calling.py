@@ -19,6 +19,8 @@ WITHOUT_ROOM = ("check", "float_value", "map_spans", *NUMBERS, *SPANS)
 # Calls that return a view.
 WITH_VIEW = ("sign1", "message", "spans")
 LARGE = 1 << 16
+# The offset of `check` without one.
+NO_OFFSET = (1 << 64) - 1
 
 
 def word(value):
@@ -40,8 +42,11 @@ def answers(command, lines, check, **more):
 
 
 def agrees(got, want):
-    """Returns true if the words begin with the wanted ones. None stands for any word."""
-    return len(got) >= len(want) and all(w in (None, g) for g, w in zip(got, want))
+    """Returns true if the words are the wanted ones. None stands for any word, and `...` at the end for any words."""
+    if want and want[-1] is ...:
+        want = want[:-1]
+        got = got[:len(want)]
+    return len(got) == len(want) and all(w in (None, g) for g, w in zip(got, want))
 
 
 # ---- from C
@@ -79,7 +84,7 @@ def told_by_c(call, status, answer, cap):
     """Returns the right output of calls.c: the status, the number and the buffer. Some calls add the numbers of the view."""
     view = view_told(call, status, answer, cap)
     if call == "check":
-        return [str(status)]
+        return [str(status), str(NO_OFFSET) if status == OK else None]
     if call in SPANS:
         return [str(status), *(answer.split() if status == OK else ["0"] * (4 if call == "pair_spans" else 2))]
     if call == "deeper":
@@ -87,7 +92,7 @@ def told_by_c(call, status, answer, cap):
     if call in TOKENS:
         return [str(status), "0", *answer.words, *answer.asked]
     if call in ("room", "answers"):
-        return [str(status)]
+        return [str(status), ...]
     if call == "open":
         return opening_told(status, answer, cap)
     if call == "spans":
@@ -101,7 +106,7 @@ def told_by_c(call, status, answer, cap):
     if call == "map_spans":
         return [str(status), *(answer or "0").split()]
     if status == -1:
-        return ["-1"]
+        return ["-1", ...]
     if status == OK and len(answer) > cap:
         return [str(SHORT), str(len(answer)), untouched(cap), *view]
     text = answer if status == OK else b""
@@ -125,7 +130,7 @@ def lines_of(call, number, data, words, status, answer):
     for cap in rooms(call, answer):
         yield line(call, number, data, words, cap), told_by_c(call, status, answer, cap)
     if call == "safe" and status in (OK, NOT_ALLOWED, CRITICAL, REFUSED, HEADERS) or call in TOKENS and status == OK:
-        yield line(call, number, data, words, 0), [str(SHORT)]
+        yield line(call, number, data, words, 0), [str(SHORT), None, *(["0"] * 4 + ["-"] * 2 if call in TOKENS else [])]
     if call == "verified" and status == OK:
         whole = len(words[2])  # the structure that is signed; the other parts stay in the token
         yield line(call, number, data, words, whole - 1), [str(SHORT), str(whole), untouched(whole - 1)]

@@ -4,11 +4,9 @@ import subprocess
 import sys
 
 from capi.building import FLAGS, HERE, run
-from capi.calling import agrees, answers, line
+from capi.calling import NO_OFFSET, agrees, answers, line
 from capi.kinds import MEMORY
 
-# The offset that a call without an offset gives.
-NO_OFFSET = (1 << 64) - 1
 # More allocations than any call makes.
 MOST_REQUESTS = 5000
 # Calls whose results are places alone.
@@ -30,7 +28,7 @@ def is_clean(asked, want, got):
     if asked.startswith("open "):
         got = [*got[:7], *got[8:]]  # without the index of the layer, which may be known
     is_untouched = len(got) < 3 or set(got[2][i:i + 2] for i in range(0, len(got[2]), 2)) <= {"ee"}
-    is_empty = want[0] == "0" and len(want) == 1 or not got[1].strip("0") or got[1] == str(NO_OFFSET)
+    is_empty = not got[1].strip("0") or got[1] == str(NO_OFFSET)
     return is_untouched and set(got[3:]) <= {"0"} and is_empty
 
 

@@ -168,7 +168,7 @@ class Calls:
             if status == OK:
                 want += [payload.hex(), None, None, text(None if issuer is None else issuer.encode())]
         self.lines.append(calling.line(call, 0, token, words, 1 << 16))
-        self.wanted.append(want)
+        self.wanted.append([*want, ...])
 
     def good(self, token, keys, payload, **more):
         """Adds a token that is accepted, also with memory that grows from nothing."""
