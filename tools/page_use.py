@@ -201,8 +201,7 @@ def leaves(page):
 
 
 def doubts(page):
-    """Gives the page messages that a key made. They aren't verified if the module has a word on their headers, or if the rows don't
-    show them. Yields what is wrong."""
+    """Gives the page messages that a key made. They aren't verified if the module has a word on their headers. Yields what is wrong."""
     if not page_keys.HAS_CIPHERS:
         return
     signer = page_keys.Signer("ES256", -7, page_keys.private("ES256"), 256)
@@ -220,6 +219,12 @@ def doubts(page):
         if found != [wanted]:
             yield f"the module's word '{word}': {found} and not {wanted}"
     page.run("void (call = plainCall)")
+    yield from unshown(page, signer)
+
+
+def unshown(page, signer):
+    """Gives the page messages of the signer that the rows don't show. They aren't verified. Yields what is wrong."""
+    made, key = page_keys.message(signer), signer.cose().hex()
     show(page, f"clearFields(); at('key').value = '{key}'; type('{(head(6, 61) + made[1:]).hex()}')")
     found = page.run('[...at("verdicts").children].map(it => it.className)')
     if page.run("messageFrom(0)") < 0 and "verified" in found:
