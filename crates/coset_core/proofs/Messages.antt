@@ -1,10 +1,12 @@
 -- The parts of a message that are the same after it was written and read again.
-use Rattle.std.proofs.Common.{◌≡◌, ℕ, List, Some, ap}
+use Rattle.std.proofs.Common.{◌≡◌, ℕ, List, Some, ap, inl, inr}
 use Rattle.std.specs.Prelude.{⊤}
+use Rattle.coset_value.specs.Item.{Item, Items, item}
+use Rattle.coset_codec.specs.declared.error.CoseError.{CoseError}
 use Rattle.coset_codec.specs.AsWritten.{AsWritten, WhenRead, ElementsAsWritten, ElementsWhenRead}
 use Rattle.coset_codec.proofs.AsWritten.{array_as_written, array_when_read, then_as_written, then_when_read}
 use Rattle.coset_codec.specs.Serialized.{content_bytes}
-use Rattle.coset_codec.specs.Shape.{Elements, ◌then◌}
+use Rattle.coset_codec.specs.Shape.{Elements, ElementsFaults, ◌then◌}
 use Rattle.coset_core.specs.Headers.{HeaderView, ProtectedView, header, header_image, is_empty_header, layered_protected, protected, protected_bytes}
 use Rattle.coset_core.specs.Messages.{with_headers}
 
@@ -26,6 +28,12 @@ unfolding layered_protected
 has_bytes w p d = (d.0, ap (λ o. content_bytes is_empty_header header_image o p.header) d.2)
 
 module _ {A : Type 0} (ps : Elements A) where
+  -- A fault in the elements after the headers.
+  pub others_faulty :
+      (a b : Item) (vs : Items) (e : CoseError) → ElementsFaults ps vs e → ElementsFaults (protected then header then ps) (item a (item b vs)) e
+  others_faulty a b vs e (inl wrong) = inl wrong
+  others_faulty a b vs e (inr faulty) = inr (faulty.0, inr (inr faulty.1))
+
   -- From the protected header, and from the elements after the headers.
   pub message_as_written :
       (Q : ProtectedView → ProtectedView → Type 0) (R : A → A → Type 0) → AsWritten protected Q → ElementsAsWritten ps R
