@@ -1,7 +1,15 @@
--- A header with one more counter signature.
+-- A header with one more pair or counter signature.
 use Rattle.std.proofs.Common.{◌≡◌, List, [], ◌∷◌, ◌++◌, map, refl, ap, sym, ◌∙◌}
 use Rattle.std.proofs.lemmas.List.{map_push}
-use Rattle.coset_core.specs.Built.{and_last, push_counter_signature, push_countersignature_v2}
+use Rattle.std.specs.Prelude.{Vec}
+use Rattle.std.specs.Global.{Global}
+use Rattle.coset_value.specs.Item.{Item}
+use Rattle.coset_value.specs.View.{value_item}
+use Rattle.coset_value.specs.declared.value.Value.{Value}
+use Rattle.coset_label.specs.LabelData.{LabelView}
+use Rattle.coset_label.specs.Views.{entry_view, label_view}
+use Rattle.coset_label.specs.declared.label.Label.{Label}
+use Rattle.coset_core.specs.Built.{and_last, push_counter_signature, push_countersignature_v2, push_pair}
 use Rattle.coset_core.specs.FieldViews.{fields_level}
 use Rattle.coset_core.specs.Headers.{HeaderView, Signatures, header_of, SignatureView, and_signatures, signatures_of}
 use Rattle.coset_core.specs.ViewLaws.{HeaderLevel, header-made, header-opened}
@@ -46,3 +54,19 @@ countersignature-added h x s fields others pushed =
     ∙ ap (λ ts. with_second h (signatures_of ts)) (map_push countersignature_view old s)
     ∙ ap (with_second h) (signatures-pushed (map countersignature_view old) (countersignature_view s))
     ∙ sym (ap (push_countersignature_v2 (countersignature_view s)) (header-opened h))
+
+-- The view of a header with these pairs in its rest, otherwise unchanged.
+abbrev with_rest : (h : Header) (es : List (LabelView × Item)) → HeaderView
+with_rest h es =
+    header_of (record (fields_level (out-Header h)) { rest = es }) (signatures_of (map signature_view (out-Header h).counter_signatures.items))
+    (signatures_of (map countersignature_view (out-Header h).countersignatures_v2.items))
+
+pub pair-added :
+    (h : Header) (rest : Vec (Label × Value) Global) (l : Label) (v : Value) → rest.items ≡ (out-Header h).rest.items ++ (l, v) ∷ []
+    → header_view (roll-Header (record (out-Header h) { rest = rest })) ≡ push_pair (label_view l) (value_item v) (header_view h)
+pair-added h rest l v pushed =
+    let old : List (Label × Value) = (out-Header h).rest.items in
+    header-made (record (out-Header h) { rest = rest })
+    ∙ ap (λ es. with_rest h (map entry_view es)) pushed
+    ∙ ap (with_rest h) (map_push entry_view old (l, v))
+    ∙ sym (ap (push_pair (label_view l) (value_item v)) (header-opened h))
