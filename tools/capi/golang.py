@@ -24,6 +24,15 @@ def built(prefix, folder, env):
     return f"{folder}/calls_go"
 
 
+def with_earlier_library(program, folder, env, check):
+    """Checks that the package refuses a library that says that it is of an earlier version."""
+    with open(f"{folder}/earlier.c", "w", encoding="utf-8") as file:
+        file.write("unsigned coset_version_number(void) { return 0x00040206; }\n")
+    run(["cc", "-shared", "-fPIC", "-o", "earlier.so", "earlier.c"], cwd=folder)
+    ran = subprocess.run([program], input="", capture_output=True, text=True, check=False, env={**env, "LD_PRELOAD": f"{folder}/earlier.so"})
+    check(ran.returncode and "earlier than this package" in ran.stderr, f"Go takes an earlier library: {ran.stderr[-300:]}")
+
+
 def tested(prefix, folder, env, check):
     """Runs the tests of the package. Returns a line."""
     shutil.copytree(f"{prefix}/share/coset/go", f"{folder}/tested")
@@ -46,5 +55,6 @@ def tried(given, library, calls, wrong):
         env = environment(prefix, folder)
         program = built(prefix, folder, env)
         calling.from_wrapper("Go", [program], calls, wrong.check)
+        with_earlier_library(program, folder, env, wrong.check)
         calling.texts(given.quick, [([f"{library}/calls_c"], {}), ([program], {})], wrong.check)
         return [f"from Go {len(calls)}", tested(prefix, folder, env, wrong.check)]

@@ -149,14 +149,16 @@ def python_tests(library, wrong):
 
 def by_wrappers(given, folder, calls, wrong):
     """Makes the calls from Rust and Python. Returns the numbers of calls."""
-    rust, python = [f"{folder}/calls_rust"], [sys.executable, f"{WRAPPERS}/python/calls.py"]
+    compiled, python = [f"{folder}/calls_rust"], [sys.executable, f"{WRAPPERS}/python/calls.py"]
     library = {"env": {**os.environ, "COSET_LIBRARY": f"{folder}/libcoset.so", "PYTHONDONTWRITEBYTECODE": "1", "PYTHONOPTIMIZE": ""}}
-    programs = {"Rust": (rust, {})} if shutil.which("rustc") else {}
+    programs = {"Rust": (compiled, {})} if shutil.which("rustc") else {}
     programs["Python"] = (python, library)
     calls = [*calls, *accepting.calls()]
     for name, (command, more) in programs.items():
         calling.from_wrapper(name, command, calls, wrong.check, **more)
     memory.wiped(folder, wrong.check)
+    if "Rust" in programs:
+        rust.with_earlier_library(*compiled, calls, wrong.check)
     tested = [*([] if "Rust" in programs else ["there is no rustc"]), *python_tests(library, wrong)]
     if importlib.util.find_spec("cryptography"):
         tested.append(f"with coset.crypto {accepting.by_ciphers(python, wrong.check, **library)}")
