@@ -4,7 +4,7 @@ import shutil
 import subprocess
 import tempfile
 
-from capi import accepting, calling, install
+from capi import accepting, calling, hostile, install
 from capi.building import WRAPPERS, run
 from capi.wasm import with_own_ciphers
 from sources import read
@@ -55,6 +55,7 @@ def tried(given, library, calls, wrong):
         env = environment(prefix, folder)
         program = built(prefix, folder, env)
         calling.from_wrapper("Go", [program], calls, wrong.check)
+        hostile.damage("Go", [program], f"{library}/calls_c", wrong.check)
         with_earlier_library(program, folder, env, wrong.check)
         calling.texts(given.quick, [([f"{library}/calls_c"], {}), ([program], {})], wrong.check)
         return [f"from Go {len(calls)}", tested(prefix, folder, env, wrong.check)]

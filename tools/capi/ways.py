@@ -11,8 +11,8 @@ import subprocess
 import sys
 import tempfile
 
-from capi import (accepting, attack, calling, depths, examples, golang, install, interface, items, limits, memory, messages, misuses,
-                  openers, openssl, rows, rust, shapes, targets, tokens, trying, wasm)
+from capi import (accepting, attack, calling, depths, examples, golang, hostile, install, interface, items, limits, memory, messages,
+                  misuses, openers, openssl, rows, rust, shapes, targets, tokens, trying, wasm)
 from capi.building import HERE, WRAPPERS, archive, build, build_callers, own_heap, run
 from capi.vectors import token
 from cbor import decode
@@ -156,6 +156,7 @@ def by_wrappers(given, folder, calls, wrong):
     calls = [*calls, *accepting.calls()]
     for name, (command, more) in programs.items():
         calling.from_wrapper(name, command, calls, wrong.check, **more)
+        hostile.damage(name, command, f"{folder}/calls_c", wrong.check, **more)
     memory.wiped(folder, wrong.check)
     if "Rust" in programs:
         rust.with_earlier_library(*compiled, calls, wrong.check)
