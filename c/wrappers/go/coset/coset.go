@@ -847,6 +847,9 @@ func textsOf(names []string) texts {
 	}
 	block := C.malloc(C.size_t(total))
 	entries, held := unsafe.Slice((*C.coset_text)(block), len(names)), unsafe.Slice((*byte)(block), total)
+	for i := range held[:size] {
+		held[i] = 0 // the garbage collector reads a pointer before it is overwritten
+	}
 	for i, name := range names {
 		entries[i] = C.coset_text{chars: (*C.char)(unsafe.Add(block, size)), len: C.size_t(len(name))}
 		if name == "" {
