@@ -4,7 +4,10 @@ import array
 import copy
 import ctypes
 import hashlib
+import os
 import pickle
+import subprocess
+import sys
 
 import coset
 
@@ -155,6 +158,28 @@ for call in (lambda it: coset.verify(coset.SIGN1, token, it, lambda question: Tr
     for wrong in (b"\x05", bytearray(b"\x05"), memoryview(b"\x05"), "5", 5, None, True):
         assert type(raised(call, wrong)) is TypeError, wrong
 assert coset.status_text(1 << 32) == coset.status_text(-1) != coset.status_text(0)
+
+# A result of more than 4 GB isn't cut to its length modulo 2**32. There is no memory for this one. Its buffer has pages that are
+# never touched.
+program = """
+import ctypes, mmap, resource, coset
+
+ctypes.create_string_buffer = lambda size: (ctypes.c_char * size).from_buffer(mmap.mmap(-1, size))
+LENGTH = (1 << 32) + 5
+
+
+def call(out, room, length):
+    length._obj.value = LENGTH
+    return 0 if room == LENGTH else 1
+
+
+resource.setrlimit(resource.RLIMIT_AS, (6 << 30, 6 << 30))
+try:
+    print(len(coset._written(call)))
+except MemoryError:
+    print("no memory")
+"""
+assert subprocess.run([sys.executable, "-c", program], capture_output=True, text=True, cwd=os.path.dirname(__file__)).stdout == "no memory\n"
 
 # The question has the plain kind, and at most one IV.
 for kind in (coset.SIGN1, coset.MAC0):

@@ -521,7 +521,7 @@ def _written(call, *arguments, behind=()):
         status = call(*arguments, out, room, ctypes.byref(length), *behind)
         if status != _SHORT:
             _raise(status)
-            return ctypes.string_at(out, length.value)
+            return out[: length.value]
         room = length.value
 
 
@@ -1001,7 +1001,7 @@ def _token_open(given, data, now, layers, known):
         status = _library.coset_token_open(*given, data, len(data), now, (_Opened * len(layers))(*layers), len(layers),
                                            known, len(known), out, room, ctypes.byref(length), ctypes.byref(view))
         if status != _SHORT:
-            return status, ctypes.string_at(out, length.value), view
+            return status, out[: length.value], view
         room = length.value
 
 
@@ -1084,7 +1084,7 @@ def key_fits(key, layer):
     if status == _UNFIT:
         return None
     _raise(status)
-    return ctypes.string_at(out, length.value)
+    return out[: length.value]
 
 
 def readable_keys(keys):
