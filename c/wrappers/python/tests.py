@@ -159,6 +159,10 @@ for call in (lambda it: coset.verify(coset.SIGN1, token, it, lambda question: Tr
         assert type(raised(call, wrong)) is TypeError, wrong
 assert coset.status_text(1 << 32) == coset.status_text(-1) != coset.status_text(0)
 
+for wrong in (0, 1, True, [5], "5", None, 1.0, array.array("B", [5])):
+    assert type(raised(coset.Encoded, wrong)) is TypeError, wrong
+assert copy.deepcopy(pickle.loads(pickle.dumps(coset.Encoded(b"\x05")))) == b"\x05"
+
 # A result of more than 4 GB isn't cut to its length modulo 2**32. There is no memory for this one. Its buffer has pages that are
 # never touched.
 program = """

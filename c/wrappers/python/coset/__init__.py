@@ -1207,6 +1207,10 @@ class Encoded(bytes):
 
     __slots__ = ()
 
+    def __new__(cls, data):
+        """Takes bytes alone. From an integer, `bytes` makes so many zeros."""
+        return super().__new__(cls, _bytes(data)[0])
+
 
 def _part(data, parts):
     """Appends the bytes to the parts. Returns their offset and their number."""
