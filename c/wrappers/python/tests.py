@@ -163,6 +163,11 @@ for wrong in (0, 1, True, [5], "5", None, 1.0, array.array("B", [5])):
     assert type(raised(coset.Encoded, wrong)) is TypeError, wrong
 assert copy.deepcopy(pickle.loads(pickle.dumps(coset.Encoded(b"\x05")))) == b"\x05"
 
+for wrong in ("ab", b"ab", {1, 2}, iter([1, 2]), 5, None):
+    assert type(raised(coset.put_all, coset.ITEM, b"", [wrong])) is TypeError, wrong
+    assert type(raised(coset.KeyRing, [wrong], object())) is TypeError, wrong
+assert coset.put_all(coset.ITEM, b"", iter([(1, 2), ["a", 3]])) == b"\xa2\x01\x02\x61a\x03"
+
 # A result of more than 4 GB isn't cut to its length modulo 2**32. There is no memory for this one. Its buffer has pages that are
 # never touched.
 program = """

@@ -503,6 +503,14 @@ def _list(values, field):
     return list(values)
 
 
+def _pairs(pairs):
+    """Returns the pairs of a dict, or of a list of pairs. A text of two characters is no pair."""
+    found = list(pairs.items() if isinstance(pairs, Mapping) else pairs)
+    if not all(isinstance(pair, (tuple, list)) for pair in found):
+        raise TypeError("pairs are a dict, or tuples of two")
+    return found
+
+
 def _integers(numbers, field):
     """Returns a list of integers of 64 bits."""
     return [_int64(number) for number in _list(numbers, field)]
@@ -1122,7 +1130,7 @@ class KeyRing:
         if ciphers is None:
             from coset.crypto import CIPHERS as ciphers
         self._ciphers, self._keys = ciphers, []
-        for name, keys in issuers.items() if isinstance(issuers, Mapping) else issuers:
+        for name, keys in _pairs(issuers):
             self._keys += [(_issuer(name), key) for key in readable_keys(keys)]
 
     def __call__(self, layer):
@@ -1245,7 +1253,7 @@ def put_all(kind, data, pairs):
     `pairs` is a dict, or labels with values. A label is an int or a str. A value is an int, a float, a str, bytes, or
     Encoded, one item of CBOR."""
     parts = bytearray()
-    told = [_pair(name, value, parts) for name, value in (pairs.items() if isinstance(pairs, Mapping) else pairs)]
+    told = [_pair(name, value, parts) for name, value in _pairs(pairs)]
     return _written(_library.coset_put_all, _kind(kind), *_bytes(data), (_Pair * len(told))(*told), len(told), *_bytes(parts))
 
 
