@@ -25,7 +25,7 @@ def built(prefix, folder, env):
 
 
 def with_earlier_library(program, folder, env, check):
-    """Checks that the package refuses a library that says that it is of an earlier version."""
+    """Checks that the package refuses a library with an earlier version's number."""
     with open(f"{folder}/earlier.c", "w", encoding="utf-8") as file:
         file.write("unsigned coset_version_number(void) { return 0x00040206; }\n")
     run(["cc", "-shared", "-fPIC", "-o", "earlier.so", "earlier.c"], cwd=folder)

@@ -30,7 +30,8 @@ def line(call, number, data, words):
 
 
 def damaged(data, chance):
-    """Returns the bytes with one to three changes: a bit, a byte, a byte more, a byte less, a run twice, or the end cut off."""
+    """Returns the bytes with one to three changes. Each flips a bit, changes, adds or removes a byte, repeats a run, or cuts off the
+    end."""
     data = bytearray(data)
     for _ in range(chance.randrange(1, 4)):
         at, how = chance.randrange(len(data) + 1), chance.choice((0, 0, 0, 1, 1, 2, 3, 4, 5))
