@@ -4,7 +4,7 @@ import shutil
 import subprocess
 import tempfile
 
-from capi import accepting, calling, install
+from capi import accepting, calling, hostile, install
 from capi.building import WRAPPERS, run
 from capi.wasm import with_own_ciphers
 from sources import read
@@ -22,6 +22,15 @@ def built(prefix, folder, env):
     run(["go", "mod", "edit", f"-replace=coset={prefix}/share/coset/go"], cwd=f"{folder}/calls", env=env)
     run(["go", "build", "-o", f"{folder}/calls_go", "."], cwd=f"{folder}/calls", env=env)
     return f"{folder}/calls_go"
+
+
+def with_earlier_library(program, folder, env, check):
+    """Checks that the package refuses a library with an earlier version's number."""
+    with open(f"{folder}/earlier.c", "w", encoding="utf-8") as file:
+        file.write("unsigned coset_version_number(void) { return 0x00040206; }\n")
+    run(["cc", "-shared", "-fPIC", "-o", "earlier.so", "earlier.c"], cwd=folder)
+    ran = subprocess.run([program], input="", capture_output=True, text=True, check=False, env={**env, "LD_PRELOAD": f"{folder}/earlier.so"})
+    check(ran.returncode and "earlier than this package" in ran.stderr, f"Go takes an earlier library: {ran.stderr[-300:]}")
 
 
 def tested(prefix, folder, env, check):
@@ -46,5 +55,7 @@ def tried(given, library, calls, wrong):
         env = environment(prefix, folder)
         program = built(prefix, folder, env)
         calling.from_wrapper("Go", [program], calls, wrong.check)
+        hostile.damage("Go", [program], f"{library}/calls_c", wrong.check)
+        with_earlier_library(program, folder, env, wrong.check)
         calling.texts(given.quick, [([f"{library}/calls_c"], {}), ([program], {})], wrong.check)
         return [f"from Go {len(calls)}", tested(prefix, folder, env, wrong.check)]

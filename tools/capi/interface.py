@@ -122,6 +122,8 @@ def compare(check):
     check(f'#define COSET_VERSION "{version()}"\n#define COSET_VERSION_NUMBER 0x{number():08x}\n' in names.header(),
           "the header's version isn't that of VERSION")
     check(f"const VERSION_NUMBER = 0x{number():08x};" in names.javascript(), "coset.mjs doesn't have the number of VERSION")
+    for path, head in (("rust/coset.rs", "const VERSION_NUMBER: u32"), ("go/coset/coset.go", "const versionNumber")):
+        check(f"\n{head} = 0x{number():08x}" in read(f"c/wrappers/{path}"), f"{path} doesn't have the number of VERSION")
     python = read("c/wrappers/python/coset/__init__.py")
     check(f'"{soname()}"' in python, f"the Python wrapper doesn't load {soname()}")
     check(f"\n_VERSION_NUMBER = 0x{number():08x}\n" in python, "the Python wrapper doesn't have the number of VERSION")

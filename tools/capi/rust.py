@@ -4,8 +4,9 @@ import re
 import shutil
 import subprocess
 
-from capi import names
+from capi import calling, names
 from capi.building import FLAGS, WRAPPERS, run
+from capi.kinds import OK
 
 EDITION = ["--edition", "2021", "-D", "warnings"]
 # The first version with which a program can have a heap and no std. An older one compiles the wrapper alone.
@@ -25,8 +26,11 @@ def version(tool):
 
 def once(folder):
     """Compiles a function around each call that may say COSET_SHORT. It ends the program if the call says so, because the wrapper
-    would make the call again. Returns the arguments for the linker."""
-    lines, calls = ['#include "coset.h"', "#include <stdio.h>", "#include <stdlib.h>"], []
+    would make the call again. If the environment has EARLIER, the library says that it is of an earlier version. Returns the
+    arguments for the linker."""
+    lines, calls = ['#include "coset.h"', "#include <stdio.h>", "#include <stdlib.h>"], ["coset_version_number"]
+    lines += ["uint32_t __wrap_coset_version_number(void);",
+              'uint32_t __wrap_coset_version_number(void) { return COSET_VERSION_NUMBER - !!getenv("EARLIER"); }']
     for name, arguments, _ in names.prototypes():
         if "size_t cap" in arguments:
             given = ", ".join(re.search(r"\w+$", it.strip())[0] for it in arguments.split(","))
@@ -48,6 +52,15 @@ def build_calls(folder):
         run([first, *EDITION, *words, "-o", "calls_rust", f"{WRAPPERS}/rust/calls.rs"], cwd=folder)
     for rustc in others:
         run([rustc, *EDITION, "--emit", "metadata", "-o", "calls.rmeta", f"{WRAPPERS}/rust/calls.rs"], cwd=folder)
+
+
+def with_earlier_library(program, calls, check):
+    """Checks that each call of the wrapper panics if the library is of an earlier version."""
+    each = {call[0]: call for call in calls if call[4] == OK}
+    for name, line in zip(each, calling.lines_for_wrapper(each.values())):
+        ran = subprocess.run([program], input=f"{line}\n", capture_output=True, text=True, check=False, env={**os.environ, "EARLIER": "1"})
+        is_refused = "earlier than this crate" in ran.stderr and not ran.stdout
+        check(is_refused, f"Rust makes the call {name} of an earlier library: {ran.stdout[:200]}{ran.stderr[-300:]}")
 
 
 def without_std(folder, token, payload, check):

@@ -17,9 +17,9 @@ import threading
 import browser
 import common
 import wasm64
-from capi import accepting, building, calling, install, memory, names, trying
+from capi import accepting, building, calling, hostile, install, names, trying
 from capi.building import WRAPPERS
-from capi.kinds import MEMORY, NAMES, OK, REFUSED, SHORT
+from capi.kinds import OK, REFUSED
 from capi.vectors import named, token
 from cbor import decode
 from sources import read
@@ -185,21 +185,6 @@ def by_types(folder, check):
     return "types tried"
 
 
-def with_hostile_input(caller, node, check):
-    """Makes the calls with the input that nests deepest, each followed by one that succeeds. The results are those of the program
-    `caller`, or the call needs more stack than there is. Returns a line."""
-    with tempfile.TemporaryDirectory() as folder:
-        lines = list(memory.hostile_lines(folder))[:: len(memory.STACK_CALLS)]
-    usual = f"check 1 {token()[0][1:].hex()}"
-    told = calling.answers(node, [it for one in lines for it in (one, usual)], check)
-    wanted = [NAMES[int(it.split()[0])].replace(NAMES[SHORT], NAMES[OK]) for it in calling.answers([caller], lines, check)]
-    for asked, want, got, after in zip(lines, wanted, told[::2], told[1::2]):
-        check(got.split()[0] in (want, NAMES[MEMORY]) and after.strip() == "ok", f"JavaScript: {asked[:80]}: {got[:80]} and not {want}, {after}")
-    short = told[::2].count(NAMES[MEMORY])
-    check(short < len(lines), "JavaScript: no hostile input has enough stack")
-    return f"with hostile input {len(lines)}, without enough stack {short}"
-
-
 def laid_out(folder, quick):
     """Writes the package into a folder's node_modules, and the scripts that use it next to that."""
     os.makedirs(f"{folder}/node_modules")
@@ -239,5 +224,5 @@ def tried(given, caller, calls, wrong):
         wrong.check(texts[0] == texts[1], "JavaScript tells other texts")
         told = [f"from JavaScript {len(calls)}", *tested(f"{folder}/page", wrong), in_chromium(f"{folder}/page", calls, wrong.check)]
         with_another_module(f"{folder}/page", wrong.check)
-        told += [with_hostile_input(caller, node, wrong.check), by_types(f"{folder}/page", wrong.check)]
+        told += [hostile.nest(node, caller, wrong.check), hostile.damage("JavaScript", node, caller, wrong.check), by_types(f"{folder}/page", wrong.check)]
         return [*told, by_npm(folder, given.quick, data, decode(data)[0][2][1][2][1], wrong.check)]

@@ -11,8 +11,8 @@ import subprocess
 import sys
 import tempfile
 
-from capi import (accepting, attack, calling, depths, examples, golang, install, interface, items, limits, memory, messages, misuses,
-                  openers, openssl, rows, rust, shapes, targets, tokens, trying, wasm)
+from capi import (accepting, attack, calling, depths, examples, golang, hostile, install, interface, items, limits, memory, messages,
+                  misuses, openers, openssl, rows, rust, shapes, targets, tokens, trying, wasm)
 from capi.building import HERE, WRAPPERS, archive, build, build_callers, own_heap, run
 from capi.vectors import token
 from cbor import decode
@@ -149,14 +149,17 @@ def python_tests(library, wrong):
 
 def by_wrappers(given, folder, calls, wrong):
     """Makes the calls from Rust and Python. Returns the numbers of calls."""
-    rust, python = [f"{folder}/calls_rust"], [sys.executable, f"{WRAPPERS}/python/calls.py"]
+    compiled, python = [f"{folder}/calls_rust"], [sys.executable, f"{WRAPPERS}/python/calls.py"]
     library = {"env": {**os.environ, "COSET_LIBRARY": f"{folder}/libcoset.so", "PYTHONDONTWRITEBYTECODE": "1", "PYTHONOPTIMIZE": ""}}
-    programs = {"Rust": (rust, {})} if shutil.which("rustc") else {}
+    programs = {"Rust": (compiled, {})} if shutil.which("rustc") else {}
     programs["Python"] = (python, library)
     calls = [*calls, *accepting.calls()]
     for name, (command, more) in programs.items():
         calling.from_wrapper(name, command, calls, wrong.check, **more)
+        hostile.damage(name, command, f"{folder}/calls_c", wrong.check, **more)
     memory.wiped(folder, wrong.check)
+    if "Rust" in programs:
+        rust.with_earlier_library(*compiled, calls, wrong.check)
     tested = [*([] if "Rust" in programs else ["there is no rustc"]), *python_tests(library, wrong)]
     if importlib.util.find_spec("cryptography"):
         tested.append(f"with coset.crypto {accepting.by_ciphers(python, wrong.check, **library)}")

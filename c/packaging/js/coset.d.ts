@@ -2,8 +2,8 @@
  *
  * An option that is undefined is a Misuse. With `exactOptionalPropertyTypes`, `tsc` reports it. */
 
-/** Bytes that a call takes. */
-export type Data = ArrayBufferView | ArrayBufferLike;
+/** Bytes that a call takes. A view with longer elements is a Misuse. */
+export type Data = Uint8Array | Uint8ClampedArray | Int8Array | DataView | ArrayBufferLike;
 /** An integer of CBOR: a number if that is exact, else a bigint. */
 export type Integer = number | bigint;
 /** The name of a status: the reason of an error. */

@@ -1,6 +1,6 @@
 /** coset from JavaScript: the calls of coset.h, by the WebAssembly module coset.wasm next to this file.
  *
- * A call takes bytes (a Uint8Array, another view or a buffer) and returns a Uint8Array, a number, an object or null. An
+ * A call takes bytes (a Uint8Array, another view of bytes, or a buffer) and returns a Uint8Array, a number, an object or null. An
  * integer of CBOR is a number if that is exact, else a bigint. Each error of a call of the library is a CosetError; its
  * `reason` is the name of a Status.
  * - Fault if the bytes aren't an item of the kind, or the new item wouldn't be.
@@ -369,13 +369,39 @@ const LAYER = struct({
 
 const NOTHING = new Uint8Array(0);
 
+// Getters of the language. They take no object that only looks like a view or a buffer.
+const nameOfView = Object.getOwnPropertyDescriptor(Object.getPrototypeOf(Uint8Array.prototype), Symbol.toStringTag).get;
+const lengthOfUnshared = Object.getOwnPropertyDescriptor(ArrayBuffer.prototype, "byteLength").get;
+// The views with elements of one byte. A DataView has no name here.
+const OF_BYTES = [undefined, "Uint8Array", "Uint8ClampedArray", "Int8Array"];
+
+/** Returns a view of the bytes of a view or a buffer. Throws an error if it is neither, if its elements are longer than a byte, or
+ * if its memory is detached or has become too short. */
+function viewed(data) {
+  if (!ArrayBuffer.isView(data)) return new Uint8Array(new DataView(data).buffer);
+  const name = nameOfView.call(data);
+  if (!OF_BYTES.includes(name)) throw new TypeError(name);
+  if (name) Uint8Array.prototype.at.call(data, 0); // such a view over too little memory has the length 0
+  return new Uint8Array(data.buffer, data.byteOffset, data.byteLength);
+}
+
+function isShared(buffer) {
+  try {
+    return lengthOfUnshared.call(buffer) < 0;
+  } catch {
+    return true;
+  }
+}
+
 /** Returns the bytes of a view or a buffer. Those of shared memory are copied, since another thread might change them. */
 function bytes(data) {
-  const tag = Object.prototype.toString.call(data);
-  const isView = ArrayBuffer.isView(data);
-  if (!isView && tag !== "[object ArrayBuffer]" && tag !== "[object SharedArrayBuffer]") throw new Misuse("bytes are a Uint8Array, another view or a buffer");
-  const view = isView ? new Uint8Array(data.buffer, data.byteOffset, data.byteLength) : new Uint8Array(data);
-  return Object.prototype.toString.call(view.buffer) === "[object SharedArrayBuffer]" ? view.slice() : view;
+  let view;
+  try {
+    view = viewed(data);
+  } catch {
+    throw new Misuse("bytes are a Uint8Array, another view of bytes, or a buffer");
+  }
+  return isShared(view.buffer) ? view.slice() : view;
 }
 
 /** Returns a copy, which the caller can't change. */
@@ -981,7 +1007,9 @@ export function readableKeys(keys) {
 /** Returns the pairs of a Map or of an array of pairs. */
 function pairsOf(pairs) {
   if (typeof pairs?.[Symbol.iterator] !== "function" || typeof pairs === "string") throw new Misuse("pairs are a Map or an array of pairs");
-  return [...pairs];
+  const found = [...pairs];
+  if (!found.every(pair => Array.isArray(pair) && pair.length === 2)) throw new Misuse("a pair is an array of two");
+  return found;
 }
 
 /** The keys of issuers, for `verifyToken`. It says whose key accepted a layer.
@@ -1162,7 +1190,7 @@ export function versionNumber() {
   return loaded().coset_version_number() >>> 0;
 }
 
-/** Returns a few words for a status of the header. */
+/** Returns a few words for a status of the header. Anything else has one other text. */
 export function statusText(status) {
-  return textAt(loaded().coset_status_text(status));
+  return textAt(loaded().coset_status_text(NAMES[status] && Number.isInteger(status) ? status : -1));
 }

@@ -3,6 +3,7 @@
 import assert from "node:assert/strict";
 import { readFileSync } from "node:fs";
 import { runInNewContext } from "node:vm";
+import { Worker } from "node:worker_threads";
 import * as coset from "coset-rattle";
 
 const { SIGN1, MAC0, ENCRYPT0, CLAIMS, HEADER, KEY, KEY_SET, ITEM, TAGGED, EITHER, IN_ITEM, PAYLOAD } = coset;
@@ -338,6 +339,66 @@ const tests = {
     shared.set([0xa1, 1, 0x26]);
     const forms = [held.subarray(5, 8), new DataView(held.buffer, 5, 3), held.slice(5, 8).buffer, Buffer.from(held.subarray(5, 8)), shared, shared.buffer];
     for (const form of forms) assert.equal(coset.labelInt(HEADER, form, IN_ITEM, 1), -7);
+  },
+
+  async "memory of numbers, memory that is gone, and what only looks like bytes"() {
+    const numbers = [Uint16Array, Int16Array, Uint32Array, Int32Array, Float32Array, Float64Array, BigInt64Array, BigUint64Array].map(Type => new Type(1));
+    const alike = ["ArrayBuffer", "SharedArrayBuffer", "Uint8Array"].map(tag => ({ [Symbol.toStringTag]: tag, length: 1, byteLength: 1, 0: 5 }));
+    const gone = [new Uint8Array(1), new DataView(new ArrayBuffer(1)), new ArrayBuffer(1)];
+    gone.forEach(it => structuredClone(null, { transfer: [it.buffer ?? it] }));
+    const buffer = new ArrayBuffer(4, { maxByteLength: 8 }), shrunk = buffer.resizable ? [new Uint8Array(buffer, 2, 2), new DataView(buffer, 2, 2)] : [];
+    if (buffer.resizable) buffer.resize(1);
+    const message = coset.make(SIGN1, ES256, NONE, { proof: new Uint8Array(64) });
+    for (const wrong of [...numbers, ...alike, ...gone, ...shrunk, new Proxy(new Uint8Array(1), {}), Object.create(new Uint8Array(1)), [5]]) {
+      for (const make of [it => coset.check(ITEM, it), it => coset.put(ITEM, NONE, 1, it), it => coset.verify(SIGN1, message, { algorithms: [-7], detached: it }, () => true),
+        it => coset.structure(SIGN1, message, { detached: NONE, externalAad: it }), it => new coset.Encoded(it), it => coset.readableKeys(it)]) {
+        assert.ok(await thrown(() => make(wrong)) instanceof coset.Misuse, `${make} ${Object.prototype.toString.call(wrong)}`);
+      }
+    }
+    for (const Type of [Uint8Array, Uint8ClampedArray, Int8Array]) assert.equal(coset.integer(Type.of(5)), 5);
+    const tracking = new Uint8Array(new ArrayBuffer(1, { maxByteLength: 8 }));
+    tracking[0] = 5;
+    assert.equal(coset.integer(tracking), 5);
+  },
+
+  async "shared memory that changes during a call is read once"() {
+    const memory = new SharedArrayBuffer(8), shared = new Int32Array(memory), code = `const { workerData } = require("node:worker_threads");
+      const it = new Uint8Array(workerData), at = new Int32Array(workerData);
+      for (Atomics.store(at, 1, 1); Atomics.load(at, 1) === 1;) it[2] ^= 1;`;
+    const worker = new Worker(code, { eval: true, workerData: memory });
+    const view = new Uint8Array(memory, 0, 3);
+    view.set([0xa1, 1, 0x26]);
+    while (!Atomics.load(shared, 1)) await new Promise(done => setTimeout(done, 5));
+    for (let i = 0; i < 2000; i++) assert.ok([-7, -8].includes(coset.labelInt(HEADER, coset.write(HEADER, view), IN_ITEM, 1)));
+    Atomics.store(shared, 1, 2);
+    await worker.terminate();
+  },
+
+  async "numbers that aren't integers, and pairs that aren't two values"() {
+    const object = { valueOf: () => 1, toString: () => "1", [Symbol.toPrimitive]: () => 1 }, token = signed("x");
+    for (const wrong of [true, false, "1", "", NaN, 1.5, Infinity, null, undefined, object, [1], new Number(1), Symbol("1"), 2 ** 64, new Date(1)]) {
+      for (const make of [it => coset.check(it, token), it => coset.part(SIGN1 + TAGGED, token, it), it => coset.member(ITEM, token, it),
+        it => coset.itemSpan(token, it), it => coset.labelInt(SIGN1 + TAGGED, token, 1, it), it => coset.message(SIGN1 + TAGGED, token, { index: it }),
+        it => coset.message(SIGN1 + TAGGED, token, { critical: [it] }), it => coset.verify(SIGN1 + TAGGED, token, { algorithms: [-7, it] }, () => true),
+        it => coset.decrypt(ENCRYPT0 + TAGGED, nested(1), { algorithms: [1, it] }, () => NONE), it => coset.canonicalKey(it, NONE),
+        it => coset.countersignStructure(SIGN1 + TAGGED, token, it), it => coset.putEncoded(ITEM, NONE, it, Uint8Array.of(5)),
+        ...["algorithms", "critical", "required"].map(name => it => coset.verifyToken(nested(1), () => true, { ...POLICY, [name]: [...POLICY.algorithms, it] })),
+        ...["leeway", "maxAge", "untaggedForm", "authenticatedBy"].map(name => it => coset.verifyToken(nested(1), () => true, { ...POLICY, [name]: it })),
+        ...["form", "algorithm"].map(name => it => coset.keyFits(NONE, { form: 1, algorithm: -7, keyId: null, iv: null, partialIv: null, proof: NONE, [name]: it }))]) {
+        if (wrong === null && String(make).includes("[name]: it })") || typeof wrong === "string" && String(make).includes("putEncoded")) continue; // maxAge, and a text label
+        assert.ok(await thrown(() => make(wrong)) instanceof coset.Misuse, `${make} ${String(wrong)}`);
+      }
+      assert.equal(coset.statusText(wrong), coset.statusText(-1));
+    }
+    for (const number of [-0, 2n ** 63n, -(2n ** 63n) - 1n, 2 ** 53]) {
+      const make = () => coset.put(ITEM, NONE, number, 5);
+      if (Object.is(number, -0)) assert.deepEqual(make(), Uint8Array.of(0xa1, 0, 5));
+      else assert.ok(await thrown(make) instanceof coset.Misuse);
+    }
+    for (const pairs of [["ab"], [[1]], [[1, 2, 3]], [{ 0: 1, 1: 2, length: 2 }], Uint8Array.of(1), new Set(["ab"]), [new Set([1, 2])], [, [1, 2]]]) {
+      assert.ok(await thrown(() => coset.putAll(ITEM, NONE, pairs)) instanceof coset.Misuse, String(pairs));
+      assert.ok(await thrown(() => new coset.KeyRing(pairs, {})) instanceof coset.Misuse, String(pairs));
+    }
   },
 
   async "integers are numbers if they are exact"() {

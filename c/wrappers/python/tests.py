@@ -4,7 +4,10 @@ import array
 import copy
 import ctypes
 import hashlib
+import os
 import pickle
+import subprocess
+import sys
 
 import coset
 
@@ -39,7 +42,7 @@ for value, item in ((7, b"\x07"), ("read", b"\x64read"), (b"\x01", b"\x41\x01"))
     assert coset.put(coset.CLAIMS, b"", "scope", value) == b"\xa1\x65scope" + item
     assert type(raised(coset.put, coset.CLAIMS, b"\xa1\x65scope\x07", "scope", value)) is coset.Fault
 
-for number in (0, 15, -1, (1 << 32) + 1, (1 << 64) + 1, 1.5, None):
+for number in (0, 15, -1, (1 << 32) + 1, (1 << 64) + 1):
     assert type(raised(coset.check, number, b"\x84")) is coset.Misuse, number
 assert coset.Kind(coset.SIGN1 + coset.EITHER) is coset.Kind.SIGN1_EITHER
 assert type(raised(coset.part, coset.SIGN1, bytes.fromhex("8440a0f640"), (1 << 32) + 1)) is coset.Misuse
@@ -124,6 +127,69 @@ for form in (bytes, bytearray, memoryview, Bytes, coset.Encoded, lambda data: me
     if form is not coset.Encoded:
         assert coset.put(coset.ITEM, b"", 1, form(b"x")) == coset.put_all(coset.ITEM, b"", {1: form(b"x")}) == b"\xa1\x01\x41x"
 
+# True is no integer, and neither is a float with a whole value or a text. The integer in its place is taken.
+numbered = [
+    (1, lambda it: coset.check(it, token)), (1, lambda it: coset.part(it, token, coset.PAYLOAD)), (1, lambda it: coset.sign1(it, token)),
+    (1, lambda it: coset.message(it, token)), (1, lambda it: coset.structure(it, token)), (1, lambda it: coset.structure_of(it, b"")),
+    (1, lambda it: coset.verify(it, token, [-7], lambda question: True)), (1, lambda it: coset.make(it, b"", b"")),
+    (5, lambda it: coset.decrypt(it, sealed, [1], lambda question: b"plain")), (6, lambda it: coset.recipient_structure_of(it, b"")),
+    (1, lambda it: coset.part(coset.SIGN1, token, it)), (1, lambda it: coset.label(coset.SIGN1, token, it, 1)),
+    (1, lambda it: coset.canonical_key(it, key)), (0, lambda it: coset.member(coset.ITEM, b"\x82\x01\x02", it)),
+    (0, lambda it: coset.member_span(coset.ITEM, b"\x81\x01", it)), (0, lambda it: coset.item_span(b"\x01\x02", it)),
+    (0, lambda it: coset.pair_spans(coset.ITEM, b"\xa1\x01\x02", it)), (0, lambda it: coset.label_at(coset.ITEM, b"\xa1\x01\x02", it)),
+    (0, lambda it: coset.value_at(coset.ITEM, b"\xa1\x01\x02", it)), (0, lambda it: coset.message(coset.SIGN1, token, it)),
+    (0, lambda it: coset.structure(coset.SIGN1, token, it)), (0, lambda it: coset.verify(coset.SIGN1, token, [-7], lambda question: True, it)),
+    (1, lambda it: coset.label(coset.ITEM, b"\xa1\x01\x02", coset.IN_ITEM, it)), (1, lambda it: coset.has(coset.ITEM, b"\xa0", coset.IN_ITEM, it)),
+    (1, lambda it: coset.label_bytes(coset.ITEM, b"\xa1\x01\x40", coset.IN_ITEM, it)),
+    (1, lambda it: coset.label_int(coset.ITEM, b"\xa1\x01\x02", coset.IN_ITEM, it)),
+    (1, lambda it: coset.label_span(coset.ITEM, b"\xa1\x01\x02", coset.IN_ITEM, it)),
+    (1, lambda it: coset.put(coset.ITEM, b"", it, 5)), (1, lambda it: coset.put_encoded(coset.ITEM, b"", it, b"\x05")),
+    (1, lambda it: coset.put_all(coset.ITEM, b"", [(it, 5)])), (7, lambda it: coset.countersign_structure(coset.SIGN1, token, it)),
+    (1, lambda it: coset.key_fits(key, layer._replace(form=it))), (-7, lambda it: coset.key_fits(key, layer._replace(algorithm=it))),
+    (1, lambda it: coset.decrypt(coset.ENCRYPT0, sealed, [it], lambda question: b"plain")),
+    (-7, lambda it: coset.verify(coset.SIGN1, token, [it], lambda question: True)),
+    (1, lambda it: coset.message(coset.SIGN1, token, critical=[it])), (24, coset.status_text),
+]
+for number, call in numbered:
+    assert raised(call, number) is None, (number, raised(call, number))
+    for wrong in (True, False, float(number), complex(number), None, b"\x01", [number]):
+        assert type(raised(call, wrong)) is TypeError, (number, wrong, raised(call, wrong))
+for call in (lambda it: coset.verify(coset.SIGN1, token, it, lambda question: True), lambda it: coset.message(coset.SIGN1, token, critical=it)):
+    for wrong in (b"\x05", bytearray(b"\x05"), memoryview(b"\x05"), "5", 5, None, True):
+        assert type(raised(call, wrong)) is TypeError, wrong
+assert coset.status_text(1 << 32) == coset.status_text(-1) != coset.status_text(0)
+
+for wrong in (0, 1, True, [5], "5", None, 1.0, array.array("B", [5])):
+    assert type(raised(coset.Encoded, wrong)) is TypeError, wrong
+assert copy.deepcopy(pickle.loads(pickle.dumps(coset.Encoded(b"\x05")))) == b"\x05"
+
+for wrong in ("ab", b"ab", {1, 2}, iter([1, 2]), 5, None):
+    assert type(raised(coset.put_all, coset.ITEM, b"", [wrong])) is TypeError, wrong
+    assert type(raised(coset.KeyRing, [wrong], object())) is TypeError, wrong
+assert coset.put_all(coset.ITEM, b"", iter([(1, 2), ["a", 3]])) == b"\xa2\x01\x02\x61a\x03"
+
+# A result of more than 4 GB isn't cut to its length modulo 2**32. There is no memory for this one. Its buffer has pages that are
+# never touched.
+program = """
+import ctypes, mmap, resource, coset
+
+ctypes.create_string_buffer = lambda size: (ctypes.c_char * size).from_buffer(mmap.mmap(-1, size))
+LENGTH = (1 << 32) + 5
+
+
+def call(out, room, length):
+    length._obj.value = LENGTH
+    return 0 if room == LENGTH else 1
+
+
+resource.setrlimit(resource.RLIMIT_AS, (6 << 30, 6 << 30))
+try:
+    print(len(coset._written(call)))
+except MemoryError:
+    print("no memory")
+"""
+assert subprocess.run([sys.executable, "-c", program], capture_output=True, text=True, cwd=os.path.dirname(__file__)).stdout == "no memory\n"
+
 # The question has the plain kind, and at most one IV.
 for kind in (coset.SIGN1, coset.MAC0):
     for form in (0, coset.TAGGED, coset.EITHER):
@@ -136,7 +202,7 @@ assert type(error) is coset.WrongHeaders and isinstance(error, coset.Refused), e
 assert type(raised(coset.decrypt, coset.ENCRYPT0, both, [3], lambda question: 1 / 0)) is coset.NotAllowed
 
 # An index is for a kind with signers.
-for index in (1, 1 << 40, (1 << 64) - 1, True):
+for index in (1, 1 << 40, (1 << 64) - 1):
     for call, more in ((coset.verify, ([-7], lambda question: True, index)), (coset.message, (index,)), (coset.structure, (index,))):
         assert type(raised(call, coset.SIGN1, critical, *more)) is coset.Misuse, (call, index)
 assert type(raised(coset.message, coset.SIGN1, critical, -1)) is coset.Misuse

@@ -388,6 +388,16 @@ for more, error in (({"audience": "as"}, TypeError), ({"types": "application/cwt
                     ({"now": 1 << 63}, OverflowError), ({"now": 1e300}, OverflowError)):
     raised(error, verified, token, RING, ALL, **{"now": 1, **more})
 raised(coset.Misuse, verified, token, RING, [-7, 9999], now=1)
+for wrong in (True, 1.0, "5", None):
+    raised(TypeError, verified, token, RING, [*ALL, wrong], now=1)
+    for field in ("required", "critical"):
+        raised(TypeError, verified, token, RING, ALL, **{field: [wrong]}, now=1)
+    for field in ("untagged_form", "authenticated_by", *(() if wrong is None else ("max_age",)), "leeway"):
+        raised(TypeError, verified, token, RING, ALL, **{field: wrong}, now=1)
+for wrong in (b"\x05", bytearray(b"\x05"), "5", 5, None):
+    raised(TypeError, verified, token, RING, wrong, now=1)
+    for field in ("required", "critical", "audience", "types"):
+        raised(TypeError, verified, token, RING, ALL, **{field: wrong}, now=1)
 raised(TypeError, verified, token, {"as": RFC_KEYS[0]}, ALL, now=1)
 raised(TypeError, coset.verify_token, token, RING)
 

@@ -2,7 +2,7 @@
 //! of edition 2021. If `cfg(coset_no_std)` is set, the crate needs only `core` and `alloc`.
 //!
 //! The header and docs/C.md say what each call promises. The calls find out the lengths of their
-//! results.
+//! results. Each of them panics if the linked library is earlier than this file.
 #![cfg_attr(coset_no_std, no_std)]
 #![allow(unexpected_cfgs)]
 
@@ -759,6 +759,17 @@ impl Kind {
 }
 
 const SHORT: i32 = 1;
+/// The version of this file. An earlier library may have other structs and statuses.
+const VERSION_NUMBER: u32 = 0x00040207;
+
+/// Makes a call of the library, and returns its status.
+///
+/// # Panics
+/// If the linked library is earlier than this file.
+fn called(call: impl FnOnce() -> i32) -> i32 {
+    assert!(version_number() >= VERSION_NUMBER, "the library is of version {}, earlier than this crate", version());
+    call()
+}
 
 /// Converts a status other than `SHORT` to a result.
 fn answer<T>(status: i32, value: T) -> Result<T, Error> {
@@ -812,7 +823,7 @@ fn written(room: usize, call: impl Fn(*mut u8, usize, *mut usize) -> i32) -> Res
     let mut out = vec![0; room];
     loop {
         let mut len = 0;
-        match call(out.as_mut_ptr(), out.len(), &mut len) {
+        match called(|| call(out.as_mut_ptr(), out.len(), &mut len)) {
             SHORT => out.resize(len, 0),
             status => {
                 out.truncate(len);
@@ -831,14 +842,14 @@ fn written(room: usize, call: impl Fn(*mut u8, usize, *mut usize) -> i32) -> Res
 /// Checks that the bytes are an item of the kind.
 pub fn check(kind: Kind, bytes: &[u8]) -> Result<(), Fault> {
     let mut offset = 0;
-    let status = unsafe { c::coset_check(kind.number(), bytes.as_ptr(), bytes.len(), &mut offset) };
+    let status = called(|| unsafe { c::coset_check(kind.number(), bytes.as_ptr(), bytes.len(), &mut offset) });
     answer(status, ()).map_err(|error| Fault { error, offset: (offset != usize::MAX).then_some(offset) })
 }
 
 /// Returns the number of signatures, recipients, keys or elements, which is at least 1.
 pub fn count(kind: Kind, bytes: &[u8]) -> Result<usize, Error> {
     let mut count = 0;
-    let status = unsafe { c::coset_count(kind.number(), bytes.as_ptr(), bytes.len(), &mut count) };
+    let status = called(|| unsafe { c::coset_count(kind.number(), bytes.as_ptr(), bytes.len(), &mut count) });
     answer(status, count)
 }
 
@@ -860,7 +871,7 @@ fn range(span: &c::Span) -> Range<usize> {
 /// Returns the place of the signature, recipient, key or array element at `index`, as received.
 pub fn member_span(kind: Kind, bytes: &[u8], index: usize) -> Result<Range<usize>, Error> {
     let mut span = c::Span::default();
-    let status = unsafe { c::coset_member_span(kind.number(), bytes.as_ptr(), bytes.len(), index, &mut span) };
+    let status = called(|| unsafe { c::coset_member_span(kind.number(), bytes.as_ptr(), bytes.len(), index, &mut span) });
     answer(status, range(&span))
 }
 
@@ -868,14 +879,14 @@ pub fn member_span(kind: Kind, bytes: &[u8], index: usize) -> Result<Range<usize
 /// from 0.
 pub fn pair_spans(kind: Kind, bytes: &[u8], index: usize) -> Result<(Range<usize>, Range<usize>), Error> {
     let (mut label, mut value) = (c::Span::default(), c::Span::default());
-    let status = unsafe { c::coset_pair_spans(kind.number(), bytes.as_ptr(), bytes.len(), index, &mut label, &mut value) };
+    let status = called(|| unsafe { c::coset_pair_spans(kind.number(), bytes.as_ptr(), bytes.len(), index, &mut label, &mut value) });
     answer(status, (range(&label), range(&value)))
 }
 
 /// Returns the place of an integer label's value, as received.
 pub fn label_span(kind: Kind, bytes: &[u8], map: Map, label: i64) -> Result<Range<usize>, Error> {
     let mut span = c::Span::default();
-    let status = unsafe { c::coset_label_span(kind.number(), bytes.as_ptr(), bytes.len(), map as u32, label, &mut span) };
+    let status = called(|| unsafe { c::coset_label_span(kind.number(), bytes.as_ptr(), bytes.len(), map as u32, label, &mut span) });
     answer(status, range(&span))
 }
 
@@ -884,21 +895,21 @@ pub fn label_span(kind: Kind, bytes: &[u8], map: Map, label: i64) -> Result<Rang
 /// The next element of an array, or the next label or value of a map, begins where the item ends.
 pub fn item_span(bytes: &[u8], at: usize) -> Result<Range<usize>, Error> {
     let mut span = c::Span::default();
-    let status = unsafe { c::coset_item_span(bytes.as_ptr(), bytes.len(), at, &mut span) };
+    let status = called(|| unsafe { c::coset_item_span(bytes.as_ptr(), bytes.len(), at, &mut span) });
     answer(status, range(&span))
 }
 
 /// Returns the place of a string's content. The string has definite length.
 pub fn string_span(bytes: &[u8]) -> Result<Range<usize>, Error> {
     let mut span = c::Span::default();
-    let status = unsafe { c::coset_string_span(bytes.as_ptr(), bytes.len(), &mut span) };
+    let status = called(|| unsafe { c::coset_string_span(bytes.as_ptr(), bytes.len(), &mut span) });
     answer(status, range(&span))
 }
 
 /// Returns the integer that the bytes encode.
 pub fn integer(bytes: &[u8]) -> Result<i64, Error> {
     let mut value = 0;
-    let status = unsafe { c::coset_integer(bytes.as_ptr(), bytes.len(), &mut value) };
+    let status = called(|| unsafe { c::coset_integer(bytes.as_ptr(), bytes.len(), &mut value) });
     answer(status, value)
 }
 
@@ -993,7 +1004,7 @@ pub fn label_bytes(kind: Kind, bytes: &[u8], map: Map, label: i64) -> Result<Vec
 /// Returns the integer that is the value of an integer label.
 pub fn label_int(kind: Kind, bytes: &[u8], map: Map, label: i64) -> Result<i64, Error> {
     let mut value = 0;
-    let status = unsafe { c::coset_label_int(kind.number(), bytes.as_ptr(), bytes.len(), map as u32, label, &mut value) };
+    let status = called(|| unsafe { c::coset_label_int(kind.number(), bytes.as_ptr(), bytes.len(), map as u32, label, &mut value) });
     answer(status, value)
 }
 
@@ -1453,14 +1464,14 @@ pub fn verify_token<'a>(
     let (mut handed, mut out) = (Handed::default(), vec![0; 2 * token.len() + 512]);
     loop {
         let (mut len, mut view) = (0, c::Layer::default());
-        let status = unsafe {
+        let status = called(|| unsafe {
             c::coset_token_open(
                 &rules, numbers[0].as_ptr(), numbers[0].len(), numbers[1].as_ptr(), numbers[1].len(), numbers[2].as_ptr(),
                 numbers[2].len(), audiences.as_ptr(), audiences.len(), types.as_ptr(), types.len(), token.as_ptr(), token.len(), now,
                 handed.layers.as_ptr(), handed.layers.len(), handed.bytes.as_ptr(), handed.bytes.len(), out.as_mut_ptr(), out.len(),
                 &mut len, &mut view,
             )
-        };
+        });
         match status {
             0 => return Ok(VerifiedToken::of(&out[..len])?),
             SHORT => out.resize(len, 0),
@@ -1492,12 +1503,12 @@ pub fn key_fits(key: &[u8], layer: &Layer<'_>) -> Result<Option<Vec<u8>>, Error>
     const UNFIT: i32 = 34;
     let (mut out, mut len) = (vec![0; 16], 0);
     let [id, iv, partial] = [layer.key_id, layer.iv, layer.partial_iv].map(Option::unwrap_or_default);
-    let status = unsafe {
+    let status = called(|| unsafe {
         c::coset_key_fits(
             key.as_ptr(), key.len(), layer.form as u32, layer.algorithm, id.as_ptr(), id.len(), iv.as_ptr(), iv.len(), partial.as_ptr(),
             partial.len(), layer.proof.as_ptr(), layer.proof.len(), out.as_mut_ptr(), out.len(), &mut len,
         )
-    };
+    });
     if status == UNFIT {
         return Ok(None);
     }

@@ -23,6 +23,15 @@ import (
 	"unsafe"
 )
 
+// versionNumber is the version of this file. An earlier library may have other structs and statuses.
+const versionNumber = 0x00040207
+
+func init() {
+	if VersionNumber() < versionNumber {
+		panic("coset: the library is of version " + Version() + ", earlier than this package")
+	}
+}
+
 // A Kind is the kind of item that the bytes should be. A message, one of the first six, is plain. It is under its tag if
 // Tagged is added, and both forms are accepted if Either is added: Sign1 + Either.
 type Kind uint32
@@ -838,6 +847,9 @@ func textsOf(names []string) texts {
 	}
 	block := C.malloc(C.size_t(total))
 	entries, held := unsafe.Slice((*C.coset_text)(block), len(names)), unsafe.Slice((*byte)(block), total)
+	for i := range held[:size] {
+		held[i] = 0 // the garbage collector reads a pointer before it is overwritten
+	}
 	for i, name := range names {
 		entries[i] = C.coset_text{chars: (*C.char)(unsafe.Add(block, size)), len: C.size_t(len(name))}
 		if name == "" {

@@ -2,12 +2,15 @@ package coset
 
 import (
 	"bytes"
+	"encoding/binary"
 	"errors"
 	"fmt"
 	"runtime"
+	"strings"
 	"sync"
 	"testing"
 	"time"
+	"unsafe"
 )
 
 // must returns the bytes, because the call succeeds.
@@ -284,4 +287,31 @@ func TestEmptyProofs(t *testing.T) {
 			t.Errorf("a token with an empty proof: %v", err)
 		}
 	}
+}
+
+// Names go to memory of C that had other contents before. The garbage collector must not take these for pointers of Go.
+func TestNamesInUsedMemory(t *testing.T) {
+	gone := make([]byte, 1<<20)
+	address := uint64(uintptr(unsafe.Pointer(&gone[0])))
+	gone = nil
+	runtime.GC()
+	over := make(chan bool)
+	go func() {
+		for {
+			select {
+			case <-over:
+				return
+			default:
+				runtime.GC()
+			}
+		}
+	}()
+	pattern := make([]byte, 8)
+	binary.LittleEndian.PutUint64(pattern, address)
+	used, names := []string{strings.Repeat(string(pattern), 62)}, make([]string, 32) // both take 512 bytes
+	for i := 0; i < 200_000; i++ {
+		textsOf(used).free()
+		textsOf(names).free()
+	}
+	over <- true
 }

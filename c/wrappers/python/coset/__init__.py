@@ -15,11 +15,13 @@ NotAllowed, Critical, WrongHeaders or Refused. The header and docs/C.md say what
 import ctypes
 import enum
 import math
+import operator
 import os
 import struct
 import time
 from collections import namedtuple
 from collections.abc import Mapping
+from numbers import Integral
 
 
 class Kind(enum.IntEnum):
@@ -447,8 +449,18 @@ def _bytes(data):
     return data, len(data)
 
 
+def _whole(number, field="an argument"):
+    """Returns the int that an integer is. True and False are integers of Python, and none here."""
+    if type(number) is int:
+        return number
+    if isinstance(number, bool) or not isinstance(number, Integral):
+        raise TypeError(f"{field} is an integer, not {type(number).__name__}")
+    return operator.index(number)
+
+
 def _kind(number):
     """Returns the number of a kind, or raises Misuse."""
+    number = number if type(number) is Kind else _whole(number)
     if number not in _KINDS:
         raise Misuse("a number of no kind")
     return number
@@ -456,12 +468,14 @@ def _kind(number):
 
 def _number(number):
     """Returns the number of a part, a map or an order, or raises Misuse."""
+    number = _whole(number)
     if not 0 <= number < 1 << 32:
         raise Misuse("a number of no part, no map or no order")
     return number
 
 
 def _int64(number):
+    number = _whole(number)
     if not -(1 << 63) <= number < 1 << 63:
         raise OverflowError("a number of more than 64 bits")
     return number
@@ -469,15 +483,37 @@ def _int64(number):
 
 def _index(kind, number):
     """Returns the index of a signer. Raises Misuse if it isn't 0 and the kind has no signers."""
+    number = _whole(number)
     if number != 0 and _kind(kind) & 0xFF != SIGN:
         raise Misuse("an index of a signer, for a kind without signers")
     return _size(number)
 
 
 def _size(number):
+    number = _whole(number)
     if not 0 <= number <= _NO_OFFSET:
         raise IndexError("an index that is negative or too large")
     return number
+
+
+def _list(values, field):
+    """Returns the elements as a list. A text, or bytes, isn't a list of its characters."""
+    if isinstance(values, (str, bytes, bytearray, memoryview)):
+        raise TypeError(f"{field} takes a list, not {type(values).__name__}")
+    return list(values)
+
+
+def _pairs(pairs):
+    """Returns the pairs of a dict, or of a list of pairs. A text of two characters is no pair."""
+    found = list(pairs.items() if isinstance(pairs, Mapping) else pairs)
+    if not all(isinstance(pair, (tuple, list)) for pair in found):
+        raise TypeError("pairs are a dict, or tuples of two")
+    return found
+
+
+def _integers(numbers, field):
+    """Returns a list of integers of 64 bits."""
+    return [_int64(number) for number in _list(numbers, field)]
 
 
 def _written(call, *arguments, behind=()):
@@ -493,7 +529,7 @@ def _written(call, *arguments, behind=()):
         status = call(*arguments, out, room, ctypes.byref(length), *behind)
         if status != _SHORT:
             _raise(status)
-            return ctypes.string_at(out, length.value)
+            return out[: length.value]
         room = length.value
 
 
@@ -705,13 +741,12 @@ _message_spans, _made = _library.coset_message_spans, tuple.__new__
 
 def _seen(shape, kind, data, index, critical, external_aad, detached):
     """Returns a Message or a Sign1, as `shape` says. A Sign1 has `has_critical` in place of `critical`."""
-    if kind not in _KINDS:
-        _kind(kind)
+    kind = _kind(kind)
     data, data_len = (data, len(data)) if type(data) is bytes else _bytes(data)
     aad, aad_len = (external_aad, len(external_aad)) if type(external_aad) is bytes else _bytes(external_aad)
     content, content_len = (b"", 0) if detached is None else _bytes(detached)
-    critical = tuple(critical)
-    known = (ctypes.c_int64 * len(critical))(*map(_int64, critical)) if critical else None
+    critical = _integers(critical, "critical")
+    known = (ctypes.c_int64 * len(critical))(*critical) if critical else None
     # The structure has all arguments once, with heads. Texts that have no place in the message may follow it.
     room = max(_USUAL, 2 * data_len + aad_len + content_len + 128)
     while True:
@@ -741,7 +776,7 @@ def sign1(kind, data, external_aad=b"", detached=None):
     """Returns everything that verifying a message with one signature takes: a Sign1. `kind` is SIGN1, with TAGGED,
     EITHER or neither added. The payload is the one that the message carries. If the message carries none, it is
     `detached`; else `detached` is None."""
-    if kind & 0xFF != SIGN1:
+    if _kind(kind) & 0xFF != SIGN1:
         raise Misuse("a kind of another call")
     return _seen(Sign1, kind, data, 0, (), external_aad, detached)
 
@@ -781,6 +816,7 @@ def verify(kind, data, algorithms, verify, index=0, critical=(), external_aad=b"
     Misuse."""
     if _kind(kind) & 0xFF not in (SIGN1, SIGN, MAC0, MAC):
         raise Misuse("a kind without a signature or a tag")
+    algorithms = _integers(algorithms, "algorithms")
     own = None if detached is None else _bytes(detached)[0]
     found = message(kind, data, index, critical, external_aad, own)
     question = _asked(kind, found, algorithms, found.proof)
@@ -818,6 +854,7 @@ def decrypt(kind, data, algorithms, decrypt, critical=(), external_aad=b"", deta
     Raises WrongHeaders if the message has both an IV and a partial IV (RFC 8152, section 3.1)."""
     if _kind(kind) & 0xFF != ENCRYPT0:
         raise Misuse("a kind of another call")
+    algorithms = _integers(algorithms, "algorithms")
     data, own = _bytes(data)[0], None if detached is None else _bytes(detached)[0]
     found = message(kind, data, 0, critical, external_aad, own)
     ciphertext = part(kind, data, CIPHERTEXT) if own is None else own
@@ -833,16 +870,14 @@ def decrypt(kind, data, algorithms, decrypt, critical=(), external_aad=b"", deta
     return plain
 
 
-def _integers(numbers):
+def _array(numbers):
     """Returns the integers as an array, and their number."""
-    return (ctypes.c_int64 * len(numbers))(*map(_int64, numbers)), len(numbers)
+    return (ctypes.c_int64 * len(numbers))(*numbers), len(numbers)
 
 
 def _texts(names, field):
     """Returns the texts as an array, and their number."""
-    if isinstance(names, (str, bytes)):
-        raise TypeError(f"{field} takes a list of texts, not one text")
-    names = list(names)
+    names = _list(names, field)
     if not all(isinstance(name, str) for name in names):
         raise TypeError(f"{field} takes texts")
     texts = [name.encode() for name in names]
@@ -858,8 +893,7 @@ def _flag(value, field):
 
 def _seconds(number, field, least):
     """Returns a number of seconds that the library takes."""
-    if isinstance(number, bool) or not isinstance(number, int):
-        raise TypeError(f"{field} is a whole number of seconds")
+    number = _whole(number, field)
     if not least <= number < 1 << 63:
         raise ValueError(f"{field} is a number of seconds from {least} to 2**63 - 1")
     return number
@@ -975,7 +1009,7 @@ def _token_open(given, data, now, layers, known):
         status = _library.coset_token_open(*given, data, len(data), now, (_Opened * len(layers))(*layers), len(layers),
                                            known, len(known), out, room, ctypes.byref(length), ctypes.byref(view))
         if status != _SHORT:
-            return status, ctypes.string_at(out, length.value), view
+            return status, out[: length.value], view
         room = length.value
 
 
@@ -1023,7 +1057,8 @@ def verify_token(data, keys, algorithms, *, audience=(), types=(), required=(), 
     age = 0 if max_age is None else _seconds(max_age, "max_age", 1)
     forms = [_number(untagged_form), _number(authenticated_by)]
     rules = _Rules(ctypes.sizeof(_Rules), _seconds(leeway, "leeway", 0), age, *forms, *flags)
-    lists = [it for numbers in (algorithms, critical, required) for it in _integers(list(numbers))]
+    named = {"algorithms": algorithms, "critical": critical, "required": required}
+    lists = [it for field, numbers in named.items() for it in _array(_integers(numbers, field))]
     texts = [*_texts(audience, "audience"), *_texts(types, "types")]
     given, data, moments = [ctypes.byref(rules), *lists, *texts], _bytes(data)[0], _moments(now)
     layers, known = [], b""
@@ -1057,7 +1092,7 @@ def key_fits(key, layer):
     if status == _UNFIT:
         return None
     _raise(status)
-    return ctypes.string_at(out, length.value)
+    return out[: length.value]
 
 
 def readable_keys(keys):
@@ -1095,7 +1130,7 @@ class KeyRing:
         if ciphers is None:
             from coset.crypto import CIPHERS as ciphers
         self._ciphers, self._keys = ciphers, []
-        for name, keys in issuers.items() if isinstance(issuers, Mapping) else issuers:
+        for name, keys in _pairs(issuers):
             self._keys += [(_issuer(name), key) for key in readable_keys(keys)]
 
     def __call__(self, layer):
@@ -1130,8 +1165,9 @@ def version_number():
 
 
 def status_text(status):
-    """Returns a few words for a status of the header."""
-    return _library.coset_status_text(status).decode()
+    """Returns a few words for a status of the header. Other integers share one text."""
+    status = _whole(status)
+    return _library.coset_status_text(status if 0 <= status < 1 << 31 else -1).decode()
 
 
 def put(kind, data, name, value):
@@ -1179,6 +1215,10 @@ class Encoded(bytes):
 
     __slots__ = ()
 
+    def __new__(cls, data):
+        """Takes bytes alone. From an integer, `bytes` makes so many zeros."""
+        return super().__new__(cls, _bytes(data)[0])
+
 
 def _part(data, parts):
     """Appends the bytes to the parts. Returns their offset and their number."""
@@ -1213,7 +1253,7 @@ def put_all(kind, data, pairs):
     `pairs` is a dict, or labels with values. A label is an int or a str. A value is an int, a float, a str, bytes, or
     Encoded, one item of CBOR."""
     parts = bytearray()
-    told = [_pair(name, value, parts) for name, value in (pairs.items() if isinstance(pairs, Mapping) else pairs)]
+    told = [_pair(name, value, parts) for name, value in _pairs(pairs)]
     return _written(_library.coset_put_all, _kind(kind), *_bytes(data), (_Pair * len(told))(*told), len(told), *_bytes(parts))
 
 
