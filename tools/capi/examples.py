@@ -8,24 +8,25 @@ from capi.vectors import key_of_row, named, token
 from cbor import decode, encode
 from sources import read
 
-# A verifier or an issuer, with everything after it.
-FUNCTION = r"^(?:int32_t|coset_status|pub fn|def|export function|export async function|func) (?:verified|issued|accepted)\([^)]*\)[^;\n]*\n[\s\S]*"
-SHOWN = ("c/verify.c", "rust/verify.rs", "python/verify.py", "c/issue.c", "rust/issue.rs", "python/issue.py", "rust/accept.rs",
-         "python/accept.py", "js/verify.mjs", "js/issue.mjs", "go/calls/verify.go",
-         "go/calls/issue.go")
+# A verifier or an issuer, with everything after it. Its imports are others in a file of this repository than on the page.
+FUNCTION = r"^(?:coset_status|pub fn) (?:verified|issued|accepted)\([^)]*\)[^;\n]*\n[\s\S]*"
+SHOWN = ("c/verify.c", "rust/verify.rs", "rust/accept.rs", "rust/issue.rs")
 # What each verifier says of itself, because its payload may be that of a web token.
 UNCHECKED = "Nothing else is checked, such as `exp`, `aud` or `iss`: for a web token call"
-# Programs that the page shows as a whole.
-PROGRAMS = {"c/accept.c": r"^#include[\s\S]*", "js/accept.mjs": r"^import[\s\S]*", "go/calls/accept.go": r"^import[\s\S]*"}
+# The other files that the page shows, each from a line that begins with this word.
+WHOLE = {"c/accept.c": "#include", "c/issue.c": "#include",
+         "python/verify.py": "import", "python/accept.py": "import", "python/issue.py": "import",
+         "js/verify.mjs": "import", "js/accept.mjs": "import", "js/issue.mjs": "import",
+         "go/calls/verify.go": "package", "go/calls/accept.go": "package", "go/calls/issue.go": "package"}
 
 
 def compare_page(check):
-    """Checks that the page shows the verifiers, the issuers and the program for web tokens as they are. Each verifier says what it
-    leaves unchecked."""
+    """Checks that the page shows the verifiers, the issuers and the programs for web tokens as they are, most with their imports.
+    Each verifier says what it leaves unchecked."""
     page = read("docs", "C.md")
-    for path in (*SHOWN, *PROGRAMS):
+    for path in (*SHOWN, *WHOLE):
         text = read("c", "wrappers", *path.split("/"))
-        parts = re.findall(PROGRAMS.get(path, FUNCTION), text, re.M)
+        parts = re.findall(rf"^{WHOLE[path]}\b[\s\S]*" if path in WHOLE else FUNCTION, text, re.M)
         check(len(parts) == 1 and parts[0].strip() in page, f"docs/C.md doesn't show what c/wrappers/{path} has")
         words = " ".join(re.sub(r"^\s*(?://+|\*)", "", text, flags=re.M).split())
         is_verifier = path.rpartition("/")[2].startswith("verify.")

@@ -17,6 +17,17 @@ static size_t contents(const char *name, uint8_t *at, size_t cap) {
   return len;
 }
 
+/* Reads a COSE_KeySet with a key or more, and returns its length. Ends the program if it can't. */
+static size_t keys_in(const char *name, uint8_t *at, size_t cap) {
+  const size_t len = contents(name, at, cap);
+  size_t count;
+  if (coset_count(COSET_ITEM, at, len, &count)) {
+    fprintf(stderr, "%s isn't a set of keys\n", name);
+    exit(2);
+  }
+  return len;
+}
+
 /* Returns 1 if the UTF-8 text has a control character: one below 20, 7f, or one from 80 to 9f, in hexadecimal. */
 static int has_control(const uint8_t *text, size_t len) {
   for (size_t i = 0; i < len; i++)
@@ -29,10 +40,10 @@ int main(int count, char **names) {
   static const int64_t algorithms[] = {COSET_ES256, COSET_HMAC_256_256};
   static const coset_text here = COSET_LITERAL("coap://light.example.com");
   const time_t now = time(NULL);
-  if (count != 4 || now < 1) return 1;
+  if (count != 4 || now < 1) return fputs("usage: accept KEYS KEYS TOKEN, with the clock set\n", stderr), 1;
   const coset_issuer issuers[] = {
-      {COSET_LITERAL("coap://as.example.com"), as, contents(names[1], as, sizeof as)},    /* a key for each algorithm */
-      {COSET_LITERAL("coap://hub.example.com"), hub, contents(names[2], hub, sizeof hub)} /* a key for ES256 */
+      {COSET_LITERAL("coap://as.example.com"), as, keys_in(names[1], as, sizeof as)},    /* a key for each algorithm */
+      {COSET_LITERAL("coap://hub.example.com"), hub, keys_in(names[2], hub, sizeof hub)} /* a key for ES256 */
   };
   coset_openssl_ring ring = {issuers, 2};
   coset_token_policy policy = {0};
