@@ -32,6 +32,11 @@ function hexOf(bytes) {
   return Array.from(bytes, it => it.toString(16).padStart(2, "0")).join("");
 }
 
+// Returns true if the characters that bytes were decoded to are those of a text.
+function isText(text) {
+  return !/[^\P{Cc}\s]|\ufffd/u.test(text);
+}
+
 function cut(text, rest) {
   return text.length > CHARACTERS ? `${text.slice(0, CHARACTERS)}… (${rest})` : text;
 }

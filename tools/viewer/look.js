@@ -162,7 +162,7 @@ function linkRemarks() {
 function copyLink(event) {
   const digits = digitsOf(0, rows.count);
   if (digits.length > 2 * LINK) return at("read").textContent = `no link: it would contain more than ${LINK} bytes`;
-  if (hasSecret()) return at("read").textContent = "no link: it would contain a private or symmetric key";
+  if (hasSecret()) return at("read").textContent = "no link: it may contain a private or symmetric key";
   if (hasPrivateInformation()) return at("read").textContent = "no link: it would contain SuppPrivInfo, which is private";
   if (mayHide()) return at("read").textContent = "no link: bytes that aren't taken apart may be a private or symmetric key";
   if (linkRemarks().length) at("read").textContent = linkRemarks().join("; ");
@@ -196,7 +196,7 @@ async function open(files) {
 async function openKey([first]) {
   try {
     const bytes = new Uint8Array(await first.arrayBuffer()), text = decoder.decode(bytes);
-    at("key").value = /[^\P{Cc}\s]|\ufffd/u.test(text) ? hexOf(bytes) : text;
+    at("key").value = isText(text) ? text : hexOf(bytes);
     showAgain();
   } catch (error) {
     at("key-said").replaceChildren(problemElement(`the file can't be read: ${error.message || error}`));
