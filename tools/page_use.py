@@ -422,6 +422,36 @@ def fails(page):
         yield f"of a file that can't be read is said: {page.run('at(`status`).textContent')}"
 
 
+def key_files(page):
+    """Drops two key files, and one that is read slowly while another key is given. Yields what is wrong."""
+    slow = '({ arrayBuffer: () => new Promise(done => { globalThis.give = () => done(new Uint8Array([0xa1, 1, 2]).buffer); }) })'
+    begin = "(async () => { clearFields(); "
+    for what, script, wanted in (
+            ("two files", f"{begin} await openKey([new File(['a'], 'a'), new File(['b'], 'b')]);",
+             ["", "no key file is read: 2 files were dropped, and the field takes one"]),
+            ("a typed key", f"{begin} const slow = openKey([{slow}]); at('key').value = 'a0'; give(); await slow;", ["a0", ""]),
+            ("a later file", f"{begin} const slow = openKey([{slow}]); await openKey([new File(['a2'], 'b')]); give(); await slow;", ["a2", ""])):
+        show(page, "showSample(2)")
+        found = page.run(f"{script} const found = [at('key').value, at('key-said').textContent]; await globalThis.showing; return found; }})()")
+        if found[0] != wanted[0] or (wanted[1] and found[1] != wanted[1]):
+            yield f"{what}: {found} and not {wanted}"
+
+
+def bare(page):
+    """Takes the browser's ciphers away, as a page without a secure context has none. Yields what is wrong."""
+    if not page_keys.HAS_CIPHERS:
+        return
+    signer = page_keys.Signer("ES256", -7, page_keys.private("ES256"), 256)
+    made, why = page_keys.message(signer, kid=b"").hex(), "this browser has no ciphers for this page"
+    page.run("void Object.defineProperty(crypto, 'subtle', { value: undefined, configurable: true })")
+    for key, wanted in ((signer.cose().hex(), f"key 'our key': {why}"), (signer.pem(), f"key 0: {why}")):
+        show(page, f"clearFields(); at('key').value = {json.dumps(key)}; type('{made}')")
+        found = page.run('[[...at("verdicts").children].map(it => it.className), at("verdicts").textContent + at("key-said").textContent]')
+        if found[0] != ["open"] or wanted not in found[1] or page.run('at("rows").querySelectorAll(".verified").length'):
+            yield f"without ciphers: {found}"
+    page.run("void (delete crypto.subtle, clearFields())")
+
+
 def odd_keys(page):
     """Gives the page keys in files, a chain of certificates, and JWKs of wrong types. Yields what is wrong."""
     for data, wanted in ((b'{"kty": "EC"}\n', '{"kty": "EC"}\n'), (b"\xa1\1\2", "a10102"), (b"\x81\x0a", "810a")):
@@ -430,6 +460,7 @@ def odd_keys(page):
         is_shown = wait(page, f'at("key").value === {json.dumps(wanted)}')
         if not is_shown or page.run('at("input").value !== SAMPLES[0].input || at("dropped").textContent !== ""'):
             yield f"a file dropped on the key field: {page.run('[at(`key`).value, at(`input`).value]')}"
+    yield from key_files(page)
     for key, why in (({"kty": "oct", "key_ops": "verify"}, "its key_ops are no list"), ({"kty": "constructor"}, 'its kty "constructor" isn\'t known here'),
                      ({"kty": "oct", "key_ops": ["toString"]}, 'its key_ops "toString" have no number in COSE'),
                      ({"kty": "EC", "crv": "P-256", "use": ["enc"]}, 'its use is "enc", so it checks no signature'),
@@ -469,7 +500,7 @@ def refused_requests(page):
 def used(page):
     """Returns what is wrong with the page in use."""
     parts = (mark, keys, *([copies] if isinstance(page, browser.Browser) else []), give, links, leaves, doubts, secrets, hidden, inside, fails,
-             odd_keys, gaps, times, counts, refused_requests)
+             odd_keys, bare, gaps, times, counts, refused_requests)
     return [f"{page.name}: {it}" for part in parts for it in part(page)]
 
 

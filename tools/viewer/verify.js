@@ -68,7 +68,7 @@ function structureOf(seal) {
 // Returns true if the signature or MAC is the key's.
 async function isMadeBy(seal, key) {
   const [, name, bits, length] = CHECKS[seal.algorithm], hash = bits && `SHA-${bits}`, structure = structureOf(seal);
-  if (!crypto.subtle) throw new Error("this browser has no ciphers for this page");
+  if (!crypto.subtle) throw new Error(NO_CIPHERS);
   if (name === "HMAC") {
     const made = await crypto.subtle.importKey("raw", bytesOfHex(key.k), { name, hash }, false, ["sign"]);
     return hexOf(new Uint8Array(await crypto.subtle.sign(name, made, structure), 0, length)) === seal.proof;
