@@ -424,6 +424,12 @@ def fails(page):
 
 def key_files(page):
     """Drops two key files, and one that is read slowly while another key is given. Yields what is wrong."""
+    hides, shown = "a\u202e\u200b\u00ad\nb", "a\\u{202e}\\u{200b}\\u{ad}\\u{a}b"
+    show(page, f"clearFields(); at('key').value = {json.dumps(json.dumps({'kty': hides}))}; await open([new File(['a0'], {json.dumps(hides)})])")
+    found = page.run("[at('dropped').textContent, at('key-said').textContent]")
+    if found != [f"{shown}, 2 bytes", f'key 0: its kty "{shown}" isn\'t known here']:
+        yield f"characters that aren't seen: {found}"
+    show(page, "type(''); clearFields(); showSample(0)")
     slow = '({ arrayBuffer: () => new Promise(done => { globalThis.give = () => done(new Uint8Array([0xa1, 1, 2]).buffer); }) })'
     begin = "(async () => { clearFields(); "
     for what, script, wanted in (

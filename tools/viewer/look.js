@@ -183,13 +183,13 @@ async function open(files) {
     if (mine !== waiting) return;
     clearResult();
     say("refused", "Not read");
-    return at("status").append(": ", element("bdi", name), ` can't be read. The browser says: ${error.message || error}`);
+    return at("status").append(": ", element("bdi", visible(name)), ` can't be read. The browser says: ${error.message || error}`);
   }
   at("input").value = "";
   at("file").value = "";
   leaveSample();
   const others = files.length > 1 ? `; of ${files.length} files, the first is shown` : "";
-  at("dropped").replaceChildren(element("bdi", name), `, ${file.bytes.length.toLocaleString("en")} bytes${others}`);
+  at("dropped").replaceChildren(element("bdi", visible(name)), `, ${file.bytes.length.toLocaleString("en")} bytes${others}`);
   showAgain();
 }
 

@@ -269,7 +269,7 @@ function verdictElement({ state, said: [first, ...others] }) {
 // Returns a sentence on a key that isn't read. It may have a text of the key, which can't move its neighbours.
 function problemElement(problem) {
   const made = element("li");
-  made.append(element("bdi", cut(problem, "cut")));
+  made.append(element("bdi", cut(visible(problem), "cut")));
   return made;
 }
 
