@@ -32,8 +32,18 @@ function hexOf(bytes) {
   return Array.from(bytes, it => it.toString(16).padStart(2, "0")).join("");
 }
 
+// Returns true if the characters that bytes were decoded to are those of a text.
+function isText(text) {
+  return !/[^\P{Cc}\s]|\ufffd/u.test(text);
+}
+
 function cut(text, rest) {
   return text.length > CHARACTERS ? `${text.slice(0, CHARACTERS)}… (${rest})` : text;
+}
+
+// Returns a text with escapes for the characters that a reader wouldn't see, or that move others.
+function visible(text) {
+  return text.replace(/[\p{C}\p{Zl}\p{Zp}\p{Default_Ignorable_Code_Point}]/gu, it => `\\u{${it.codePointAt(0).toString(16)}}`);
 }
 
 // Adds a text to an element. Each string in it with other letters than Latin is isolated, so that it can't move its neighbours.

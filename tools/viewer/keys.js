@@ -14,6 +14,7 @@ const EDWARDS = "06032b6570", NIST = { "06082a8648ce3d030107": "P-256", "06052b8
 const PEM = /-----BEGIN ((?:[A-Z0-9]+ )*(?:KEY|CERTIFICATE|REQUEST|PARAMETERS))-----([^-]*)-----END/g;
 const RSA = "06092a864886f70d0101";  // object identifiers of keys
 const USAGE = "0603551d0f0101ff";  // the object identifier of keyUsage, and that it is critical
+const NO_CIPHERS = "this browser has no ciphers for this page";
 const UNCHECKED = "The certificate's dates, usage and issuer aren't checked.";
 
 function headOf(major, n) {
@@ -125,6 +126,7 @@ function importerOf(spki) {
 // Returns a key of PEM as JWK. An RSA key names no algorithm.
 async function jwkOfPem([, label, body]) {
   if (!["PUBLIC KEY", "CERTIFICATE"].includes(label)) throw new Error(`PEM of a ${label} isn't read: give a PUBLIC KEY or a CERTIFICATE`);
+  if (!crypto.subtle) throw new Error(NO_CIPHERS);
   const der = bytesOfBase64(body), spki = label === "CERTIFICATE" ? keyOfCertificate(der) : der;
   const key = await crypto.subtle.importKey("spki", spki, importerOf(spki), true, ["verify"]);
   const { kty, crv, x, y, n, e } = await crypto.subtle.exportKey("jwk", key);

@@ -8,6 +8,7 @@ const LINK = 4000;  // the most bytes of an input that a link contains
 const MINUTE = 60000;
 
 let file = null, waiting = null;  // a file that was dropped or opened: its name and its bytes; the last call of `show` or `open`
+let keyWaiting = null;  // the last call of `openKey`
 let sampleKey = "";  // the key of the sample that is shown
 
 // Returns the moment by which times are judged, in seconds since 1970, or NaN.
@@ -162,7 +163,7 @@ function linkRemarks() {
 function copyLink(event) {
   const digits = digitsOf(0, rows.count);
   if (digits.length > 2 * LINK) return at("read").textContent = `no link: it would contain more than ${LINK} bytes`;
-  if (hasSecret()) return at("read").textContent = "no link: it would contain a private or symmetric key";
+  if (hasSecret()) return at("read").textContent = "no link: it may contain a private or symmetric key";
   if (hasPrivateInformation()) return at("read").textContent = "no link: it would contain SuppPrivInfo, which is private";
   if (mayHide()) return at("read").textContent = "no link: bytes that aren't taken apart may be a private or symmetric key";
   if (linkRemarks().length) at("read").textContent = linkRemarks().join("; ");
@@ -182,24 +183,28 @@ async function open(files) {
     if (mine !== waiting) return;
     clearResult();
     say("refused", "Not read");
-    return at("status").append(": ", element("bdi", name), ` can't be read. The browser says: ${error.message || error}`);
+    return at("status").append(": ", element("bdi", visible(name)), ` can't be read. The browser says: ${error.message || error}`);
   }
   at("input").value = "";
   at("file").value = "";
   leaveSample();
   const others = files.length > 1 ? `; of ${files.length} files, the first is shown` : "";
-  at("dropped").replaceChildren(element("bdi", name), `, ${file.bytes.length.toLocaleString("en")} bytes${others}`);
+  at("dropped").replaceChildren(element("bdi", visible(name)), `, ${file.bytes.length.toLocaleString("en")} bytes${others}`);
   showAgain();
 }
 
-// Puts a file into the key field: as text, or in hexadecimal if it is none.
-async function openKey([first]) {
+// Puts a file into the key field: as text, or in hexadecimal if it is none. Several files are refused, since one of them would be missing
+// without a word. Of several calls at once, only the last one has a result.
+async function openKey(files) {
+  const mine = keyWaiting = {}, before = at("key").value;
   try {
-    const bytes = new Uint8Array(await first.arrayBuffer()), text = decoder.decode(bytes);
-    at("key").value = /[^\P{Cc}\s]|\ufffd/u.test(text) ? hexOf(bytes) : text;
+    if (files.length > 1) throw new Error(`${files.length} files were dropped, and the field takes one`);
+    const bytes = new Uint8Array(await files[0].arrayBuffer()), text = decoder.decode(bytes);
+    if (mine !== keyWaiting || at("key").value !== before) return;
+    at("key").value = isText(text) ? text : hexOf(bytes);
     showAgain();
   } catch (error) {
-    at("key-said").replaceChildren(problemElement(`the file can't be read: ${error.message || error}`));
+    if (mine === keyWaiting) at("key-said").replaceChildren(problemElement(`no key file is read: ${error.message || error}`));
   }
 }
 

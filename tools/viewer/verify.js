@@ -68,7 +68,7 @@ function structureOf(seal) {
 // Returns true if the signature or MAC is the key's.
 async function isMadeBy(seal, key) {
   const [, name, bits, length] = CHECKS[seal.algorithm], hash = bits && `SHA-${bits}`, structure = structureOf(seal);
-  if (!crypto.subtle) throw new Error("this browser has no ciphers for this page");
+  if (!crypto.subtle) throw new Error(NO_CIPHERS);
   if (name === "HMAC") {
     const made = await crypto.subtle.importKey("raw", bytesOfHex(key.k), { name, hash }, false, ["sign"]);
     return hexOf(new Uint8Array(await crypto.subtle.sign(name, made, structure), 0, length)) === seal.proof;
@@ -269,7 +269,7 @@ function verdictElement({ state, said: [first, ...others] }) {
 // Returns a sentence on a key that isn't read. It may have a text of the key, which can't move its neighbours.
 function problemElement(problem) {
   const made = element("li");
-  made.append(element("bdi", cut(problem, "cut")));
+  made.append(element("bdi", cut(visible(problem), "cut")));
   return made;
 }
 
