@@ -4,7 +4,7 @@ use mir.Val.{SFits, of_z, to_z}
 use Rattle.std.specs.Prelude.{IsErrAnd}
 use Rattle.std.proofs.lemmas.Int.{to_z-of_z}
 use Rattle.std.proofs.Common.{◌≡◌, ℕ, ℤ, Bool, List, [], Some, None, Result, Ok, Err, sym, subst}
-use Rattle.coset.specs.Results.{Describes, IsRefused}
+use Rattle.coset.specs.Results.{Describes}
 use Rattle.coset.specs.CallError.{CallError}
 use Rattle.coset.specs.CallError.TheVariants.{Coset, Caller}
 use Rattle.coset.specs.Calls.{CallsWith}
@@ -13,7 +13,7 @@ use Rattle.coset.specs.CoseError.{CoseError}
 use Rattle.coset.specs.Encoding.{HasNoImage}
 use Rattle.coset.specs.Item.{Item}
 use Rattle.coset.specs.Sign1.{Sign1View, sign1, sign1_attached, sign1_structure}
-use Rattle.cwt_gate.specs.Gate.{GivesClaims, Judges, ReturnsFor, Verifies, refusal_of}
+use Rattle.cwt_gate.specs.Gate.{GivesClaims, Judges, RefusesBytes, ReturnsFor, Verifies, refusal_of}
 use Rattle.cwt_gate.specs.Token.{token}
 use Rattle.cwt_gate.specs.declared.error.GateError.{GateError}
 use Rattle.cwt_gate.specs.declared.error.GateError.TheVariants as gate
@@ -23,8 +23,8 @@ abbrev pub AlwaysSigned : Type 0
 AlwaysSigned = (external_aad payload : List ℕ) (v : Item) (m : Sign1View) → sign1.describes v m → sign1_structure m external_aad payload ≡ None → ⊥
 
 -- So a token is never refused for having no signed bytes.
-unsigned : AlwaysSigned → (b : List ℕ) (m : Sign1View) (e : CoseError) → Describes token b m → HasNoImage (sign1_attached m []) e → IsRefused token b e
-unsigned law b m e d none = λ other. absurd (law [] _ _ m d.2 (none other).1)
+unsigned : AlwaysSigned → (b : List ℕ) (m : Sign1View) (e : CoseError) → Describes token b m → HasNoImage (sign1_attached m []) e → RefusesBytes token b e
+unsigned law b m e d none = ((λ other. absurd (law [] _ _ m d.2 (none other).1)), λ is. (d.0, d.1))
 
 -- A test has the same result for a time that was converted to a machine integer and back.
 pub moved : (test : ℤ → Bool) (now : ℤ) → SFits w64 now → {b : Bool} → test (to_z w64 (of_z w64 now)) ≡ b → test now ≡ b

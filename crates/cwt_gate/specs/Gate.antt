@@ -2,7 +2,7 @@
 use Rattle.std.specs.Prelude.{◌≡◌, ℕ, ℤ, List, [], true, false, Some, None, Result, Ok, Err}
 use Rattle.std.specs.Borrow.{Bor}
 use Rattle.std.specs.Fn.{Once, FnOnceReturnsAtPair}
-use Rattle.coset.specs.Results.{Describes, IsRefused}
+use Rattle.coset.specs.Results.{AllocatesForItems, Describes, IsRefused}
 use Rattle.coset.specs.CallError.{CallError}
 use Rattle.coset.specs.CallError.TheVariants as calls
 use Rattle.coset.specs.Calls.{IsStructure}
@@ -10,6 +10,7 @@ use Rattle.coset.specs.Claims.{ClaimsView, claims, claims_view}
 use Rattle.coset.specs.ClaimsSet.{ClaimsSet}
 use Rattle.coset.specs.CoseError.{CoseError}
 use Rattle.coset.specs.Encoding.{HasNoImage}
+use Rattle.coset.specs.Shape.{Shape}
 use Rattle.coset.specs.Sign1.{Sign1View, sign1_attached}
 use Rattle.cwt_gate.specs.Moment.{has_expired, has_fraction, is_early}
 use Rattle.cwt_gate.specs.Token.{token}
@@ -41,9 +42,13 @@ Accepts g f m c = (p : List ℕ) × ReturnsFor g f m p (Ok tt) × Describes clai
 abbrev pub Refuses : {F E : Type 0} → Verifies F E → F → Sign1View → E → Type 0
 Refuses g f m e = (p : List ℕ) × ReturnsFor g f m p (Err e)
 
+-- Reading the bytes is refused. If memory ran out, they are one item.
+abbrev pub RefusesBytes : {A : Type 0} → Shape A → List ℕ → CoseError → Type 0
+RefusesBytes shape b e = IsRefused shape b e × AllocatesForItems {T = Unit {0}} b (Err e)
+
 -- `f` accepts the message, and its payload is refused.
 abbrev pub CarriesNoClaims : {F E : Type 0} → Verifies F E → F → Sign1View → CoseError → Type 0
-CarriesNoClaims g f m e = (p : List ℕ) × ReturnsFor g f m p (Ok tt) × IsRefused claims p e
+CarriesNoClaims g f m e = (p : List ℕ) × ReturnsFor g f m p (Ok tt) × RefusesBytes claims p e
 
 -- The result for a message: its claims if `f` accepts it, or the reason why there are none.
 abbrev pub GivesClaims : {F E : Type 0} → Verifies F E → F → Sign1View → Result ClaimsSet (GateError E) → Type 0
@@ -64,7 +69,7 @@ abbrev pub Judges : {F E : Type 0} → Verifies F E → F → ℤ → List ℕ �
 Judges g f now b (Ok x) =
     let c = claims_view x in
     IsToken b (λ m. Accepts g f m c) × (has_fraction c ≡ false) × (has_expired now c.expiration_time ≡ false) × (is_early now c.not_before ≡ false)
-Judges g f now b (Err (Token e)) = IsRefused token b e
+Judges g f now b (Err (Token e)) = RefusesBytes token b e
 Judges g f now b (Err NoPayload) = IsToken b (λ m. m.payload ≡ None)
 Judges g f now b (Err (Caller e)) = IsToken b (λ m. Refuses g f m e)
 Judges g f now b (Err (Claims e)) = IsToken b (λ m. CarriesNoClaims g f m e)

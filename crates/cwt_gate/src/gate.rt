@@ -42,7 +42,8 @@ use std::alloc::Global;
 ///
 /// # Errors
 /// The first error that applies, in the order of [`GateError`]. If an allocation fails, the error
-/// is `Token` until `verify` was called, and `Claims` from then on.
+/// is `Token` until `verify` was called, and `Claims` from then on. This happens only if the token,
+/// and then its payload, is one item.
 pub fn judge<F, E>(
     alloc: Global,
     token: &[u8],

@@ -2,7 +2,7 @@
 //! section 6).
 
 ghost use Rattle.std.specs.Prelude.{◌≡◌};
-ghost use Rattle.coset.specs.Results.{ReadsSlice, RefusesSlice};
+ghost use Rattle.coset.specs.Results.{AllocatesForItems, ReadsSlice, RefusesSlice};
 ghost use Rattle.coset.specs.Sign1.{sign1_view};
 ghost use Rattle.coset.specs.View.{value_item};
 ghost use Rattle.cwt_gate.specs.Token.{is_under, is_cwt_tagged, message_in, token as token_shape, untagged};
@@ -98,11 +98,12 @@ impl CborSerializable for Token {}
 /// Reads the message in a token.
 ///
 /// # Errors
-/// - `OutOfMemory` if an allocation fails.
+/// - `OutOfMemory` if an allocation fails. This happens only if the bytes are one item.
 /// - A fault in the bytes, if they are not a token.
 pub fn read_token(alloc: Global, token: &[u8]) -> Result<CoseSign1>
     ensures read { ReadsSlice token_shape sign1_view token.now result }
     ensures refused { RefusesSlice token_shape token.now result }
+    ensures memory { AllocatesForItems token.now result }
 {
     match Token::from_slice(alloc, token) {
         Ok(Token(message)) => Ok(message),

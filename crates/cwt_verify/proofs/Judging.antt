@@ -15,7 +15,7 @@ use Rattle.cwt_verify.specs.HeaderClaims.{Agrees, agree}
 use Rattle.cwt_verify.specs.Opening.{VerifiedView, verified_view}
 use Rattle.cwt_verify.specs.Policy.{PolicyView}
 use Rattle.cwt_verify.specs.Verify.{HasClaims, IsTyped, IsVouched, VerifiesToken, is_typed, token_view}
-use Rattle.cwt_verify.specs.Walk.{OpensAll, verified_views, voucher_view}
+use Rattle.cwt_verify.specs.Walk.{OpensAll, RefusesBytes, verified_views, voucher_view}
 use Rattle.cwt_verify.specs.declared.error.TokenError.{TokenError}
 use Rattle.cwt_verify.specs.declared.error.TokenError.TheVariants as token
 use Rattle.cwt_verify.specs.declared.layer.VerifiedLayer.{VerifiedLayer}
@@ -63,8 +63,8 @@ agrees_on o ls q a b layers content same h =
     (subst (λ s. Agrees (verified_views o.layers) s a) content (subst (λ s. Agrees (map verified_view s) q a) layers h))
 
 -- Bytes that describe claims are one item. So they are refused as an item only if memory runs out.
-pub only_memory : (q : List ℕ) (x : KnownView) (e : CoseError) → Describes known q x → IsRefused any q e → IsRefused known q e
-only_memory q x e d refused = λ n. absurd ((refused n).1 d.0 (d.0, d.1, refl))
+pub only_memory : (q : List ℕ) (x : KnownView) (e : CoseError) → Describes known q x → IsRefused any q e → RefusesBytes known q e
+only_memory q x e d refused = ((λ n. absurd ((refused n).1 d.0 (d.0, d.1, refl))), λ is. (d.0, d.1))
 
 -- ---- results
 
@@ -117,9 +117,9 @@ module _ {E : Type 0} (k : KeysView E) (p : PolicyView) (now : ℤ) (b : List �
           → R (verified_views o.layers) o.content.items (name_view issuer) → IsTyped k p b R
       typed R named h = vouched (λ vs c name. (is_typed p.types vs ≡ true) × R vs c name) (named, h)
 
-      pub no_claims : (e : CoseError) → is_typed p.types (verified_views o.layers) ≡ true → IsRefused known o.content.items e
+      pub no_claims : (e : CoseError) → is_typed p.types (verified_views o.layers) ≡ true → RefusesBytes known o.content.items e
           → VerifiesToken k p now b (Err (token.Claims e))
-      no_claims e named h = typed (λ vs c name. IsRefused known c e) named h
+      no_claims e named h = typed (λ vs c name. RefusesBytes known c e) named h
 
       pub with_claims : (same : Bool) (x : KnownView) (R : List VerifiedView → KnownView → Name → Type 0)
           → is_typed p.types (verified_views o.layers) ≡ true → Describes known o.content.items x → Agrees (verified_views o.layers) o.content.items same

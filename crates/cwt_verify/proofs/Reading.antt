@@ -1,7 +1,7 @@
 -- Reading one layer.
 use Rattle.std.specs.Prelude.{IsErrAnd}
 use Rattle.std.proofs.Common.{◌≡◌, ◌∙◌, ◌++◌, ◌∷◌, [], List, ℕ, Bool, None, Result, Ok, Err, sym, ap, subst, inl, inr}
-use Rattle.coset.specs.Results.{IsOnlyItem, ReadsSlice, RefusesSlice}
+use Rattle.coset.specs.Results.{AllocatesForItems, IsOnlyItem, ReadsSlice, RefusesSlice}
 use Rattle.coset.specs.AsWritten.{WhenRead}
 use Rattle.coset.specs.CoseError.{CoseError}
 use Rattle.coset.specs.CoseError.TheVariants.{OutOfMemory}
@@ -150,11 +150,16 @@ unread lists plain outermost r {s = s} {v = v} {m = m} {e = e} only layered is f
           (subst (λ w. DescribesAs (message_in lists plain (layer_item lists outermost w)) l) (only.1 d.0 d.1) d.2) (fault n)),
     )
 
+-- If memory runs out for bytes that are one item, it does so for an item.
+pub in_item : {s : List ℕ} {v : Item} → IsOnlyItem s v → (r : Result Layer CoseError) → AllocatesForItems s r
+in_item only (Ok x) = tt
+in_item {v = v} only (Err e) = λ is. (v, only.0)
+
 module _ {E : Type 0} (k : KeysView E) (p : PolicyView) where
   -- The reason against a layer whose headers the policy doesn't admit.
   pub turned_away : (outermost : Bool) (q : List ℕ) (l : LayerView) (e : LayerError E) → Describes (layer_by p outermost) q l
       → ChecksHeaders p (headers_of l) (Err e) → RefusesLayer k p outermost q e
-  turned_away outermost q l (reason.Message e) d h = λ n. absurd (n h)
+  turned_away outermost q l (reason.Message e) d h = ((λ n. absurd (n h)), λ is. (d.0, d.1))
   turned_away outermost q l reason.Headers d h = (l, d, inl h)
   turned_away outermost q l (reason.Algorithm n) d h = (l, d, inl h)
   turned_away outermost q l reason.Critical d h = (l, d, inl h)
@@ -168,8 +173,10 @@ module _ {E : Type 0} (k : KeysView E) (p : PolicyView) where
   pub opened : HaveStructures → (outermost : Bool) (q : List ℕ) (l : LayerView) (r : Result OpenedLayer (LayerError E))
       → Describes (layer_by p outermost) q l → IsAdmitted p (headers_of l) → Opens k p l r → OpensOne k p outermost q r
   opened laws outermost q l (Ok o) d a h = ((l, (part_view o.verified.part, name_view o.verified.issuer)), (d, a, h.0), h.1)
-  opened laws outermost q l (Err (reason.Message e)) d a h =
-      λ n. absurd (lacks laws (message_in p.accept_lists p.untagged_form (layer_item p.accept_lists outermost d.0)) l e d.2 h n)
+  opened laws outermost q l (Err (reason.Message e)) d a h = (
+    (λ n. absurd (lacks laws (message_in p.accept_lists p.untagged_form (layer_item p.accept_lists outermost d.0)) l e d.2 h n)),
+    λ is. (d.0, d.1),
+  )
   opened laws outermost q l (Err reason.Headers) d a h = (l, d, inr (a, h))
   opened laws outermost q l (Err (reason.Algorithm n)) d a h = (l, d, inr (a, h))
   opened laws outermost q l (Err reason.Critical) d a h = (l, d, inr (a, h))

@@ -5,14 +5,13 @@ use Rattle.coset.specs.Grammar.{IsItem}
 use Rattle.coset.specs.Item.{Item}
 use Rattle.coset.specs.Known.{KnownView, known}
 use Rattle.coset.specs.LabelViews.{entry_view}
-use Rattle.coset.specs.Results.{IsRefused}
 use Rattle.cwt_keys.specs.Keys.{KeysView, Name, name_view}
 use Rattle.cwt_verify.specs.Claims.{first_true, reasons}
 use Rattle.cwt_verify.specs.HeaderClaims.{agree}
 use Rattle.cwt_verify.specs.Opening.{VerifiedView, seen}
 use Rattle.cwt_verify.specs.Policy.{PolicyView}
 use Rattle.cwt_verify.specs.Types.{has_type}
-use Rattle.cwt_verify.specs.Walk.{Arrives, IsTooDeep, RefusesAt, verified_views, voucher}
+use Rattle.cwt_verify.specs.Walk.{Arrives, IsTooDeep, RefusesAt, RefusesBytes, verified_views, voucher}
 use Rattle.cwt_verify.specs.declared.error.TokenError.{TokenError}
 use Rattle.cwt_verify.specs.declared.error.TokenError.TheVariants.{Layer, TooDeep, Unauthenticated, «Type», Claims, HeaderClaims}
 use Rattle.cwt_verify.specs.declared.token.VerifiedToken.{VerifiedToken}
@@ -71,6 +70,6 @@ VerifiesToken k p now b (Err (Layer index e)) = RefusesAt k p b index e
 VerifiesToken k p now b (Err TooDeep) = IsTooDeep k p b
 VerifiesToken k p now b (Err Unauthenticated) = Arrives k p b (λ xs c. voucher p xs ≡ None)
 VerifiesToken k p now b (Err «Type») = IsVouched k p b (λ vs c name. is_typed p.types vs ≡ false)
-VerifiesToken k p now b (Err (Claims e)) = IsTyped k p b (λ vs c name. IsRefused known c e)
+VerifiesToken k p now b (Err (Claims e)) = IsTyped k p b (λ vs c name. RefusesBytes known c e)
 VerifiesToken k p now b (Err HeaderClaims) = HasClaims k p b false (λ vs x name. Unit {0})
 VerifiesToken k p now b (Err e) = HasClaims k p b true (λ vs x name. first_true (reasons p now name x) ≡ Some e)

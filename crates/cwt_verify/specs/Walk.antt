@@ -4,7 +4,8 @@ use Rattle.std.specs.Prelude.{Result, Ok, Err, Vec}
 use Rattle.std.specs.Prelude.{if◌then◌else◌}
 use Rattle.std.specs.Borrow.{Bor}
 use Rattle.std.specs.Global.{Global}
-use Rattle.coset.specs.Results.{Describes, IsRefused}
+use Rattle.coset.specs.CoseError.{CoseError}
+use Rattle.coset.specs.Results.{AllocatesForItems, Describes, IsRefused}
 use Rattle.cwt_keys.specs.Keys.{KeysView, Name, name_view}
 use Rattle.coset.specs.Shape.{Shape}
 use Rattle.cwt_verify.specs.Admission.{IsAdmitted, RefusesHeaders}
@@ -38,9 +39,13 @@ IsLayer p outermost q R = (l : LayerView) × Describes (layer_by p outermost) q 
 abbrev pub RefusesRead : {E : Type 0} → KeysView E → PolicyView → LayerView → LayerError E → Type 0
 RefusesRead k p l e = RefusesHeaders p (headers_of l) e ⊎ (IsAdmitted p (headers_of l) × RefusesContent k p l e)
 
+-- Reading the bytes is refused. If memory ran out, they are one item.
+abbrev pub RefusesBytes : {A : Type 0} → Shape A → List ℕ → CoseError → Type 0
+RefusesBytes shape q e = IsRefused shape q e × AllocatesForItems {T = Unit {0}} q (Err e)
+
 -- The first reason against the layer in the bytes `q`, or the fault if they are no layer.
 abbrev pub RefusesLayer : {E : Type 0} → KeysView E → PolicyView → Bool → List ℕ → LayerError E → Type 0
-RefusesLayer k p outermost q (Message e) = IsRefused (layer_by p outermost) q e
+RefusesLayer k p outermost q (Message e) = RefusesBytes (layer_by p outermost) q e
 RefusesLayer k p outermost q e = IsLayer p outermost q (λ l. RefusesRead k p l e)
 
 -- A layer, the part of it that a key accepted, and the name of the key's issuer.

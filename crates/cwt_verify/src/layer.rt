@@ -1,7 +1,7 @@
 //! One layer of a token: read from its bytes, and opened by the caller's keys.
 
 ghost use Rattle.std.specs.Prelude.{◌≡◌};
-ghost use Rattle.coset.specs.Results.{ReadsSlice, RefusesSlice};
+ghost use Rattle.coset.specs.Results.{AllocatesForItems, ReadsSlice, RefusesSlice};
 ghost use Rattle.coset.specs.Encrypt.{encrypt_view};
 ghost use Rattle.coset.specs.Encrypt0.{encrypt0_view};
 ghost use Rattle.coset.specs.Mac.{mac_view};
@@ -197,7 +197,7 @@ impl Layer {
     /// `plain` is the form of a layer without a tag.
     ///
     /// # Errors
-    /// - `OutOfMemory` if an allocation fails.
+    /// - `OutOfMemory` if an allocation fails. This happens only if the bytes are one item.
     /// - A fault in the bytes, if they are not a layer.
     pub(crate) fn read(
         alloc: Global,
@@ -208,6 +208,7 @@ impl Layer {
     ) -> Result<Layer>
         ensures read { ReadsSlice (layer lists plain outermost) layer_view bytes.now result }
         ensures refused { RefusesSlice (layer lists plain outermost) bytes.now result }
+        ensures memory { AllocatesForItems bytes.now result }
     {
         let item = layer_item(lists, outermost, whole_item(bytes)?);
         let (form, message) = message_in(lists, plain, item);

@@ -102,13 +102,13 @@ fn open_next<'k, K: Keys>(
         (voucher_view voucher.entry) bytes.now result }
 {
     let index = layers.len();
-    if layers.reserve(1).is_err() {
-        return Err(TokenError::Layer(index, LayerError::Message(CoseError::OutOfMemory)));
-    }
     let opened = match open_one(alloc, policy, keys, index == 0, bytes) {
         Ok(opened) => opened,
         Err(error) => return Err(TokenError::Layer(index, error)),
     };
+    if layers.reserve(1).is_err() {
+        return Err(TokenError::Layer(index, LayerError::Message(CoseError::OutOfMemory)));
+    }
     let voucher = vouched(policy, &opened.verified, voucher);
     layers.push_reserved(opened.verified);
     Ok(Opened {

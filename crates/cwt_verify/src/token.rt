@@ -73,8 +73,9 @@ fn is_typed(types: &[&str], layers: &[VerifiedLayer<'_>]) -> bool
 ///
 /// # Errors
 /// The first error that applies, in the order of [`TokenError`]. If an allocation fails, the error
-/// is `Message` of the layer until all layers are opened, and `Claims` from then on. An infinity or
-/// NaN as a time refuses the token, if the policy looks at that time.
+/// is `Message` of the layer until all layers are opened, and `Claims` from then on. This happens
+/// only if the layer, or the content, is one item. An infinity or NaN as a time refuses the token,
+/// if the policy looks at that time.
 pub fn verify_token<'k, K: Keys>(
     alloc: Global,
     policy: &Policy<'_>,

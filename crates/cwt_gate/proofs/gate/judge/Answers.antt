@@ -7,7 +7,7 @@ use Rattle.cwt_gate.proofs.Judging.{moved, none_given, passed_on}
 use Rattle.cwt_gate.proofs.gate.judge.Goals as goal
 
 pub returns-in-Err : goal.returns-in-Err
-returns-in-Err g c = λ n. (c.in-Err.ensures.read n, c.in-Err.ensures.refused n)
+returns-in-Err g c = ((λ n. (c.in-Err.ensures.read n, c.in-Err.ensures.refused n)), c.in-Err.ensures.memory)
 
 pub returns-in_err-claims : goal.returns-in_err-claims
 returns-in_err-claims g c =

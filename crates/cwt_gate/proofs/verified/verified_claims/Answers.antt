@@ -2,7 +2,7 @@ use Rattle.std.proofs.Common.{ap, option_map, subst}
 use Rattle.coset.specs.Claims.{claims, claims_view}
 use Rattle.coset.specs.Results.{Describes}
 use Rattle.coset.specs.Sign1.{sign1_view}
-use Rattle.coset.specs.Results.{IsRefused}
+use Rattle.cwt_gate.specs.Gate.{RefusesBytes}
 use Rattle.cwt_gate.proofs.Judging.{not_verified, says_yes}
 use Rattle.cwt_gate.proofs.verified.verified_claims.Goals as goal
 
@@ -27,5 +27,6 @@ returns-in-Err g c =
     let payload = c.in-Some.payload.items in
     let yes = says_yes g.F.FnOnce c.args.verify (sign1_view c.args.message.now) payload
     (ap (option_map (λ b. b.items)) c.in-Some.is) c.in_ok-verify_signature.ensures in
-    let refused : IsRefused claims c.deref.result.now c.in-Err.error = λ n. (c.in-Err.ensures.read n, c.in-Err.ensures.refused n) in
-    (payload, yes, subst (λ p. IsRefused claims p c.in-Err.error) c.deref.ensures.value refused)
+    let refused : RefusesBytes claims c.deref.result.now c.in-Err.error =
+    ((λ n. (c.in-Err.ensures.read n, c.in-Err.ensures.refused n)), c.in-Err.ensures.memory) in
+    (payload, yes, subst (λ p. RefusesBytes claims p c.in-Err.error) c.deref.ensures.value refused)

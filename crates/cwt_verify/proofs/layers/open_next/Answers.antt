@@ -1,4 +1,4 @@
-use Rattle.std.proofs.Common.{◌≡◌, ◌∙◌, ◌++◌, ◌∷◌, [], ap, arith, length, map, subst, sym}
+use Rattle.std.proofs.Common.{◌≡◌, ◌∙◌, ◌++◌, ◌∷◌, [], ap, arith, length, map, refl, subst, sym}
 use Rattle.std.proofs.lemmas.List.{length-map, map-append}
 use Rattle.cwt_verify.specs.Opening.{verified_view}
 use Rattle.cwt_verify.specs.Policy.{policy_view}
@@ -15,6 +15,12 @@ returns-in-Err g c =
       subst (λ o. RefusesLayer k p o c.args.bytes.now c.in-Err.error) (outside-count verified_view c.args.layers.items c.len-index.result count)
           c.in-Err.ensures,
     )
+
+pub returns-then-is_err : goal.returns-then-is_err
+returns-then-is_err g c =
+    let count : c.len-index.result ≡ length c.args.layers.items = omega (arith, c.len-index.ensures, c.args.layers.ok.0) in
+    let read = c.in-Ok.ensures.1.0 in
+    (count ∙ sym (length-map c.args.layers.items verified_view), ((λ n. absurd (n refl)), λ is. (read.0, read.1)))
 
 pub returns : goal.returns
 returns g c =

@@ -7,7 +7,7 @@ use Rattle.cwt_verify.proofs.Reading.{HaveStructures, opened, passed_on, turned_
 use Rattle.cwt_verify.proofs.layers.open_one.Goals as goal
 
 pub returns-in-Err : goal.returns-in-Err
-returns-in-Err g c = λ n. (c.in-Err.ensures.read n, c.in-Err.ensures.refused n)
+returns-in-Err g c = ((λ n. (c.in-Err.ensures.read n, c.in-Err.ensures.refused n)), c.in-Err.ensures.memory)
 
 pub returns-in_err-check_headers : goal.returns-in_err-check_headers
 returns-in_err-check_headers g c =

@@ -9,6 +9,7 @@ use Rattle.cwt_verify.specs.Claims.{first_true, reasons}
 use Rattle.cwt_verify.specs.Opening.{verified_view}
 use Rattle.cwt_verify.specs.Policy.{policy_view}
 use Rattle.cwt_verify.specs.Verify.{VerifiesToken, is_typed}
+use Rattle.cwt_verify.specs.Walk.{RefusesBytes}
 use Rattle.cwt_verify.specs.declared.token.VerifiedToken.{VerifiedToken}
 use Rattle.cwt_verify.proofs.Judging.{accepted, agrees_on, no_claims, only_memory, refused, untyped, with_claims}
 use Rattle.cwt_verify.proofs.Reading.{passed_on}
@@ -28,7 +29,7 @@ returns-in-Err g c =
     let e = c.in-Err.error in
     let typed = ap (λ ls. is_typed p.types (map verified_view ls)) (sym c.deref.ensures.value) ∙ (sym c.is_typed.ensures ∙ c.if-not-is_typed.false) in
     no_claims k p c.args.now c.args.token.now c.in_ok-opened.opened c.in_ok-opened.ensures c.in-Some.issuer c.in-Some.is e typed
-    (subst (λ q. IsRefused known q e) c.deref-2.ensures.value c.in-Err.ensures.refused)
+    (subst (λ q. RefusesBytes known q e) c.deref-2.ensures.value (c.in-Err.ensures.refused, c.in-Err.ensures.memory))
 
 pub returns-in-Err-header_claims_agree : goal.returns-in-Err-header_claims_agree
 returns-in-Err-header_claims_agree g c =

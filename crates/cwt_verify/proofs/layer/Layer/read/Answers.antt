@@ -1,4 +1,4 @@
-use Rattle.cwt_verify.proofs.Reading.{unread}
+use Rattle.cwt_verify.proofs.Reading.{in_item, unread}
 use Rattle.cwt_verify.proofs.layer.Layer.read.Goals as goal
 
 pub returns-in_err-from_pull-in-Sign1-clause-refused : goal.returns-in_err-from_pull-in-Sign1-clause-refused
@@ -64,3 +64,21 @@ returns-in_err-from_pull-in-Encrypt-clause-read c =
     (unread c.args.lists c.args.plain c.args.outermost c.from_residual-in_err-from_pull-in-Encrypt.result c.in_ok-whole_item.ensures.whole
     c.layer_item-item.ensures c.message_in-form.ensures c.in-Encrypt.is
     c.in_err-from_pull-in-Encrypt.ensures c.from_residual-in_err-from_pull-in-Encrypt.ensures.1).0
+
+pub returns-in_err-from_pull-in-Sign1-clause-memory : goal.returns-in_err-from_pull-in-Sign1-clause-memory
+returns-in_err-from_pull-in-Sign1-clause-memory c = in_item c.in_ok-whole_item.ensures.whole c.from_residual-in_err-from_pull-in-Sign1.result
+
+pub returns-in_err-from_pull-in-Mac0-clause-memory : goal.returns-in_err-from_pull-in-Mac0-clause-memory
+returns-in_err-from_pull-in-Mac0-clause-memory c = in_item c.in_ok-whole_item.ensures.whole c.from_residual-in_err-from_pull-in-Mac0.result
+
+pub returns-in_err-from_pull-in-Encrypt0-clause-memory : goal.returns-in_err-from_pull-in-Encrypt0-clause-memory
+returns-in_err-from_pull-in-Encrypt0-clause-memory c = in_item c.in_ok-whole_item.ensures.whole c.from_residual-in_err-from_pull-in-Encrypt0.result
+
+pub returns-in_err-from_pull-in-Sign-clause-memory : goal.returns-in_err-from_pull-in-Sign-clause-memory
+returns-in_err-from_pull-in-Sign-clause-memory c = in_item c.in_ok-whole_item.ensures.whole c.from_residual-in_err-from_pull-in-Sign.result
+
+pub returns-in_err-from_pull-in-Mac-clause-memory : goal.returns-in_err-from_pull-in-Mac-clause-memory
+returns-in_err-from_pull-in-Mac-clause-memory c = in_item c.in_ok-whole_item.ensures.whole c.from_residual-in_err-from_pull-in-Mac.result
+
+pub returns-in_err-from_pull-in-Encrypt-clause-memory : goal.returns-in_err-from_pull-in-Encrypt-clause-memory
+returns-in_err-from_pull-in-Encrypt-clause-memory c = in_item c.in_ok-whole_item.ensures.whole c.from_residual-in_err-from_pull-in-Encrypt.result
