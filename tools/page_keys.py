@@ -141,6 +141,11 @@ def signed_by(*signers, kid=KID):
     return head(6, 98) + head(4, 4) + b"\x40\xa0" + byte_string(CONTENT) + head(4, len(made)) + b"".join(made)
 
 
+def reproved(made, length, proof):
+    """Returns the message with another signature or MAC. Its own has this many bytes."""
+    return made[: -length - len(head(2, length))] + byte_string(proof)
+
+
 def changed(data, place):
     return data[:place] + bytes([data[place] ^ 1]) + data[place + 1 :]
 
@@ -179,9 +184,13 @@ def of_algorithm(signer, other):
     yield f"{name}, a bit of the proof", changed(made, len(made) - 1), b"", signer.cose().hex(), wrong
     if is_mac:
         for size in (0, 7):
-            cut = made[: -signer.length - len(head(2, signer.length))] + byte_string(bytes(size))
             told = [("wrong", f"MAC can't be right: {name} has {signer.length} bytes, and this one {size}.")]
-            yield f"{name}, a short MAC", cut, b"", signer.cose().hex(), told
+            yield f"{name}, a short MAC", reproved(made, signer.length, bytes(size)), b"", signer.cose().hex(), told
+    else:
+        length, why = len(signer.sign(CONTENT)), "a member or the signature has a length that the algorithm doesn't allow"
+        for size in (length - 1, length + 1):
+            told = [("open", f"Signature ({name}) not checked: no key fits.", f"key 'our key' doesn't fit: {why}")]
+            yield f"{name}, {size} bytes", reproved(made, length, bytes(size)), b"", signer.cose().hex(), told
     told = [("verified", f"{title} verified by key 'our key' ({name}, with the given external_aad).")]
     yield f"{name}, external_aad", message(signer, b"more"), b"more", signer.cose().hex(), told
     yield f"{name}, no external_aad", message(signer, b"more"), b"", signer.cose().hex(), wrong

@@ -498,7 +498,10 @@ coset_status coset_token_open(const coset_rules *rules, const int64_t *algorithm
  * - alg of the key is the layer's algorithm (RFC 8725, section 3.1), which has a number of IANA and is for the form.
  * - kty, crv, and the lengths of the key's members are those that the algorithm requires (RFC 9053).
  * - key_ops is absent, or has an operation for layers of this form (RFC 9052, section 7.1).
- * - The MAC has the algorithm's length. The ciphertext isn't shorter than its tag. A signature may have any length.
+ * - The MAC has the algorithm's length. The ciphertext isn't shorter than its tag.
+ * - A signature by ECDSA is twice as long as a coordinate (RFC 9053, section 2.1). By EdDSA it has 64 bytes on Ed25519
+ *   and 114 on Ed448 (RFC 8032, sections 5.1.6 and 5.2.6). By RSA it is as long as n (RFC 8017, sections 8.1.2 and
+ *   8.2.2). By HSS/LMS, WalnutDSA and ML-DSA it may have any length.
  * - For encryption, the layer has an IV of the algorithm's length. Or it has no IV but a Partial IV, and the key has a
  *   Base IV (RFC 9052, section 3.1).
  * - The layer names no key identifier, or the key's.

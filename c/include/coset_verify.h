@@ -62,8 +62,8 @@ enum {
  * Any other result counts as COSET_NO.
  *
  * It isn't called for an empty proof, because no algorithm has one (RFC 9053, sections 2 and 3). No other length is
- * checked. So compare the proof's length with the algorithm's before its bytes. coset_key_fits compares that of a MAC,
- * and not that of a signature. */
+ * checked. So compare the proof's length with the algorithm's before its bytes. coset_key_fits compares it, except
+ * that of a signature by HSS/LMS, WalnutDSA or ML-DSA. */
 typedef int (*coset_verifier)(void *context, const coset_question *question);
 
 /* Decrypts the ciphertext by such a key. Returns:
@@ -451,7 +451,7 @@ typedef struct coset_layer_question {
  *   than `cap`, or if `*len` isn't set.
  *
  * It isn't called for an empty signature or MAC. No other length of the question is checked before. coset_key_fits
- * doesn't check that of a signature, so compare it with the algorithm's before its bytes. */
+ * doesn't check that of a signature by HSS/LMS, WalnutDSA or ML-DSA. So compare it with the algorithm's before its bytes. */
 typedef int (*coset_opener)(void *context, const coset_layer_question *question, uint8_t *plain, size_t cap, size_t *len,
                             coset_text *issuer);
 

@@ -10,7 +10,7 @@ const CHECKS = {
 };
 const REASONS = {
   algorithm: "no key fits, because the message's algorithm isn't in the table", alg: "it has no alg, or another than the message's",
-  kty: "its kty isn't one for the algorithm", crv: "its crv isn't one for the algorithm", length: "a member has a length that the algorithm doesn't allow",
+  kty: "its kty isn't one for the algorithm", crv: "its crv isn't one for the algorithm", length: "a member or the signature has a length that the algorithm doesn't allow",
   key_ops: "its key_ops don't allow this", kid: "the message names a key with another kid",
 };
 const UNUSED = "The key checks nothing here. Only signatures and MACs of a message that is the whole input, and of messages in its payload, are checked.";

@@ -410,7 +410,9 @@ for change in ({"algorithm": 3}, {"form": coset.MAC0}, {"key_id": b"end"}, {"iv"
 assert coset.key_fits(ENC.key, layer._replace(key_id=None)) == bytes(12)
 based = coset.put(coset.KEY, ENC.key, 5, bytes(range(12)))
 assert coset.key_fits(based, layer._replace(iv=None, partial_iv=b"\x01\x02")) == bytes(range(10)) + b"\x0b\x09"
-assert coset.key_fits(ONE.key, layer._replace(form=coset.SIGN1, algorithm=-7, key_id=b"one", iv=None)) == b""
+signed = layer._replace(form=coset.SIGN1, algorithm=-7, key_id=b"one", iv=None)
+for size in (0, 16, 63, 64, 65, 96):
+    assert coset.key_fits(ONE.key, signed._replace(proof=bytes(size))) == (b"" if size == 64 else None), size
 raised(coset.Misuse, coset.key_fits, ENC.key, layer._replace(form=2))
 raised(coset.Fault, coset.key_fits, b"\xa0", layer)
 

@@ -1,6 +1,10 @@
 -- The values that were read, without the errors, after one more result.
-use Rattle.std.proofs.Common.{◌≡◌, ◌++◌, ◌∙◌, List, [], ◌∷◌, Result, Ok, Err, ap, refl, sym}
+use Rattle.std.proofs.Common.{◌≡◌, ◌++◌, ◌∙◌, ℕ, List, [], ◌∷◌, Result, Ok, Err, ap, refl, sym}
 use Rattle.cwt_ring.specs.KeySet.{successes}
+use Rattle.coset.specs.CoseError.{CoseError}
+use Rattle.coset.specs.Grammar.{IsItem}
+use Rattle.coset.specs.Item.{Item}
+use Rattle.coset.specs.Results.{AllocatesForItems}
 
 module _ {T E : Type 0} where
   and_success : (rs : List (Result T E)) (x : T) → successes (rs ++ Ok x ∷ []) ≡ successes rs ++ x ∷ []
@@ -22,3 +26,8 @@ module _ {T E : Type 0} where
       → successes (rs ++ r ∷ []) ≡ old
   none_more rs (Ok x) old h never = absurd (never x refl)
   none_more rs (Err e) old h never = and_failure rs e ∙ h
+
+-- Memory may run out for bytes that are one item.
+pub for_item : {T : Type 0} (b : List ℕ) (v : Item) (r : Result T CoseError) → IsItem b v → AllocatesForItems b r
+for_item b v (Ok x) is = tt
+for_item b v (Err e) is = λ memory. (v, is)

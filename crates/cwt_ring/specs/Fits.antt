@@ -1,5 +1,5 @@
 -- Which key fits a layer, and by which nonce.
-use Rattle.std.specs.Prelude.{◌==◌, ◌&&◌, ◌||◌, ℕ, ℤ, nat_le, List, [], ◌∷◌, length, Option, Some, None, Bool, true, false, take, if◌then◌else◌}
+use Rattle.std.specs.Prelude.{◌==◌, ◌&&◌, ◌||◌, ℕ, ℤ, nat_le, List, [], ◌∷◌, length, Option, Some, None, Bool, false, take, if◌then◌else◌}
 use Rattle.std.specs.Cmp.Lexicographic.{pointwise}
 use Rattle.std.specs.List.{list_any}
 use Rattle.std.specs.Option.{option_and_then, option_map_or}
@@ -20,6 +20,7 @@ use Rattle.cwt_keys.specs.declared.form.Form.TheVariants.{Sign1, Mac0, Encrypt0,
 use Rattle.cwt_keys.specs.declared.table.Row.{Row}
 use Rattle.cwt_ring.specs.Kinds.{is_of_kind}
 use Rattle.cwt_ring.specs.Nonce.{nonce_of}
+use Rattle.cwt_ring.specs.Signatures.{has_signature_length}
 use Rattle.cwt_ring.specs.declared.nonce.Nonce.{Nonce}
 
 -- The row of the algorithm with this number, if it has one.
@@ -47,14 +48,15 @@ has_operation ops o = list_any (same_label (number (operations.number o))) ops
 abbrev pub permits : Form → List LabelView → Bool
 permits f ops = length ops == 0 || list_any (has_operation ops) (operations_for f)
 
--- A MAC has exactly n bytes (RFC 9053, sections 3.1 and 3.2), and a ciphertext ends with a tag of n bytes (section 4).
-abbrev pub has_tag : Form → ℕ → List ℕ → Bool
-has_tag Sign1 n proof = true
-has_tag Mac0 n proof = length proof == n
-has_tag Encrypt0 n proof = nat_le n (length proof)
-has_tag Sign n proof = true
-has_tag Mac n proof = length proof == n
-has_tag Encrypt n proof = nat_le n (length proof)
+-- A signature has a length that the key gives. A MAC has exactly the row's length (RFC 9053, sections 3.1 and 3.2), and a
+-- ciphertext ends with a tag of that length (section 4).
+abbrev pub has_proof_length : Form → Row → KeyView → List ℕ → Bool
+has_proof_length Sign1 r k proof = has_signature_length r.keys k proof
+has_proof_length Mac0 r k proof = length proof == r.tag
+has_proof_length Encrypt0 r k proof = nat_le r.tag (length proof)
+has_proof_length Sign r k proof = has_signature_length r.keys k proof
+has_proof_length Mac r k proof = length proof == r.tag
+has_proof_length Encrypt r k proof = nat_le r.tag (length proof)
 
 -- The layer names no key, or the one with this identifier (RFC 9052, section 3.1, "kid").
 abbrev pub may_be : List ℕ → List ℕ → Bool
@@ -62,7 +64,7 @@ may_be named id = length named == 0 || pointwise ◌==◌ id named
 
 -- The key and the layer are as the row requires.
 abbrev pub suits : Row → KeyView → SealView → Bool
-suits r k s = is_of_kind r.keys k && permits r.form k.key_ops && has_tag r.form r.tag s.proof && may_be (key_id_of s) k.key_id
+suits r k s = is_of_kind r.keys k && permits r.form k.key_ops && has_proof_length r.form r k s.proof && may_be (key_id_of s) k.key_id
 
 -- The nonce by which the key opens the layer. A signature and a MAC have an empty one.
 abbrev pub nonce_by : Form → ℕ → KeyView → SealView → Option (List ℕ)

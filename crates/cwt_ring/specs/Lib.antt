@@ -1,5 +1,6 @@
 pub mod Members
 pub mod Kinds
+pub mod Signatures
 pub mod Nonce
 pub mod Fits
 pub mod Attempts

@@ -5,10 +5,11 @@ ghost use Rattle.coset.specs.Keys.{key_view};
 ghost use Rattle.coset_iana.specs.Algorithm as algorithms;
 ghost use Rattle.cwt_keys.specs.Sealed.{key_id_of, seal_view};
 ghost use Rattle.cwt_keys.specs.Table.{of_form};
-ghost use Rattle.cwt_ring.specs.Fits.{fits, has_operation, has_tag, is_key_for, may_be, nonce_by, nonce_view, permits, row_numbered, suits};
+ghost use Rattle.cwt_ring.specs.Fits.{fits, has_operation, has_proof_length, is_key_for, may_be, nonce_by, nonce_view, permits, row_numbered, suits};
 
 use crate::kind::is_of_kind;
 use crate::nonce::{Nonce, nonce_for};
+use crate::signature::has_signature_length;
 use coset::iana::{Algorithm, EnumI64, KeyOperation};
 use coset::{CoseKey, RegisteredLabel, RegisteredLabelWithPrivate};
 use cwt_keys::{Form, Row, Sealed, is_for, row_for};
@@ -58,12 +59,13 @@ fn permits(key: &CoseKey, form: Form) -> bool
     }
 }
 
-/// Returns true if the MAC has the length of the row, or the ciphertext has room for its tag.
-fn has_tag(row: Row, proof: &[u8]) -> bool
-    ensures { result ≡ has_tag row.form row.tag proof.now }
+/// Returns true if the signature has a length that the key gives, the MAC has the length of the
+/// row, or the ciphertext has room for its tag.
+fn has_proof_length(row: Row, key: &CoseKey, proof: &[u8]) -> bool
+    ensures { result ≡ has_proof_length row.form row (key_view key.now) proof.now }
 {
     match row.form {
-        Form::Sign1 | Form::Sign => true,
+        Form::Sign1 | Form::Sign => has_signature_length(key, row.keys, proof),
         Form::Mac0 | Form::Mac => proof.len() == row.tag,
         Form::Encrypt0 | Form::Encrypt => row.tag <= proof.len(),
     }
@@ -83,7 +85,7 @@ fn suits(row: Row, key: &CoseKey, sealed: &Sealed<'_>) -> bool
 {
     is_of_kind(key, row.keys)
         && permits(key, row.form)
-        && has_tag(row, sealed.proof)
+        && has_proof_length(row, key, sealed.proof)
         && may_be(key, sealed)
 }
 
@@ -117,6 +119,10 @@ fn nonce_by(row: Row, key: &CoseKey, sealed: &Sealed<'_>) -> Option<Nonce>
 ///   with the same label, the first counts.
 /// - Its `key_ops` are absent, or contain an operation for layers of this form (RFC 9052, section
 ///   7.1).
+/// - A signature has the length that its key gives. By ECDSA that is twice the length of a
+///   coordinate (RFC 9053, section 2.1). By EdDSA it is 64 bytes for Ed25519 and 114 for Ed448 (RFC
+///   8032, sections 5.1.6 and 5.2.6). By RSA it is the length of n (RFC 8017, sections 8.1.2 and
+///   8.2.2). By HSS-LMS, WalnutDSA and ML-DSA, any length fits.
 /// - A MAC has exactly the length of the row, and a ciphertext is at least as long as its tag.
 /// - For a ciphertext, the layer has an IV of the row's length. Or it has no IV but a Partial IV of
 ///   at most that length, and the key has a Base IV of exactly that length (RFC 9052, section 3.1).

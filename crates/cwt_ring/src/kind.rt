@@ -1,7 +1,7 @@
 //! The keys that an algorithm takes: their type, and the members that the type defines (RFC 9052,
 //! section 7; RFC 9053, section 7).
 
-ghost use Rattle.std.specs.Prelude.{◌≡◌};
+ghost use Rattle.std.specs.Prelude.{◌≡◌, ◌≤◌, IfSome};
 ghost use Rattle.coset.specs.Keys.{key_view};
 ghost use Rattle.cwt_ring.specs.Kinds.{coordinate_length, edwards_length, has_bytes, has_curve, has_point, has_type, has_walnut_arrays, is_ec2, is_exponent, is_modulus, is_of_kind, is_okp, is_rsa, is_walnut};
 
@@ -26,7 +26,7 @@ fn has_type(key: &CoseKey, kty: KeyType) -> bool
 
 /// Returns true if the key is on this curve. EC2 and OKP keys have the curve under the same label
 /// (RFC 9053, sections 7.1.1 and 7.2).
-fn has_curve(key: &CoseKey, curve: EllipticCurve) -> bool
+pub(crate) fn has_curve(key: &CoseKey, curve: EllipticCurve) -> bool
     ensures { result ≡ has_curve curve (key_view key.now) }
 {
     match integer_of(key, Ec2KeyParameter::Crv.to_i64()) {
@@ -37,8 +37,9 @@ fn has_curve(key: &CoseKey, curve: EllipticCurve) -> bool
 
 /// Returns the length of a coordinate on a curve for EC2 keys, in bytes, or `None` for other
 /// curves.
-fn coordinate_length(curve: EllipticCurve) -> Option<usize>
-    ensures { result ≡ coordinate_length curve }
+pub(crate) fn coordinate_length(curve: EllipticCurve) -> Option<usize>
+    ensures is { result ≡ coordinate_length curve }
+    ensures short { IfSome result (λ n. n ≤ 66) }
 {
     match curve {
         EllipticCurve::P_256 => Some(32),
@@ -74,8 +75,9 @@ fn is_ec2(key: &CoseKey, curve: EllipticCurve) -> bool
 }
 
 /// Returns the length of a public key on a curve for EdDSA, in bytes, or `None` for other curves.
-fn edwards_length(curve: EllipticCurve) -> Option<usize>
-    ensures { result ≡ edwards_length curve }
+pub(crate) fn edwards_length(curve: EllipticCurve) -> Option<usize>
+    ensures is { result ≡ edwards_length curve }
+    ensures short { IfSome result (λ n. n ≤ 66) }
 {
     match curve {
         EllipticCurve::Ed25519 => Some(32),

@@ -15,6 +15,7 @@ mod kind;
 mod member;
 mod nonce;
 mod ring;
+mod signature;
 
 pub use attempt::Issuer;
 pub use error::KeyError;

@@ -28,7 +28,7 @@ pub enum Verdict {
     Kty,
     /// The key is on another curve.
     Crv,
-    /// A member of the key is absent or of another length, or the MAC is.
+    /// A member of the key is absent or of another length, or the signature or MAC has another one.
     Length,
     /// The key's `alg` is absent or another one.
     Alg,
