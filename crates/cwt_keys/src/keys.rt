@@ -16,7 +16,7 @@ use std::alloc::Global;
 /// - The key is for the algorithm of the protected header, and for no other (RFC 8725, section
 ///   3.1). Its type, curve, length and `key_ops` are right for it (RFC 9052, section 7.1; RFC 9053,
 ///   sections 2 to 4). `fits` of `cwt_ring` checks this.
-/// - A MAC has its full length. A ciphertext whose tag is wrong is an error.
+/// - A signature and a MAC have their full length. A ciphertext whose tag is wrong is an error.
 /// - The name that is returned is that of the issuer to whom the key belongs (RFC 8725, section
 ///   3.8). It doesn't come from the token.
 ///
