@@ -1212,5 +1212,5 @@ export function versionNumber() {
 
 /** Returns a few words for a status of the header. Anything else has one other text. */
 export function statusText(status) {
-  return textAt(loaded().coset_status_text(NAMES[status] && Number.isInteger(status) ? status : -1));
+  return textAt(loaded().coset_status_text(Number.isInteger(status) && NAMES[status] ? status : -1));
 }

@@ -390,6 +390,7 @@ const tests = {
       }
       assert.equal(coset.statusText(wrong), coset.statusText(-1));
     }
+    assert.equal(coset.statusText(Object.create(null)), coset.statusText(-1));
     for (const number of [-0, 2n ** 63n, -(2n ** 63n) - 1n, 2 ** 53]) {
       const make = () => coset.put(ITEM, NONE, number, 5);
       if (Object.is(number, -0)) assert.deepEqual(make(), Uint8Array.of(0xa1, 0, 5));
