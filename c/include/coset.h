@@ -90,7 +90,7 @@ enum {
   COSET_ISSUED_LATER = 26, /* the token is issued later than now, iat */
   COSET_TOO_OLD = 27,      /* the token has reached the greatest age, or has no time of issue */
   COSET_ISSUER = 28,       /* iss isn't the name of the issuer whose key authenticated the token */
-  COSET_AUDIENCE = 29,     /* the token is for another audience, aud */
+  COSET_AUDIENCE = 29,     /* the token isn't for one of the verifier's audiences, aud */
   COSET_HEADERS = 30,      /* a label is in both headers of a layer, or a layer has an IV and a Partial IV */
   COSET_TOKEN_TYPE = 31,   /* the innermost layer names none of the types, typ */
   COSET_HEADER_CLAIMS = 32, /* a header has claims that aren't in the payload */

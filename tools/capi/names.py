@@ -1,6 +1,7 @@
 """The names, arguments and constants of the interface, which the header, the exports and the wrappers must share."""
 import re
 
+from capi.kinds import NAMES
 from sources import read
 
 CONSTANT = r"\b(COSET_[A-Z0-9_]+)\s*(?::\s*\w+)?\s*=\s*(0x[0-9a-f]+|\d+)"
@@ -206,6 +207,23 @@ def compare_structs(sources, check):
             check(fields == found, f"the {name}'s {struct}: {found} and not {fields}")
 
 
+# Errors of Rust that have words of their own.
+OWN_WORDS = {"Memory", "Misuse", "NotKeySet"}
+
+
+def compare_texts(check):
+    """Compares the texts of errors in Rust and in Python with those of the library."""
+    told = dict(re.findall(r'case (?:COSET_)?(\w+): return "(.*?)";', read("c", "wrappers", "c", "text.c")))
+    told = {"".join(it.title() for it in name.split("_")): text for name, text in told.items()}
+    told["Refused"] = told.pop("18")  # of coset_verify.h
+    rust = dict(re.findall(r'Error::(\w+) => "(.*)",', read("c", "wrappers", "rust", "coset.rs")))
+    python = re.search(r"^_FAULTS = \{(.*?)^\}", read("c", "wrappers", "python", "coset", "__init__.py"), re.M | re.S)[1]
+    python = {NAMES[int(number)]: text for number, text in re.findall(r'(\d+): "(.*)",', python)}
+    for language, texts in ("Rust", {name: rust[name] for name in rust.keys() - OWN_WORDS}), ("Python", python):
+        unlike = {name for name, text in texts.items() if told.get(name) != text}
+        check(texts and not unlike, f"the texts in {language} aren't those of text.c: {unlike}")
+
+
 def compare(check):
     """Compares the header with the exports and the wrappers."""
     sources = "".join(map(source, SOURCES))
@@ -216,3 +234,4 @@ def compare(check):
     compare_javascript(check)
     compare_go(check)
     compare_structs(sources, check)
+    compare_texts(check)

@@ -45,13 +45,21 @@ def once(folder):
 
 
 def build_calls(folder):
-    """Builds the program that makes calls, if there is a rustc. Each other one compiles it too."""
+    """Builds the program that makes calls, and the tests, if there is a rustc. Each other one compiles the first too."""
     first, *others = each("rustc") or [None]
     if first:
         words = ["-O", "-L", folder, "-l", "static=coset", *once(folder)]
         run([first, *EDITION, *words, "-o", "calls_rust", f"{WRAPPERS}/rust/calls.rs"], cwd=folder)
+        run([first, *EDITION, "-L", folder, "-l", "static=coset", "-o", "tests_rust", f"{WRAPPERS}/rust/tests.rs"], cwd=folder)
     for rustc in others:
         run([rustc, *EDITION, "--emit", "metadata", "-o", "calls.rmeta", f"{WRAPPERS}/rust/calls.rs"], cwd=folder)
+
+
+def tested(folder, check):
+    """Runs the tests. Returns their line."""
+    ran = subprocess.run([f"{folder}/tests_rust"], capture_output=True, text=True, check=False)
+    check(ran.returncode == 0, f"c/wrappers/rust/tests.rs: {ran.stderr[-1000:]}")
+    return ran.stdout.strip()
 
 
 def with_earlier_library(program, calls, check):

@@ -83,6 +83,26 @@ def packed(prefix, folder, library):
     return [source, f"{folder}/{made}", *(wheels if len(wheels) == 2 else [told])]
 
 
+def of_version(library, folder, numbers):
+    """Returns a folder with copies of the libraries, and a file for pkg-config with that version."""
+    at = f"{folder}/versions/{numbers}"
+    os.makedirs(f"{at}/pkgconfig")
+    for name in ("libcoset.a", "libcoset.so"):
+        shutil.copy(f"{library}/{name}", at)
+    with open(f"{library}/pkgconfig/coset.pc", encoding="utf-8") as file:
+        about = file.read().replace(f"Version: {interface.numbers()}\n", f"Version: {numbers}\n")
+    install.place(at, "pkgconfig/coset.pc", install.write(about))
+    return at
+
+
+def versions():
+    """Returns versions, each with whether it is earlier than this one. The last of four numbers may have more digits."""
+    numbers = list(map(int, interface.numbers().split(".")))
+    others = {(*numbers[:3], numbers[3] - 1): True, (*numbers[:3], 10 * numbers[3]): False, (numbers[0], numbers[1] + 1, 0, 0): False,
+              (numbers[0], numbers[1] - 1, 99, 99): True}
+    return {".".join(map(str, it)): is_earlier for it, is_earlier in others.items()}
+
+
 WHEEL = "import backend, sys; print(backend.build_wheel(sys.argv[1]))"
 
 
@@ -112,6 +132,10 @@ def wheels_refused(prefix, folder, library):
         file.write(contents[:18] + b"\xb7" + contents[19:])
     got = run(sys.executable, "-c", WHEEL, f"{folder}/wrong", cwd=source, env={**where, "COSET_LIB_DIR": f"{folder}/wrong/lib"})
     told += [] if got.endswith("-linux_aarch64.whl") else [f"a wheel for another processor: {got}"]
+    for numbers, is_earlier in versions().items():
+        got = run(sys.executable, "-c", WHEEL, f"{folder}/wrong", cwd=source,
+                  env={**where, "COSET_LIB_DIR": of_version(library, f"{folder}/wrong", numbers)})
+        told += [] if is_earlier == ("earlier than this package" in got) == ("RuntimeError" in got) else [f"a wheel with {numbers}: {got}"]
     for setting in ("System", "", f"{library}/libcoset.so"):
         made = WHEEL.replace("argv[1]", "argv[1], {'library': sys.argv[2]}")
         got = run(sys.executable, "-c", made, f"{folder}/wrong", setting, cwd=source, env={**where, "COSET_LIB_DIR": library})
@@ -156,6 +180,10 @@ def by_cargo(prefix, folder, token):
         for named in ("lib", "", f"{folder}/target0"):
             got = run(*build, cwd=folder, env={**where, "COSET_LIB_DIR": named})
             told += [] if "there is no libcoset.a" in got else [f"a crate with the library in {named}: {got}"]
+        for numbers, is_earlier in versions().items():
+            at = of_version(f"{prefix}/{LIBDIR}", target, numbers)
+            got = run(*build, cwd=folder, env={**where, "COSET_LIB_DIR": at})
+            told += [] if is_earlier == ("earlier version than this crate" in got) == bool(got) else [f"a crate with {numbers}: {got}"]
         # An older cargo doesn't read the file of a later one.
         os.remove(f"{folder}/Cargo.lock")
     return told

@@ -158,9 +158,11 @@ def by_wrappers(given, folder, calls, wrong):
         calling.from_wrapper(name, command, calls, wrong.check, **more)
         hostile.damage(name, command, f"{folder}/calls_c", wrong.check, **more)
     memory.wiped(folder, wrong.check)
+    tested = []
     if "Rust" in programs:
         rust.with_earlier_library(*compiled, calls, wrong.check)
-    tested = [*([] if "Rust" in programs else ["there is no rustc"]), *python_tests(library, wrong)]
+        tested.append(rust.tested(folder, wrong.check))
+    tested += [*([] if "Rust" in programs else ["there is no rustc"]), *python_tests(library, wrong)]
     if importlib.util.find_spec("cryptography"):
         tested.append(f"with coset.crypto {accepting.by_ciphers(python, wrong.check, **library)}")
     calling.texts(given.quick, [([f"{folder}/calls_c"], {}), *programs.values()], wrong.check)

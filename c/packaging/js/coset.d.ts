@@ -172,12 +172,12 @@ export type Decrypter = (question: Question) => Awaitable<Data | false | null | 
 export type Answer = boolean | Data | null | undefined;
 export type Keys = (layer: Layer) => Awaitable<Answer | [Answer, string | null]>;
 export interface Ciphers {
-  verify?(key: Uint8Array, algorithm: Integer, input: Uint8Array, proof: Uint8Array): Awaitable<boolean | null | undefined>;
+  verify(key: Uint8Array, algorithm: Integer, input: Uint8Array, proof: Uint8Array): Awaitable<boolean | null | undefined>;
   decrypt?(key: Uint8Array, algorithm: Integer, nonce: Uint8Array, aad: Uint8Array, ciphertext: Uint8Array): Awaitable<Data | null | undefined>;
 }
 export type Issuers = Iterable<readonly [string | null, Data]> | { readonly [name: string]: Data };
 export class KeyRing {
-  constructor(issuers: Issuers, ciphers?: Ciphers);
+  constructor(issuers: Issuers, ciphers: Ciphers);
   open(layer: Layer): Promise<[true | Uint8Array, string | null] | null>;
 }
 /** A value for `putAll` as its encoding. */

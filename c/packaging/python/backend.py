@@ -2,12 +2,13 @@
 
 The wheel has a copy of the shared library. It is the one in the folder that the environment's COSET_LIB_DIR names. Without that
 it is the one that was installed with this file, else the one that pkg-config finds. A library with another name than @SONAME@
-is an error. With the setting `library=system` the wheel has no copy, and the package loads the system's @SONAME@.
+is an error. So is a library whose pkgconfig/coset.pc, if it has one, has an earlier version than @NUMBERS@. With the setting `library=system` the wheel has no copy, and the package loads the system's @SONAME@.
 """
 import base64
 import hashlib
 import io
 import os
+import re
 import subprocess
 import tarfile
 import zipfile
@@ -50,6 +51,17 @@ def _folders():
         yield asked.stdout.strip()
 
 
+def _numbers(version):
+    return tuple(map(int, version.split(".")))
+
+
+def _check_version(path):
+    """Raises an error if this file, which is installed with a library, has an earlier version than the package."""
+    found = re.search(r"^Version: *(\d+(?:\.\d+)*)\s*$", _read(path).decode(errors="replace"), re.M) if os.path.exists(path) else None
+    if found and _numbers(found[1]) < _numbers("@NUMBERS@"):
+        raise RuntimeError(f"{path} is of version {found[1]}, earlier than this package, which is of version @NUMBERS@")
+
+
 def _library():
     """Returns the shared library's contents."""
     for folder in _folders():
@@ -59,6 +71,7 @@ def _library():
         library = _read(path)
         if library[:4] != b"\x7fELF" or b"\0" + SONAME + b"\0" not in library:
             raise RuntimeError(f"{path} isn't {SONAME.decode()}")
+        _check_version(os.path.join(folder, "pkgconfig", "coset.pc"))
         return library
     raise RuntimeError("there is no libcoset.so: name its folder in COSET_LIB_DIR, or give the setting library=system")
 

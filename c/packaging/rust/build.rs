@@ -1,9 +1,9 @@
 //! Finds `libcoset.a` in the folder that `COSET_LIB_DIR` names. Without that it is next to this
 //! crate as it was installed, or found by pkg-config.
 
-use std::env;
-use std::path::PathBuf;
+use std::path::{Path, PathBuf};
 use std::process::{exit, Command};
+use std::{env, fs};
 
 /// Returns the folders in which the library may be. A folder that `COSET_LIB_DIR` names is the only one.
 fn folders() -> Vec<PathBuf> {
@@ -18,6 +18,18 @@ fn folders() -> Vec<PathBuf> {
     beside.into_iter().chain(known).collect()
 }
 
+/// Returns the numbers of a version.
+fn numbers(version: &str) -> Option<Vec<u32>> {
+    version.trim().split('.').map(|number| number.parse().ok()).collect()
+}
+
+/// Returns true if `pkgconfig/coset.pc`, which is installed with a library, has an earlier version than this crate.
+fn is_earlier(folder: &Path) -> bool {
+    let about = fs::read_to_string(folder.join("pkgconfig/coset.pc")).unwrap_or_default();
+    let version = about.lines().find_map(|line| line.strip_prefix("Version:")).and_then(numbers);
+    version.map_or(false, |version| Some(version) < numbers("@NUMBERS@"))
+}
+
 fn main() {
     for name in ["COSET_LIB_DIR", "PKG_CONFIG_PATH", "PKG_CONFIG_LIBDIR"] {
         println!("cargo:rerun-if-env-changed={name}");
@@ -27,6 +39,10 @@ fn main() {
         println!("cargo:rustc-cfg=coset_no_std");
     }
     match folders().into_iter().find(|it| it.is_absolute() && it.join("libcoset.a").exists()) {
+        Some(folder) if is_earlier(&folder) => {
+            eprintln!("libcoset.a in {} is of an earlier version than this crate, which is of version @NUMBERS@", folder.display());
+            exit(1);
+        }
         Some(folder) => {
             println!("cargo:rerun-if-changed={}", folder.join("libcoset.a").display());
             println!("cargo:rustc-link-search=native={}", folder.display());

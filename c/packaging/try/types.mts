@@ -22,6 +22,8 @@ await coset.verify(coset.SIGN1, token, { algorithms: [-7] }, async () => "yes");
 // @ts-expect-error an option is undefined (--exactOptionalPropertyTypes)
 await coset.verify(coset.SIGN1, token, { algorithms: [-7], detached: undefined }, async () => true);
 // @ts-expect-error the name of an issuer is undefined
-new coset.KeyRing([[undefined, token]]);
+new coset.KeyRing([[undefined, token]], { verify: () => true });
+// @ts-expect-error a ring has ciphers
+new coset.KeyRing({ as: token });
 // @ts-expect-error the algorithms are missing
 await coset.verify(coset.SIGN1, token, {}, async () => true);

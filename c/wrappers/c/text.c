@@ -26,7 +26,7 @@ const char *coset_status_text(coset_status status) {
   case COSET_UNREGISTERED: return "an integer isn't registered";
   case COSET_NOT_PRIVATE: return "an integer isn't registered, nor for private use";
   case COSET_ABSENT: return "what is asked for isn't there, or what is given has no place";
-  case COSET_MISUSE: return "a number without a meaning for this call, or a payload that is given twice or without its flag, or a length above PTRDIFF_MAX";
+  case COSET_MISUSE: return "an argument has no meaning for this call, such as an unassigned number, or contradicts another one";
   case COSET_TYPE: return "what is asked for is there, and of another kind";
   case COSET_EMPTY: return "the list is empty";
   case COSET_NOT_ALLOWED: return "the algorithm isn't one that is allowed";
@@ -40,11 +40,11 @@ const char *coset_status_text(coset_status status) {
   case COSET_EXPIRED: return "the token has expired";
   case COSET_NOT_YET_VALID: return "the token isn't valid yet";
   case COSET_ISSUED_LATER: return "the token was issued later than now";
-  case COSET_TOO_OLD: return "the token is too old";
+  case COSET_TOO_OLD: return "the token is too old, or has no time of issue";
   case COSET_ISSUER: return "the claims name another issuer than that of the key";
-  case COSET_AUDIENCE: return "the token is for another audience";
+  case COSET_AUDIENCE: return "the token isn't for one of the verifier's audiences";
   case COSET_HEADERS: return "the headers of a layer contradict each other";
-  case COSET_TOKEN_TYPE: return "the token has another type";
+  case COSET_TOKEN_TYPE: return "the token has none of the accepted types";
   case COSET_HEADER_CLAIMS: return "a header has other claims than the payload";
   case COSET_MISSING: return "the token lacks a required claim";
   case COSET_UNFIT: return "the key doesn't fit the layer";

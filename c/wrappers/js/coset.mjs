@@ -59,8 +59,8 @@ export class CosetError extends Error {
 /** The bytes aren't an item of the kind, or the new item wouldn't be. `offset` is where the bytes stop being one item of
  * CBOR, or null. Only `check` knows it. */
 export class Fault extends CosetError {
-  constructor(status, offset = null) {
-    super(status);
+  constructor(status, offset = null, text = undefined) {
+    super(status, text);
     this.offset = offset;
   }
 }
@@ -861,6 +861,8 @@ function waiting(view, text) {
 /** Returns the name of an issuer as bytes, or null if it is null. */
 function issuerOf(name) {
   if (name === null) return null;
+  if (name === undefined) throw new Misuse("an issuer's name is missing: it is a text, or null for none");
+  if (typeof name !== "string") throw new Misuse("an issuer's name is a text, or null for none");
   if (name === "") throw new Misuse("an issuer's name is empty");
   return utf8(name);
 }
@@ -979,9 +981,15 @@ export async function verifyToken(data, keys, options) {
   }
 }
 
+/** Throws Misuse if a layer is no object. */
+function objectOf(layer) {
+  if (typeof layer !== "object" || layer === null) throw new Misuse("a layer is an object, as verifyToken passes it");
+}
+
 /** Returns the nonce by which a key fits a layer, or null if it doesn't fit. For an algorithm without a nonce, such as a
  * signature's, it is empty. The layer's `keyId`, `iv` and `partialIv` are bytes or null. */
 export function keyFits(key, layer) {
+  objectOf(layer);
   const given = [layer.keyId, layer.iv, layer.partialIv, layer.proof].map(text => text === null ? NOTHING : bytes(text));
   const [status, nonce] = writing("key_fits", [bytes(key), number(layer.form), int64(layer.algorithm), ...given]);
   if (status === Status.UNFIT) return null;
@@ -989,10 +997,10 @@ export function keyFits(key, layer) {
   return nonce;
 }
 
-/** Returns the keys of a KEY_SET that can be read, as received (RFC 9052, section 7). */
+/** Returns the keys of a KEY_SET that can be read, as received (RFC 9052, section 7). A single KEY is no KEY_SET, but a Fault. */
 export function readableKeys(keys) {
   const found = orNull(() => Array.from(elements(own(keys))));
-  if (!found) throw new Fault(Status.UNEXPECTED);
+  if (!found) throw new Fault(Status.UNEXPECTED, null, "a COSE_KeySet is needed, an array of keys");
   return found.filter(key => {
     try {
       check(KEY, key);
@@ -1012,22 +1020,32 @@ function pairsOf(pairs) {
   return found;
 }
 
+/** Returns pairs of the issuers' names and sets of keys. An object of a class, such as a buffer, isn't one with names. */
+function issuersOf(issuers) {
+  if (isPlain(issuers) && !issuers[Symbol.iterator]) return Object.entries(issuers);
+  if (typeof issuers?.[Symbol.iterator] === "function" && !ArrayBuffer.isView(issuers)) return pairsOf(issuers);
+  throw new Misuse("issuers are a plain object, a Map or an array of pairs: a name and a COSE_KeySet for each");
+}
+
 /** The keys of issuers, for `verifyToken`. It says whose key accepted a layer.
  *
- * `issuers` is an object, a Map or an array of pairs: for each issuer's name, as in `iss`, a KEY_SET. The name null is for
+ * `issuers` is a plain object, a Map or an array of pairs: for each issuer's name, as in `iss`, a KEY_SET. The name null is for
  * an issuer whose tokens have no `iss`; undefined is a Misuse. Keys that can't be read are skipped (RFC 9052, section 7).
  *
  * `ciphers` has two methods, which may return promises. They are called only with a KEY that fits the layer:
  * - `verify(key, algorithm, input, proof)` returns true if the proof is a signature or a MAC of the input, else false.
- * - `decrypt(key, algorithm, nonce, aad, ciphertext)` returns the plaintext, or null if the ciphertext isn't authentic. */
+ * - `decrypt(key, algorithm, nonce, aad, ciphertext)` returns the plaintext, or null if the ciphertext isn't authentic. It may
+ *   be left out. A ciphertext for which a key fits is a Misuse then. */
 export class KeyRing {
   #keys;
   #ciphers;
 
   constructor(issuers, ciphers) {
-    const isPlain = typeof issuers === "object" && issuers !== null && !issuers[Symbol.iterator];
+    const decrypt = ciphers?.decrypt ?? null;
+    if (typeof ciphers?.verify !== "function") throw new Misuse("the ciphers have no function verify");
+    if (decrypt !== null && typeof decrypt !== "function") throw new Misuse("decrypt of the ciphers isn't a function");
     this.#ciphers = ciphers;
-    this.#keys = pairsOf(isPlain ? Object.entries(issuers) : issuers).flatMap(([name, keys]) => {
+    this.#keys = issuersOf(issuers).flatMap(([name, keys]) => {
       issuerOf(name);
       return readableKeys(keys).map(key => [name, key]);
     });
@@ -1036,12 +1054,14 @@ export class KeyRing {
   /** Tries each key that fits the layer, in order. Returns a promise of the answer for `verifyToken`. Throws InvalidToken,
    * with UNFIT, if no key fits. */
   async open(layer) {
+    objectOf(layer);
     const { form, algorithm, input, proof, index } = layer;
     let isFitting = false;
     for (const [name, key] of this.#keys) {
       const nonce = keyFits(key, layer);
       if (nonce === null) continue;
       isFitting = true;
+      if (form === ENCRYPT0 && typeof this.#ciphers.decrypt !== "function") throw new Misuse("the ciphers have no function decrypt");
       const said = accepted(form, await (form === ENCRYPT0
         ? this.#ciphers.decrypt(key.slice(), algorithm, nonce, input.slice(), proof.slice())
         : this.#ciphers.verify(key.slice(), algorithm, input.slice(), proof.slice())));
@@ -1192,5 +1212,5 @@ export function versionNumber() {
 
 /** Returns a few words for a status of the header. Anything else has one other text. */
 export function statusText(status) {
-  return textAt(loaded().coset_status_text(NAMES[status] && Number.isInteger(status) ? status : -1));
+  return textAt(loaded().coset_status_text(Number.isInteger(status) && NAMES[status] ? status : -1));
 }

@@ -390,6 +390,7 @@ const tests = {
       }
       assert.equal(coset.statusText(wrong), coset.statusText(-1));
     }
+    assert.equal(coset.statusText(Object.create(null)), coset.statusText(-1));
     for (const number of [-0, 2n ** 63n, -(2n ** 63n) - 1n, 2 ** 53]) {
       const make = () => coset.put(ITEM, NONE, number, 5);
       if (Object.is(number, -0)) assert.deepEqual(make(), Uint8Array.of(0xa1, 0, 5));
@@ -397,7 +398,7 @@ const tests = {
     }
     for (const pairs of [["ab"], [[1]], [[1, 2, 3]], [{ 0: 1, 1: 2, length: 2 }], Uint8Array.of(1), new Set(["ab"]), [new Set([1, 2])], [, [1, 2]]]) {
       assert.ok(await thrown(() => coset.putAll(ITEM, NONE, pairs)) instanceof coset.Misuse, String(pairs));
-      assert.ok(await thrown(() => new coset.KeyRing(pairs, {})) instanceof coset.Misuse, String(pairs));
+      assert.ok(await thrown(() => new coset.KeyRing(pairs, { verify: () => true })) instanceof coset.Misuse, String(pairs));
     }
   },
 
@@ -444,6 +445,49 @@ const tests = {
     for (const name of ["", undefined, 0, false]) assert.ok(await thrown(() => says([[name, set]])) instanceof coset.Misuse);
     assert.ok(await thrown(() => says([[undefined, Uint8Array.of(0x80)]])) instanceof coset.Misuse);
     assert.ok(await thrown(() => says({ as: undefined })) instanceof coset.Misuse);
+  },
+
+  async "a ring without ciphers, or without issuers, is a misuse when it is made"() {
+    const key = coset.putAll(KEY, NONE, [[1, 4], [3, 5], [-1, new Uint8Array(32)]]), set = coset.add(KEY_SET, NONE, key), verify = () => true;
+    const misuses = async (make, told) => {
+      const error = await thrown(make);
+      assert.ok(error instanceof coset.Misuse && error.message.includes(told), `${make}: ${error}`);
+    };
+    await misuses(() => new coset.KeyRing({ as: set }), "no function verify");
+    for (const ciphers of [undefined, null, {}, { verify: true }, { decrypt: verify }, "verify", 1]) {
+      await misuses(() => new coset.KeyRing({ as: set }, ciphers), "no function verify");
+    }
+    for (const decrypt of [true, {}, "x"]) await misuses(() => new coset.KeyRing({ as: set }, { verify, decrypt }), "decrypt");
+    const others = [NONE, set, set.buffer, new DataView(set.buffer), new SharedArrayBuffer(1), new Date(), /x/, 1, null, undefined, true];
+    for (const issuers of others) await misuses(() => new coset.KeyRing(issuers, { verify }), "a name and a COSE_KeySet for each");
+    await misuses(() => new coset.KeyRing([[undefined, set]], { verify }), "an issuer's name is missing");
+    for (const layer of [null, undefined, 1, "x"]) {
+      await misuses(() => coset.keyFits(key, layer), "a layer is an object");
+      await misuses(() => new coset.KeyRing({ as: set }, { verify }).open(layer), "a layer is an object");
+    }
+    const sealed = coset.putAll(KEY, NONE, [[1, 4], [3, 1], [-1, new Uint8Array(16)]]), ring = new coset.KeyRing({ as: coset.add(KEY_SET, NONE, sealed) }, { verify });
+    await misuses(() => coset.verifyToken(nested(1), ring, POLICY), "no function decrypt");
+  },
+
+  async "a single key is no set of keys"() {
+    const key = coset.putAll(KEY, NONE, [[1, 4], [-1, new Uint8Array(32)]]);
+    for (const make of [() => coset.readableKeys(key), () => new coset.KeyRing({ as: key }, { verify: () => true })]) {
+      const fault = await thrown(make);
+      assert.deepEqual([fault.name, fault.reason, fault.offset, fault.message], ["Fault", "UNEXPECTED", null, "a COSE_KeySet is needed, an array of keys"]);
+    }
+  },
+
+  async "reasons with several causes say all of them"() {
+    const token = more => coset.make(SIGN1, ES256, NONE, { content: coset.putAll(CLAIMS, NONE, [[4, 2000], ...more]), proof: new Uint8Array(64) });
+    const says = (more, options) => thrown(() => coset.verifyToken(token(more), () => true, { algorithms: [-7], now: 1000, ...options }));
+    for (const [more, options] of [[[[3, "there"]], { audience: ["here"] }], [[[3, "there"]], {}], [[], { audience: ["here"] }]]) {
+      assert.equal((await says(more, options)).message, "the token is refused: the token isn't for one of the verifier's audiences");
+    }
+    assert.equal((await says([], { types: ["application/cwt"] })).message, "the token is refused: the token has none of the accepted types");
+    for (const more of [[], [[6, 1]]]) {
+      assert.equal((await says(more, { maxAge: 60 })).message, "the token is refused: the token is too old, or has no time of issue");
+    }
+    assert.match((await thrown(() => coset.check(99, NONE))).message, /^an argument has no meaning for this call/);
   },
 
   async "a large input leaves the module usable"() {

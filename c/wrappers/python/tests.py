@@ -159,6 +159,47 @@ for call in (lambda it: coset.verify(coset.SIGN1, token, it, lambda question: Tr
         assert type(raised(call, wrong)) is TypeError, wrong
 assert coset.status_text(1 << 32) == coset.status_text(-1) != coset.status_text(0)
 
+# The text of an error says which argument is wrong, and what it should be.
+for told, call in (
+    ("algorithms takes a list, not int", lambda: coset.verify(coset.SIGN1, token, -7, lambda question: True)),
+    ("algorithms takes a list, not NoneType", lambda: coset.decrypt(coset.ENCRYPT0, sealed, None, lambda question: b"")),
+    ("each of algorithms is an integer, not str", lambda: coset.verify(coset.SIGN1, token, ["ES256"], lambda question: True)),
+    ("each of algorithms is an integer, not str", lambda: coset.verify_token(token, lambda layer: True, ["ES256"])),
+    ("required takes a list, not int", lambda: coset.verify_token(token, lambda layer: True, [-7], required=7)),
+    ("each of critical is an integer, not NoneType", lambda: coset.message(coset.SIGN1, token, critical=[None])),
+    ("audience takes a list, not int", lambda: coset.verify_token(token, lambda layer: True, [-7], audience=5)),
+    ("untagged_form is an integer, not str", lambda: coset.verify_token(token, lambda layer: True, [-7], untagged_form="SIGN1")),
+    ("a label is an integer, not NoneType", lambda: coset.label_int(coset.SIGN1, token, coset.IN_PROTECTED, None)),
+    ("a label that isn't a text is an integer, not NoneType", lambda: coset.label(coset.SIGN1, token, coset.IN_PROTECTED, None)),
+    ("a label that isn't a text is an integer, not NoneType", lambda: coset.put(coset.HEADER, b"", None, 1)),
+    ("a label that isn't a text is an integer, not bytes", lambda: coset.put_all(coset.HEADER, b"", {b"a": 1})),
+    ("a kind is an integer, not str", lambda: coset.check("SIGN1", token)),
+    ("an index is an integer, not NoneType", lambda: coset.member(coset.KEY_SET, b"\x80", None)),
+    ("pairs are a dict, or tuples of two", lambda: coset.put_all(coset.HEADER, b"", 5)),
+    ("pairs are a dict, or tuples of two", lambda: coset.put_all(coset.HEADER, b"", [(1, 2, 3)])),
+    ("issuers are a dict, or tuples of a name and a COSE_KeySet", lambda: coset.KeyRing(b"\x80", object())),
+    ("issuers are a dict, or tuples of a name and a COSE_KeySet", lambda: coset.KeyRing(None, object())),
+):
+    error = raised(call)
+    assert (type(error), str(error)) == (TypeError, told), (told, error)
+assert str(raised(coset.part, coset.SIGN1, token, 9)) == coset.status_text(coset.Status.MISUSE)
+assert coset.status_text(coset.Status.MISUSE).startswith("an argument has no meaning for this call")
+
+# A single key is no set of keys.
+for call in (coset.readable_keys, lambda data: coset.KeyRing({"as": data}, object())):
+    error = raised(call, key)
+    assert type(error) is coset.Fault and (error.status, error.offset) == (coset.Status.UNEXPECTED, None), error
+    assert str(error) == str(copy.copy(pickle.loads(pickle.dumps(error)))) == "a COSE_KeySet is needed, an array of keys"
+assert str(coset.Fault(coset.Status.UNEXPECTED)) == coset.status_text(coset.Status.UNEXPECTED)
+
+# A reason with several causes says all of them.
+here = {"audience": ["here"]}
+for claims, more, told in (({3: "there"}, here, "isn't for one of the verifier's audiences"), ({3: "there"}, {}, "isn't for one of the verifier's audiences"),
+                           ({}, here, "isn't for one of the verifier's audiences"), ({}, {"types": ["application/cwt"]}, "has none of the accepted types"),
+                           ({}, {"max_age": 60}, "is too old, or has no time of issue"), ({6: 1}, {"max_age": 60}, "is too old, or has no time of issue")):
+    given = coset.make(coset.SIGN1, b"\xa1\x01\x26", b"", coset.put_all(coset.CLAIMS, b"", {4: 2000, **claims}), bytes(64))
+    assert str(raised(coset.verify_token, given, lambda layer: True, [-7], now=1000, **more)) == f"the token is refused: the token {told}"
+
 for wrong in (0, 1, True, [5], "5", None, 1.0, array.array("B", [5])):
     assert type(raised(coset.Encoded, wrong)) is TypeError, wrong
 assert copy.deepcopy(pickle.loads(pickle.dumps(coset.Encoded(b"\x05")))) == b"\x05"

@@ -472,7 +472,11 @@ fn answer(w: &[&str]) -> Result<String, Error> {
             let (label, value) = coset::pair_spans(k, &input, w[3].parse().unwrap())?;
             format!("{} {}", span(label), span(value))
         }
-        "keys" => coset::readable_keys(&input)?.into_iter().map(hex).collect::<Vec<_>>().join(" "),
+        "keys" => {
+            // The header has no status for NotKeySet.
+            let keys = coset::readable_keys(&input).map_err(|error| if error == Error::NotKeySet { Error::Unexpected } else { error });
+            keys?.into_iter().map(hex).collect::<Vec<_>>().join(" ")
+        }
         "key_of" => hex(&coset::key_of(&input, &bytes(w[4]))?),
         "label_bytes" => hex(&coset::label_bytes(k, &input, map(w[4]), w[5].parse().unwrap())?),
         "label_int" => coset::label_int(k, &input, map(w[3]), w[4].parse().unwrap())?.to_string(),

@@ -403,7 +403,8 @@ pub struct VerifiedLayer {
 #[derive(Clone, Copy, Debug, PartialEq, Eq)]
 pub struct InvalidToken {
     /// The first reason against the token. Or `Memory`; or `Misuse` if the policy has no meaning, or
-    /// the answer for a layer.
+    /// the answer for a layer. Without a `layer`, a fault or `NotKeySet` is the error of other bytes,
+    /// such as a set of keys.
     pub reason: Error,
     /// The index of the refused layer, if the reason is against a layer. The outermost has 0.
     pub layer: Option<usize>,
@@ -412,15 +413,19 @@ pub struct InvalidToken {
     pub number: Option<i64>,
 }
 
+const WRONG_POLICY: &str = "the policy has no meaning: an algorithm or a required claim isn't assigned, a number of seconds is \
+    too large, the greatest age is 0, or there are audiences with any_audience";
+const WRONG_ANSWER: &str = "an encrypted layer has a plaintext, any other layer has none, and no issuer's name is empty";
+
 impl fmt::Display for InvalidToken {
     fn fmt(&self, f: &mut fmt::Formatter<'_>) -> fmt::Result {
-        match self.layer {
-            Some(index) => write!(f, "layer {index} of the token is refused: ")?,
-            None => write!(f, "the token is refused: ")?,
-        }
-        match self.reason {
-            Error::Absent => write!(f, "it carries no payload or ciphertext")?,
-            reason => write!(f, "{reason}")?,
+        match (self.reason, self.layer) {
+            (Error::Misuse, None) => return f.write_str(WRONG_POLICY),
+            (Error::Misuse, Some(index)) => return write!(f, "the answer for layer {index} of the token has no meaning: {WRONG_ANSWER}"),
+            (Error::Absent, Some(index)) => write!(f, "layer {index} of the token is refused: it carries no payload or ciphertext")?,
+            (reason, Some(index)) => write!(f, "layer {index} of the token is refused: {reason}")?,
+            (reason, None) if reason.is_of_token() => write!(f, "the token is refused: {reason}")?,
+            (reason, None) => write!(f, "{reason}")?,
         }
         match self.number {
             Some(number) => write!(f, " ({number})"),
@@ -447,6 +452,8 @@ pub enum Error {
     Extraneous,
     /// An item isn't what its place requires.
     Unexpected,
+    /// A set of keys is needed, an array. A single key isn't one. From [`readable_keys`] alone.
+    NotKeySet,
     /// Two keys of a map are the same label.
     Duplicate,
     /// An integer is outside the range of its place.
@@ -459,7 +466,8 @@ pub enum Error {
     /// is added to, have no place for an argument.
     Absent,
     /// A payload or ciphertext is given as detached although the message carries one, or the call
-    /// doesn't take the kind. Or an index isn't 0 for a kind without signers.
+    /// doesn't take the kind. Or an index isn't 0 for a kind without signers. From [`verify_token`]:
+    /// the policy has no meaning, or the answer for a layer.
     Misuse,
     /// The value is there, but isn't a string, or isn't an integer in the range of `i64`. From a
     /// call that returns a place also: a string is in chunks.
@@ -490,7 +498,7 @@ pub enum Error {
     TooOld,
     /// The claims name another issuer than that of the key.
     Issuer,
-    /// The token is for another audience.
+    /// The token isn't for one of the verifier's audiences.
     Audience,
     /// A label is in both headers of a layer, or a layer has an IV and a Partial IV. From
     /// [`decrypt`]: the message has both IVs.
@@ -512,12 +520,13 @@ impl fmt::Display for Error {
             Error::Deep => "arrays, maps and tags nest too deep",
             Error::Extraneous => "bytes follow the item",
             Error::Unexpected => "an item isn't as its place asks",
+            Error::NotKeySet => "a COSE_KeySet is needed, an array of keys",
             Error::Duplicate => "two keys of a map are one label",
             Error::OutOfRange => "an integer lies outside the range of its place",
             Error::Unregistered => "an integer isn't registered",
             Error::NotPrivate => "an integer isn't registered, nor for private use",
             Error::Absent => "what is asked for isn't there, or what is given has no place",
-            Error::Misuse => "a kind of another call, or a payload that is given twice",
+            Error::Misuse => "an argument has no meaning for this call, or contradicts another one",
             Error::Type => "what is asked for is there, and of another kind",
             Error::Empty => "the list is empty",
             Error::NotAllowed => "the algorithm isn't one that is allowed",
@@ -530,11 +539,11 @@ impl fmt::Display for Error {
             Error::Expired => "the token has expired",
             Error::NotYetValid => "the token isn't valid yet",
             Error::IssuedLater => "the token was issued later than now",
-            Error::TooOld => "the token is too old",
+            Error::TooOld => "the token is too old, or has no time of issue",
             Error::Issuer => "the claims name another issuer than that of the key",
-            Error::Audience => "the token is for another audience",
+            Error::Audience => "the token isn't for one of the verifier's audiences",
             Error::Headers => "the headers of a layer contradict each other",
-            Error::TokenType => "the token has another type",
+            Error::TokenType => "the token has none of the accepted types",
             Error::HeaderClaims => "a header has other claims than the payload",
             Error::Missing => "the token lacks a required claim",
         })
@@ -543,6 +552,19 @@ impl fmt::Display for Error {
 
 #[cfg(not(coset_no_std))]
 impl std::error::Error for Error {}
+
+impl Error {
+    /// Returns true for the reasons against a whole token. No other call returns them.
+    fn is_of_token(self) -> bool {
+        use Error::{Audience, Expired, HeaderClaims, IssuedLater, Issuer, Missing, NoExpiration, NotClaims, NotYetValid};
+        use Error::{TokenType, TooDeep, TooOld, Unauthenticated};
+        matches!(
+            self,
+            TooDeep | Unauthenticated | NotClaims | NoExpiration | Expired | NotYetValid | IssuedLater | TooOld | Issuer | Audience
+                | TokenType | HeaderClaims | Missing
+        )
+    }
+}
 
 /// The reason why bytes aren't an item of a kind. `offset` is where they stop being one item of
 /// CBOR, if that is known.
@@ -1447,8 +1469,9 @@ impl Handed {
 ///
 /// # Errors
 /// The first reason against the token, layer by layer from the outermost in. Or:
-/// - `Misuse` if the policy has no meaning, such as an unassigned algorithm. Also if the answer for
-///   an encrypted layer has no plaintext, or the answer for another layer has one.
+/// - `Misuse` without a layer if the policy has no meaning, such as an unassigned algorithm.
+/// - `Misuse` with a layer if the answer for an encrypted layer has no plaintext, or the answer for
+///   another layer has one. Also if the name of the issuer is empty.
 /// - `Memory` if an allocation of the library fails.
 pub fn verify_token<'a>(
     token: &[u8],
@@ -1520,11 +1543,12 @@ pub fn key_fits(key: &[u8], layer: &Layer<'_>) -> Result<Option<Vec<u8>>, Error>
 /// Returns the keys of a `Kind::KeySet` that can be read, as received (RFC 9052, section 7).
 ///
 /// # Errors
-/// - A fault in bytes that aren't an array.
+/// - `NotKeySet` if the bytes are an item, and no array. A single key is no set of keys.
+/// - A fault in bytes that aren't an item.
 /// - `Memory` if an allocation of the library fails.
 pub fn readable_keys(set: &[u8]) -> Result<Vec<&[u8]>, Error> {
     let keys = match elements(set) {
-        Err(Error::Absent) => return Err(Error::Unexpected),
+        Err(Error::Absent) => return Err(Error::NotKeySet),
         keys => keys?,
     };
     let mut found = Vec::new();

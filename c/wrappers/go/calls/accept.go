@@ -38,6 +38,6 @@ func accepted(token []byte, issuers []coset.Issuer, now time.Time, ciphers coset
 		return nil, err
 	}
 	return coset.VerifyToken(token, ring, coset.TokenPolicy{
-		Algorithms: []int64{coset.ES256}, Audience: []string{"coap://light.example.com"}, Leeway: 60, Now: now,
+		Algorithms: []int64{coset.ES256}, Audience: []string{"coap://light.example.com"}, Leeway: time.Minute, Now: now,
 	})
 }

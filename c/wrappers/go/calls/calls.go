@@ -282,11 +282,10 @@ func (r *ring) Verify(key []byte, algorithm int64, input, proof []byte) bool {
 // place of the token.
 func opened(opener coset.Opener, s *script, given []byte, w []string) string {
 	rules := strings.Split(w[1], ",")
-	leeway, _ := strconv.ParseUint(rules[0], 10, 64)
-	age, _ := strconv.ParseUint(rules[1], 10, 64)
+	seconds := func(word string) time.Duration { return time.Duration(integer(word)) * time.Second }
 	token, err := coset.VerifyToken(given, opener, coset.TokenPolicy{
 		Algorithms: integers(w[2]), Critical: integers(w[3]), Required: integers(w[4]), Audience: texts(w[5]), Types: texts(w[6]),
-		Leeway: leeway, MaxAge: age, UntaggedForm: coset.Kind(integer(rules[2])), AuthenticatedBy: coset.Authentication(integer(rules[3])),
+		Leeway: seconds(rules[0]), MaxAge: seconds(rules[1]), UntaggedForm: coset.Kind(integer(rules[2])), AuthenticatedBy: coset.Authentication(integer(rules[3])),
 		AnyAudience: rules[4] != "0", MayNotExpire: rules[5] != "0", MayBeIssuedLater: rules[6] != "0", Now: time.Unix(integer(w[0]), 0),
 	})
 	var refused *coset.InvalidToken

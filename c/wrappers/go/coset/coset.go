@@ -18,8 +18,8 @@ import "C"
 
 import (
 	"fmt"
-	"math"
 	"time"
+	"unicode/utf8"
 	"unsafe"
 )
 
@@ -180,6 +180,14 @@ func (s Status) Error() string {
 func (s Status) isFault() bool {
 	return s >= ErrEnds && s <= ErrNotPrivate
 }
+
+// A misuse is the cause of an ErrMisuse that the package knows itself.
+type misuse string
+
+func (m misuse) Error() string { return string(m) }
+
+// Unwrap returns ErrMisuse.
+func (m misuse) Unwrap() error { return ErrMisuse }
 
 // A Fault says why the bytes aren't an item of the kind. Offset is where they stop being one item of CBOR, or -1.
 type Fault struct {
@@ -519,16 +527,27 @@ const (
 	withSigner
 )
 
-// has returns true if each field that isn't zero has a meaning for the call, and for the kind.
-func (o Options) has(kind Kind, fields int) bool {
-	return (o.Index == 0 || fields&withIndex != 0 && kind&0xff == Sign) && (o.Detached == nil || fields&withDetached != 0) &&
-		(o.Critical == nil || fields&withCritical != 0) && (o.Signer == nil || fields&withSigner != 0)
+// allowed returns an error if a field that isn't zero has no meaning for the call, or for the kind.
+func (o Options) allowed(kind Kind, fields int) error {
+	switch {
+	case o.Index != 0 && fields&withIndex != 0 && kind&0xff != Sign:
+		return misuse("an index of a signer, for a kind without signers")
+	case o.Index != 0 && fields&withIndex == 0:
+		return misuse("the option Index has no meaning for this call")
+	case o.Detached != nil && fields&withDetached == 0:
+		return misuse("the option Detached has no meaning for this call")
+	case o.Critical != nil && fields&withCritical == 0:
+		return misuse("the option Critical has no meaning for this call")
+	case o.Signer != nil && fields&withSigner == 0:
+		return misuse("the option Signer has no meaning for this call")
+	}
+	return nil
 }
 
 // Structure returns the structure that is signed (by the signer at an index), authenticated, or goes with the ciphertext.
 func Structure(kind Kind, data []byte, o Options) ([]byte, error) {
-	if !o.has(kind, withIndex|withDetached) {
-		return nil, ErrMisuse
+	if err := o.allowed(kind, withIndex|withDetached); err != nil {
+		return nil, err
 	}
 	in, n := at(data)
 	aad, aadLen := at(o.ExternalAAD)
@@ -551,8 +570,8 @@ func RecipientStructure(holder Kind, data, externalAAD []byte) ([]byte, error) {
 // CountersignStructure returns the structure that a countersignature of a message, a signature or a recipient signs. The
 // label is 7, 9, 11 or 12 (RFC 8152, section 4.5 and appendix A.2; RFC 9338, section 2).
 func CountersignStructure(kind Kind, data []byte, label int64, o Options) ([]byte, error) {
-	if !o.has(kind, withDetached|withSigner) {
-		return nil, ErrMisuse
+	if err := o.allowed(kind, withDetached|withSigner); err != nil {
+		return nil, err
 	}
 	in, n := at(data)
 	signer, signerLen := at(o.Signer)
@@ -582,8 +601,8 @@ type Message struct {
 // ReadMessage returns everything that verifying or decrypting a message takes. For a message with signers, it is for the
 // signer at an index.
 func ReadMessage(kind Kind, data []byte, o Options) (*Message, error) {
-	if !o.has(kind, withIndex|withDetached|withCritical) {
-		return nil, ErrMisuse
+	if err := o.allowed(kind, withIndex|withDetached|withCritical); err != nil {
+		return nil, err
 	}
 	in, n := at(data)
 	aad, aadLen := at(o.ExternalAAD)
@@ -685,10 +704,10 @@ func Verify(kind Kind, data []byte, algorithms []int64, verifier Verifier, o Opt
 	switch kind & 0xff {
 	case Sign1, Sign, Mac0, Mac:
 	default:
-		return nil, ErrMisuse
+		return nil, misuse("a kind without a signature or a tag")
 	}
 	if verifier == nil {
-		return nil, ErrMisuse
+		return nil, misuse("the verifier is nil")
 	}
 	if o.Detached != nil {
 		o.Detached = copied(o.Detached)
@@ -736,8 +755,14 @@ func (q *Question) addIVs(kind Kind, data []byte) (err error) {
 // proof is the ciphertext, with the IV and the partial IV. A message with both IVs is refused with ErrHeaders (RFC 8152, section
 // 3.1).
 func Decrypt(kind Kind, data []byte, algorithms []int64, decrypter Decrypter, o Options) ([]byte, error) {
-	if kind&0xff != Encrypt0 || decrypter == nil || !o.has(kind, withDetached|withCritical) {
-		return nil, ErrMisuse
+	if kind&0xff != Encrypt0 {
+		return nil, misuse("a kind of another call")
+	}
+	if decrypter == nil {
+		return nil, misuse("the decrypter is nil")
+	}
+	if err := o.allowed(kind, withDetached|withCritical); err != nil {
+		return nil, err
 	}
 	data, ciphertext := copied(data), o.Detached
 	found, err := ReadMessage(kind, data, o)
@@ -794,15 +819,16 @@ type OpenerFunc func(layer *Layer) (*Opened, error)
 func (f OpenerFunc) Open(layer *Layer) (*Opened, error) { return f(layer) }
 
 // A TokenPolicy says which tokens are accepted. The empty policy accepts none, because it allows no algorithm. The fields
-// are those of the policy in docs/C.md. Leeway and MaxAge are in seconds. If Now is the zero time, it is the clock's time.
+// are those of the policy in docs/C.md. Leeway and MaxAge count in whole seconds: a fraction is dropped. They aren't negative,
+// and MaxAge is zero, for no greatest age, or a second or more. If Now is the zero time, it is the clock's time.
 type TokenPolicy struct {
 	Algorithms       []int64
 	Audience         []string
 	Types            []string
 	Required         []int64
 	Critical         []int64
-	Leeway           uint64
-	MaxAge           uint64
+	Leeway           time.Duration
+	MaxAge           time.Duration
 	UntaggedForm     Kind
 	AuthenticatedBy  Authentication
 	AnyAudience      bool
@@ -913,7 +939,10 @@ func waiting(view *C.coset_layer, text []byte) *Layer {
 // append adds an opened layer. The plaintext and the name of the issuer follow the bytes of the layer.
 func (o *opening) append(view *C.coset_layer, text []byte, opened *Opened) error {
 	if (Kind(view.form) == Encrypt0) != (opened.Plaintext != nil) {
-		return ErrMisuse
+		return misuse("the answer for an Encrypt0 has a plaintext, and the answer for another layer has none")
+	}
+	if !utf8.ValidString(opened.Issuer) {
+		return misuse("an issuer's name isn't UTF-8")
 	}
 	start := len(o.known)
 	entry := C.coset_opened{form: view.form, offset: C.size_t(start), structure_len: view.structure_len, proof_len: view.proof_len}
@@ -932,7 +961,10 @@ func (o *opening) append(view *C.coset_layer, text []byte, opened *Opened) error
 
 // refusal returns the error of a status other than success.
 func refusal(status Status, view *C.coset_layer) error {
-	if status == ErrMisuse || status == ErrMemory {
+	if status == ErrMisuse {
+		return misuse("an algorithm or a required claim isn't assigned, or UntaggedForm or AuthenticatedBy has no meaning")
+	}
+	if status == ErrMemory {
 		return status
 	}
 	refused := &InvalidToken{Reason: status, Layer: -1}
@@ -974,16 +1006,39 @@ func (o *opening) open(view *C.coset_layer, text []byte, opener Opener) error {
 	return o.append(view, text, opened)
 }
 
+// check returns an error if a field has no meaning. A MaxAge below a second would be no greatest age at all.
+func (p *TokenPolicy) check() error {
+	switch {
+	case p.Leeway < 0:
+		return misuse("Leeway is negative")
+	case p.MaxAge < 0 || p.MaxAge > 0 && p.MaxAge < time.Second:
+		return misuse("MaxAge is negative, or less than a second")
+	case p.AnyAudience && len(p.Audience) > 0:
+		return misuse("there is an Audience with AnyAudience")
+	}
+	for _, names := range [][]string{p.Audience, p.Types} {
+		for _, name := range names {
+			if !utf8.ValidString(name) {
+				return misuse("a text of the policy isn't UTF-8")
+			}
+		}
+	}
+	return nil
+}
+
 // VerifyToken verifies a web token (RFC 8392). The opener, such as a *KeyRing, gets each layer from the outermost in. It isn't
 // called for an empty signature or MAC, which is refused. If the token is refused, the error is an *InvalidToken. ErrMisuse means
 // that an argument or an answer has no meaning, such as an unassigned algorithm, or a signature that has a plaintext.
 func VerifyToken(data []byte, opener Opener, policy TokenPolicy) (*VerifiedToken, error) {
-	if opener == nil || policy.Leeway > math.MaxInt64 || policy.MaxAge > math.MaxInt64 {
-		return nil, ErrMisuse
+	if opener == nil {
+		return nil, misuse("the opener is nil")
+	}
+	if err := policy.check(); err != nil {
+		return nil, err
 	}
 	o := opening{
 		rules: C.coset_rules{
-			size: C.sizeof_coset_rules, leeway: C.uint64_t(policy.Leeway), max_age: C.uint64_t(policy.MaxAge),
+			size: C.sizeof_coset_rules, leeway: C.uint64_t(policy.Leeway / time.Second), max_age: C.uint64_t(policy.MaxAge / time.Second),
 			untagged_form: C.uint32_t(policy.UntaggedForm), authenticated_by: C.uint32_t(policy.AuthenticatedBy),
 			any_audience: number(policy.AnyAudience), may_not_expire: number(policy.MayNotExpire),
 			may_be_issued_later: number(policy.MayBeIssuedLater),
@@ -1128,11 +1183,12 @@ func KeyFits(key []byte, layer *Layer) (nonce []byte, fits bool, err error) {
 	return nonce, err == nil, err
 }
 
-// ReadableKeys returns the keys of a KeySet that can be read, as received (RFC 9052, section 7).
+// ReadableKeys returns the keys of a KeySet that can be read, as received (RFC 9052, section 7). A single key is no KeySet, but
+// a fault.
 func ReadableKeys(keys []byte) ([][]byte, error) {
 	found, err := elements(copied(keys))
 	if err == ErrAbsent {
-		return nil, &Fault{ErrUnexpected, -1}
+		return nil, fmt.Errorf("a COSE_KeySet is needed, an array of keys: %w", &Fault{ErrUnexpected, -1})
 	}
 	if err != nil {
 		return nil, err
@@ -1171,7 +1227,7 @@ type KeyRing struct {
 // NewKeyRing returns a ring of the issuers' keys. Keys that can't be read are skipped (RFC 9052, section 7).
 func NewKeyRing(issuers []Issuer, ciphers Ciphers) (*KeyRing, error) {
 	if ciphers == nil {
-		return nil, ErrMisuse
+		return nil, misuse("the ciphers are nil")
 	}
 	ring := KeyRing{ciphers: ciphers}
 	for _, issuer := range issuers {
@@ -1309,7 +1365,8 @@ func half(value any, held *[]byte) (form C.uint32_t, whole C.int64_t, start, len
 	case []byte:
 		form, bytes = C.COSET_BYTES, it
 	default:
-		return 0, 0, 0, 0, ErrMisuse
+		told := fmt.Sprintf("a value is an int, an int64, a string, a float64, a []byte or an Encoded, and no %T", value)
+		return 0, 0, 0, 0, misuse(told)
 	}
 	start = C.size_t(len(*held))
 	*held = append(*held, bytes...)
@@ -1321,6 +1378,11 @@ func PutAll(kind Kind, data []byte, pairs []Pair) ([]byte, error) {
 	structs, bytes := make([]C.coset_pair, len(pairs)+1), []byte{}
 	for i, pair := range pairs {
 		it, err := &structs[i], error(nil)
+		switch pair.Label.(type) {
+		case int, int64, string:
+		default:
+			return nil, misuse(fmt.Sprintf("a label is an int, an int64 or a string, and no %T", pair.Label))
+		}
 		if it.label_form, it.label, it.label_at, it.label_len, err = half(pair.Label, &bytes); err != nil {
 			return nil, err
 		}
@@ -1338,8 +1400,8 @@ func PutAll(kind Kind, data []byte, pairs []Pair) ([]byte, error) {
 // StructureOf does the same as Structure for a message that isn't made yet, from its protected header. The content is the
 // payload; a structure that goes with a ciphertext has none. Signer is the signer's protected header, for Sign alone.
 func StructureOf(kind Kind, header, content []byte, o Options) ([]byte, error) {
-	if !o.has(kind, withSigner) {
-		return nil, ErrMisuse
+	if err := o.allowed(kind, withSigner); err != nil {
+		return nil, err
 	}
 	prot, protLen := at(header)
 	signer, signerLen := at(o.Signer)

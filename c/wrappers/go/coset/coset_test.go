@@ -151,7 +151,7 @@ func TestRefusals(t *testing.T) {
 	}
 	for _, wrong := range []*Opened{{Issuer: "as"}, {Plaintext: []byte{}, Issuer: "\xff"}} {
 		_, err := VerifyToken(token(t, 1), OpenerFunc(func(*Layer) (*Opened, error) { return wrong, nil }), policy)
-		if err == nil || len(wrong.Plaintext) == 0 && wrong.Plaintext == nil && err != ErrMisuse {
+		if err == nil || len(wrong.Plaintext) == 0 && wrong.Plaintext == nil && !errors.Is(err, ErrMisuse) {
 			t.Errorf("%v", err)
 		}
 	}
@@ -235,18 +235,134 @@ func TestFieldsWithoutMeaning(t *testing.T) {
 		},
 		"Structure with an index": func() ([]byte, error) { return Structure(Sign1+Either, signed, Options{Index: 1}) },
 	} {
-		if _, err := call(); err != ErrMisuse {
+		if _, err := call(); !errors.Is(err, ErrMisuse) || err.Error() == ErrMisuse.Error() {
 			t.Errorf("%s: %v", name, err)
 		}
 	}
-	for _, change := range []func(*TokenPolicy){func(p *TokenPolicy) { p.Leeway = 1 << 63 }, func(p *TokenPolicy) { p.MaxAge = 1 << 63 }} {
+}
+
+func TestPoliciesWithoutMeaning(t *testing.T) {
+	for cause, change := range map[string]func(*TokenPolicy){
+		"Leeway is negative":                        func(p *TokenPolicy) { p.Leeway = -1 },
+		"MaxAge is negative, or less than a second": func(p *TokenPolicy) { p.MaxAge = -time.Hour },
+		"MaxAge is negative, or ":                   func(p *TokenPolicy) { p.MaxAge = time.Second - 1 },
+		"there is an Audience with AnyAudience":     func(p *TokenPolicy) { p.AnyAudience = true },
+		"a text of the policy isn't UTF-8":          func(p *TokenPolicy) { p.Types = []string{"\xff"} },
+		"an algorithm or a required claim":          func(p *TokenPolicy) { p.Algorithms = []int64{9999} },
+		"UntaggedForm":                              func(p *TokenPolicy) { p.UntaggedForm = Sign },
+	} {
 		p := policy
 		change(&p)
-		if _, err := VerifyToken(token(t, 1), says, p); err != ErrMisuse {
-			t.Errorf("%v", err)
+		if _, err := VerifyToken(token(t, 1), says, p); !errors.Is(err, ErrMisuse) || !strings.Contains(err.Error(), cause) {
+			t.Errorf("%s: %v", cause, err)
 		}
 	}
 }
+
+// claimed returns a signed token with these times, and a policy for the time 1000.
+func claimed(t *testing.T, exp, iat int64) ([]byte, TokenPolicy) {
+	claims := must(t)(PutAll(Claims, nil, []Pair{{1, "as"}, {4, exp}, {6, iat}}))
+	signed := must(t)(Make(Sign1, must(t)(PutInt(Header, nil, 1, ES256)), nil, claims, make([]byte, 64)))
+	return signed, TokenPolicy{Algorithms: []int64{ES256}, Now: time.Unix(1000, 0)}
+}
+
+// A leeway and an age are durations, of which whole seconds count.
+func TestDurations(t *testing.T) {
+	minute, second := time.Minute, time.Second
+	for _, it := range []struct {
+		exp, iat    int64
+		leeway, age time.Duration
+		want        error
+	}{
+		{1001, 900, 0, 0, nil}, {1000, 900, 0, 0, ErrExpired}, {1000, 900, second - 1, 0, ErrExpired}, {1000, 900, second, 0, nil},
+		{1000, 900, 2*second - 1, 0, nil}, {999, 900, 2*second - 1, 0, ErrExpired}, {941, 900, minute, 0, nil}, {940, 900, minute, 0, ErrExpired},
+		{1 << 40, 940, 0, minute, ErrTooOld}, {1 << 40, 941, 0, minute, nil}, {1 << 40, 941, 0, minute + second - 1, nil},
+		{1 << 40, 940, 0, minute + second - 1, ErrTooOld}, {1 << 40, 940, 0, minute + second, nil}, {1 << 40, 999, 0, second, ErrTooOld},
+		{1 << 40, 1000, 0, second, nil}, {1 << 40, 1, 0, 1<<63 - 1, nil}, {1, 1, 1<<63 - 1, 0, nil},
+	} {
+		signed, p := claimed(t, it.exp, it.iat)
+		p.Leeway, p.MaxAge = it.leeway, it.age
+		if _, err := VerifyToken(signed, says, p); err != it.want && !errors.Is(err, it.want) {
+			t.Errorf("%v: %v", it, err)
+		}
+	}
+}
+
+// A misuse says what the cause is, if the package knows it.
+func TestCausesOfMisuse(t *testing.T) {
+	yes := VerifierFunc(func(*Question) bool { return true })
+	put := func(label, value any) func() error {
+		return func() error { _, err := PutAll(Claims, nil, []Pair{{label, value}}); return err }
+	}
+	for cause, call := range map[string]func() error{
+		"and no uint": put(1, uint(1)), "and no bool": put(1, true), "and no <nil>": put(1, nil), "and no []string": put(1, []string{"a"}),
+		"a label is an int, an int64 or a string, and no float64": put(1.5, 1), "a label is an int, an int64 or a string, and no []uint8": put([]byte{1}, 1),
+		"the ciphers are nil":   func() error { _, err := NewKeyRing(nil, nil); return err },
+		"the opener is nil":     func() error { _, err := VerifyToken(nil, nil, policy); return err },
+		"the verifier is nil":   func() error { _, err := Verify(Sign1, nil, nil, nil, Options{}); return err },
+		"the decrypter is nil":  func() error { _, err := Decrypt(Encrypt0, nil, nil, nil, Options{}); return err },
+		"a kind without a sign": func() error { _, err := Verify(Encrypt0, nil, nil, yes, Options{}); return err },
+		"a kind of another":     func() error { _, err := Decrypt(Sign1, nil, nil, nil, Options{}); return err },
+		"isn't UTF-8": func() error {
+			_, err := VerifyToken(token(t, 1), OpenerFunc(func(layer *Layer) (*Opened, error) {
+				return &Opened{append([]byte{}, layer.Proof...), "\xff"}, nil
+			}), policy)
+			return err
+		},
+		"an argument has no meaning for this call": func() error { return Check(99, nil) },
+	} {
+		if err := call(); !errors.Is(err, ErrMisuse) || !strings.Contains(err.Error(), cause) {
+			t.Errorf("%s: %v", cause, err)
+		}
+	}
+}
+
+// The reasons hold for each of their causes: a token for others, one without the claim, and a verifier that names nothing.
+func TestReasonsWithSeveralCauses(t *testing.T) {
+	signed, base := claimed(t, 2000, 900)
+	header := must(t)(PutInt(Header, nil, 1, ES256))
+	bare := must(t)(Make(Sign1, header, nil, must(t)(PutAll(Claims, nil, []Pair{{3, "there"}, {4, 2000}})), make([]byte, 64)))
+	for _, it := range []struct {
+		token  []byte
+		reason string
+		change func(*TokenPolicy)
+	}{
+		{signed, "the token isn't for one of the verifier's audiences", func(p *TokenPolicy) { p.Audience = []string{"here"} }},
+		{bare, "the token isn't for one of the verifier's audiences", func(p *TokenPolicy) { p.Audience = []string{"here"} }},
+		{bare, "the token isn't for one of the verifier's audiences", func(p *TokenPolicy) {}},
+		{signed, "the token has none of the accepted types", func(p *TokenPolicy) { p.Types = []string{"application/cwt"} }},
+		{signed, "the token is too old, or has no time of issue", func(p *TokenPolicy) { p.MaxAge = time.Minute }},
+		{bare, "the token is too old, or has no time of issue", func(p *TokenPolicy) { p.AnyAudience, p.MaxAge = true, time.Minute }},
+	} {
+		p := base
+		it.change(&p)
+		if _, err := VerifyToken(it.token, says, p); err == nil || err.Error() != "the token is refused: "+it.reason {
+			t.Errorf("%s: %v", it.reason, err)
+		}
+	}
+}
+
+func TestSingleKeyIsNoSet(t *testing.T) {
+	key := must(t)(PutAll(Key, nil, []Pair{{1, 4}, {-1, make([]byte, 32)}}))
+	_, alone := ReadableKeys(key)
+	_, inRing := NewKeyRing([]Issuer{{"as", key}}, ringCiphers{})
+	for _, err := range []error{alone, inRing} {
+		var fault *Fault
+		if !errors.As(err, &fault) || !errors.Is(err, ErrUnexpected) || !strings.Contains(err.Error(), "a COSE_KeySet is needed, an array of keys") {
+			t.Errorf("%v", err)
+		}
+	}
+	if keys, err := ReadableKeys(must(t)(Add(KeySet, nil, key))); err != nil || len(keys) != 1 || !bytes.Equal(keys[0], key) {
+		t.Errorf("%x, %v", keys, err)
+	}
+}
+
+// ringCiphers accept nothing.
+type ringCiphers struct{}
+
+func (ringCiphers) Verify([]byte, int64, []byte, []byte) bool { return false }
+
+func (ringCiphers) Decrypt([]byte, int64, []byte, []byte, []byte) ([]byte, bool) { return nil, false }
 
 func TestFractionsOfSeconds(t *testing.T) {
 	claims := must(t)(PutAll(Claims, nil, []Pair{{1, "as"}, {3, "here"}, {4, 2000}, {5, 1000}}))

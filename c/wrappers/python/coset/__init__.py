@@ -86,6 +86,7 @@ _FAULTS = {
     11: "an integer isn't registered, nor for private use",
 }
 _NO_OFFSET = ctypes.c_size_t(-1).value
+_LABEL = "a label that isn't a text"
 
 _beside = os.path.join(os.path.dirname(os.path.abspath(__file__)), "libcoset.so")
 _library = ctypes.CDLL(os.environ.get("COSET_LIBRARY") or (_beside if os.path.exists(_beside) else "libcoset.so.1"))
@@ -93,14 +94,15 @@ _library = ctypes.CDLL(os.environ.get("COSET_LIBRARY") or (_beside if os.path.ex
 
 class Fault(ValueError):
     """The bytes aren't an item of the kind, or the new item wouldn't be. `status` is the status of the call. `offset`
-    is where the bytes stop being one item of CBOR, or None. Only `check` knows it."""
+    is where the bytes stop being one item of CBOR, or None. Only `check` knows it. str() is `text`, or a few words for the
+    status if that is None."""
 
-    def __init__(self, status, offset=None):
-        super().__init__(status, offset)
-        self.status, self.offset = status, offset
+    def __init__(self, status, offset=None, text=None):
+        super().__init__(status, offset, text)
+        self.status, self.offset, self.text = status, offset, text
 
     def __str__(self):
-        return _FAULTS.get(self.status) or status_text(self.status)
+        return self.text or _FAULTS.get(self.status) or status_text(self.status)
 
 
 class Absent(LookupError):
@@ -426,7 +428,7 @@ def _raise(status, offset=None):
     if status == _EMPTY:
         raise Empty("the list is empty")
     if status == _MISUSE:
-        raise Misuse("a number without a meaning for this call, or a payload that the message carries and that is given too")
+        raise Misuse(status_text(_MISUSE))
     if status == _NOT_ALLOWED:
         raise NotAllowed("the algorithm isn't one that is allowed")
     if status == _CRITICAL:
@@ -460,22 +462,22 @@ def _whole(number, field="an argument"):
 
 def _kind(number):
     """Returns the number of a kind, or raises Misuse."""
-    number = number if type(number) is Kind else _whole(number)
+    number = number if type(number) is Kind else _whole(number, "a kind")
     if number not in _KINDS:
         raise Misuse("a number of no kind")
     return number
 
 
-def _number(number):
+def _number(number, field="a part, a map or an order"):
     """Returns the number of a part, a map or an order, or raises Misuse."""
-    number = _whole(number)
+    number = _whole(number, field)
     if not 0 <= number < 1 << 32:
         raise Misuse("a number of no part, no map or no order")
     return number
 
 
-def _int64(number):
-    number = _whole(number)
+def _int64(number, field="a label"):
+    number = _whole(number, field)
     if not -(1 << 63) <= number < 1 << 63:
         raise OverflowError("a number of more than 64 bits")
     return number
@@ -483,14 +485,14 @@ def _int64(number):
 
 def _index(kind, number):
     """Returns the index of a signer. Raises Misuse if it isn't 0 and the kind has no signers."""
-    number = _whole(number)
+    number = _whole(number, "an index")
     if number != 0 and _kind(kind) & 0xFF != SIGN:
         raise Misuse("an index of a signer, for a kind without signers")
     return _size(number)
 
 
 def _size(number):
-    number = _whole(number)
+    number = _whole(number, "an index")
     if not 0 <= number <= _NO_OFFSET:
         raise IndexError("an index that is negative or too large")
     return number
@@ -498,22 +500,28 @@ def _size(number):
 
 def _list(values, field):
     """Returns the elements as a list. A text, or bytes, isn't a list of its characters."""
-    if isinstance(values, (str, bytes, bytearray, memoryview)):
+    if isinstance(values, (str, bytes, bytearray, memoryview)) or not _is_iterable(values):
         raise TypeError(f"{field} takes a list, not {type(values).__name__}")
     return list(values)
 
 
-def _pairs(pairs):
-    """Returns the pairs of a dict, or of a list of pairs. A text of two characters is no pair."""
+def _is_iterable(values):
+    return any(hasattr(type(values), name) for name in ("__iter__", "__getitem__"))
+
+
+def _pairs(pairs, told="pairs are a dict, or tuples of two"):
+    """Returns the pairs of a dict, or of a list of pairs. A text of two characters is no pair. Else `told` is the error."""
+    if not _is_iterable(pairs):
+        raise TypeError(told)
     found = list(pairs.items() if isinstance(pairs, Mapping) else pairs)
-    if not all(isinstance(pair, (tuple, list)) for pair in found):
-        raise TypeError("pairs are a dict, or tuples of two")
+    if not all(isinstance(pair, (tuple, list)) and len(pair) == 2 for pair in found):
+        raise TypeError(told)
     return found
 
 
 def _integers(numbers, field):
     """Returns a list of integers of 64 bits."""
-    return [_int64(number) for number in _list(numbers, field)]
+    return [_int64(number, f"each of {field}") for number in _list(numbers, field)]
 
 
 def _written(call, *arguments, behind=()):
@@ -662,7 +670,7 @@ def label(kind, data, which, name):
     IN_PROTECTED, IN_UNPROTECTED or IN_ITEM."""
     if isinstance(name, str):
         return _written(_library.coset_text_label, _kind(kind), *_bytes(data), _number(which), *_bytes(name.encode()))
-    return _written(_library.coset_label, _kind(kind), *_bytes(data), _number(which), _int64(name))
+    return _written(_library.coset_label, _kind(kind), *_bytes(data), _number(which), _int64(name, _LABEL))
 
 
 def has(kind, data, which, name):
@@ -1055,7 +1063,7 @@ def verify_token(data, keys, algorithms, *, audience=(), types=(), required=(), 
         raise TypeError("keys is a KeyRing or a function")
     flags = [_flag(any_audience, "any_audience"), _flag(may_not_expire, "may_not_expire"), _flag(may_be_issued_later, "may_be_issued_later")]
     age = 0 if max_age is None else _seconds(max_age, "max_age", 1)
-    forms = [_number(untagged_form), _number(authenticated_by)]
+    forms = [_number(untagged_form, "untagged_form"), _number(authenticated_by, "authenticated_by")]
     rules = _Rules(ctypes.sizeof(_Rules), _seconds(leeway, "leeway", 0), age, *forms, *flags)
     named = {"algorithms": algorithms, "critical": critical, "required": required}
     lists = [it for field, numbers in named.items() for it in _array(_integers(numbers, field))]
@@ -1087,7 +1095,7 @@ def key_fits(key, layer):
     texts = [b"" if text is None else text for text in (layer.key_id, layer.iv, layer.partial_iv, layer.proof)]
     given = [it for text in texts for it in _bytes(text)]
     status = _library.coset_key_fits(
-        *_bytes(key), _number(layer.form), _int64(layer.algorithm), *given, out, len(out), ctypes.byref(length)
+        *_bytes(key), _number(layer.form, "a form"), _int64(layer.algorithm, "an algorithm"), *given, out, len(out), ctypes.byref(length)
     )
     if status == _UNFIT:
         return None
@@ -1097,12 +1105,12 @@ def key_fits(key, layer):
 
 def readable_keys(keys):
     """Returns a list of the keys of a KEY_SET that can be read, as received (RFC 9052, section 7). Raises Fault if the
-    bytes aren't an array."""
+    bytes aren't an array, such as a single KEY."""
     found = []
     try:
         elements = list(_elements(_bytes(keys)[0]))
     except Absent:
-        raise Fault(Status.UNEXPECTED) from None
+        raise Fault(Status.UNEXPECTED, None, "a COSE_KeySet is needed, an array of keys") from None
     for key in elements:
         try:
             check(KEY, key)
@@ -1130,7 +1138,7 @@ class KeyRing:
         if ciphers is None:
             from coset.crypto import CIPHERS as ciphers
         self._ciphers, self._keys = ciphers, []
-        for name, keys in _pairs(issuers):
+        for name, keys in _pairs(issuers, "issuers are a dict, or tuples of a name and a COSE_KeySet"):
             self._keys += [(_issuer(name), key) for key in readable_keys(keys)]
 
     def __call__(self, layer):
@@ -1166,7 +1174,7 @@ def version_number():
 
 def status_text(status):
     """Returns a few words for a status of the header. Other integers share one text."""
-    status = _whole(status)
+    status = _whole(status, "a status")
     return _library.coset_status_text(status if 0 <= status < 1 << 31 else -1).decode()
 
 
@@ -1178,7 +1186,7 @@ def put(kind, data, name, value):
         raise TypeError("True and False are no integers of CBOR: put_encoded takes their encodings")
     if isinstance(name, str) or isinstance(value, Encoded):
         return put_all(kind, data, [(name, value)])
-    given = _kind(kind), *_bytes(data), _int64(name)
+    given = _kind(kind), *_bytes(data), _int64(name, _LABEL)
     if isinstance(value, int):
         return _written(_library.coset_put_int, *given, _int64(value))
     if isinstance(value, float):
@@ -1193,7 +1201,7 @@ def put_encoded(kind, data, name, value):
     CBOR."""
     if isinstance(name, str):
         return _written(_library.coset_put_text_label, _kind(kind), *_bytes(data), *_bytes(name.encode()), *_bytes(value))
-    return _written(_library.coset_put, _kind(kind), *_bytes(data), _int64(name), *_bytes(value))
+    return _written(_library.coset_put, _kind(kind), *_bytes(data), _int64(name, _LABEL), *_bytes(value))
 
 
 def _encoded_float(value):
@@ -1233,7 +1241,7 @@ def _pair(name, value, parts):
     if isinstance(name, str):
         pair.label_form, (pair.label_at, pair.label_len) = TEXT, _part(name.encode(), parts)
     else:
-        pair.label_form, pair.label = INT, _int64(name)
+        pair.label_form, pair.label = INT, _int64(name, _LABEL)
     if isinstance(value, bool):
         raise TypeError("True and False are no integers of CBOR: Encoded takes their encodings")
     if isinstance(value, int):
