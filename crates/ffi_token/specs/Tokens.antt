@@ -1,8 +1,9 @@
 -- The result of opening a token.
-use Rattle.std.specs.Prelude.{◌≡◌, ◌&&◌, ℕ, ℤ, List, Bool, Option, Some, None, Result, Ok, Err, if◌then◌else◌}
+use Rattle.std.specs.Prelude.{◌≡◌, ◌&&◌, ◌⊎◌, ℕ, ℤ, List, Bool, Option, Some, None, Result, Ok, Err, if◌then◌else◌}
 use Rattle.std.specs.List.{list_all}
 use Rattle.coset.specs.CoseError.TheVariants as errors
 use Rattle.coset.specs.Errors.{UnlessMemory}
+use Rattle.cwt_keys.specs.Keys.{KeysView}
 use Rattle.cwt_verify.specs.Policy.{PolicyView}
 use Rattle.cwt_verify.specs.Verify.{TokenView, VerifiesToken, token_view}
 use Rattle.cwt_verify.specs.declared.error.LayerError.{LayerError}
@@ -91,12 +92,16 @@ abbrev pub policy_for : List ℕ → List Opened → Option PolicyView → Optio
 policy_for bytes os None = None
 policy_for bytes os (Some p) = if list_all (has_text bytes) os then Some p else None
 
+-- Verifying the token b returns v. Or memory runs out for the policy's lists, before the token is read.
+abbrev pub VerifiesOr : {E : Type 0} → KeysView E → PolicyView → ℤ → List ℕ → Result VerifiedToken (TokenError E) → Type 0
+VerifiesOr k p now b v = (v ≡ Err (token.Layer 0 (at.Message errors.OutOfMemory))) ⊎ VerifiesToken k p now b v
+
 -- The result for the token b at the time `now`, after the caller opened these layers. It is that of verifying the token,
 -- with keys that accept exactly these layers.
 abbrev pub ReturnsWith : List ℕ → List Opened → Option PolicyView → List ℕ → ℤ → List ℕ → List ℕ → Result ℕ refusals.Refusal → Type 0
 ReturnsWith bytes os None b now old new r = (r ≡ Err Misuse) × (new ≡ old)
 ReturnsWith bytes os (Some p) b now old new r =
-    (v : Result VerifiedToken (TokenError Waiting)) × VerifiesToken (opened_view bytes os) p now b v × ReturnsVerified v old new r
+    (v : Result VerifiedToken (TokenError Waiting)) × VerifiesOr (opened_view bytes os) p now b v × ReturnsVerified v old new r
 
 -- The same, if the rules describe a policy and the names of all issuers are UTF-8.
 abbrev pub ReturnsToken : List ℕ → List Opened → Option PolicyView → List ℕ → ℤ → List ℕ → List ℕ → Result ℕ refusals.Refusal → Type 0

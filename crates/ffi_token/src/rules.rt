@@ -3,10 +3,10 @@
 ghost use Rattle.std.specs.Prelude.{◌≡◌, IfOk, filter_map, map};
 ghost use Rattle.coset.specs.LabelViews.{registered_or_private_view};
 ghost use Rattle.cwt_verify.specs.Policy.{audience_view};
-ghost use Rattle.cwt_verify.specs.Verify.{VerifiesToken};
 ghost use Rattle.ffi_token.specs.Opened.{opened_view};
 ghost use Rattle.ffi_token.specs.Rules.{ListsOf, are_assigned, audience_of, has_meaning, named, policy_with, rules_view};
 ghost use Rattle.ffi_token.specs.Texts.{texts_view};
+ghost use Rattle.ffi_token.specs.Tokens.{VerifiesOr};
 
 use crate::layer::Waiting;
 use crate::opened::OpenedLayers;
@@ -167,7 +167,7 @@ impl<'a> Rules<'a> {
         token: &[u8],
         now: i64,
     ) -> Result<VerifiedToken<'k>, TokenError<Waiting>>
-        ensures { VerifiesToken (opened_view opened.now.bytes.now opened.now.layers.now)
+        ensures { VerifiesOr (opened_view opened.now.bytes.now opened.now.layers.now)
             (policy_with (rules_view self.now)) now token.now result }
     {
         let Ok(lists) = self.lists(alloc) else {
