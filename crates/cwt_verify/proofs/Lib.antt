@@ -1,3 +1,5 @@
+mod Among
+mod Critical
 mod Directing
 mod Innermost
 mod Judging

@@ -167,7 +167,7 @@ module _ {E : Type 0} (k : KeysView E) (p : PolicyView) where
   turned_away outermost q l reason.NoPayload d h = absurd h
   turned_away outermost q l reason.NoSignature d h = absurd h
   turned_away outermost q l reason.TooManySignatures d h = absurd h
-  turned_away outermost q l (reason.Keys e) d h = absurd h
+  turned_away outermost q l (reason.Keys id e) d h = absurd h
 
   -- The result for a layer whose headers the policy admits.
   pub opened : HaveStructures → (outermost : Bool) (q : List ℕ) (l : LayerView) (r : Result OpenedLayer (LayerError E))
@@ -184,4 +184,4 @@ module _ {E : Type 0} (k : KeysView E) (p : PolicyView) where
   opened laws outermost q l (Err reason.NoPayload) d a h = (l, d, inr (a, h))
   opened laws outermost q l (Err reason.NoSignature) d a h = (l, d, inr (a, h))
   opened laws outermost q l (Err reason.TooManySignatures) d a h = (l, d, inr (a, h))
-  opened laws outermost q l (Err (reason.Keys e)) d a h = (l, d, inr (a, h))
+  opened laws outermost q l (Err (reason.Keys id e)) d a h = (l, d, inr (a, h))

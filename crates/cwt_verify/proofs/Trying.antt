@@ -1,5 +1,6 @@
 -- The signatures of a list, tried in order.
-use Rattle.std.proofs.Common.{◌≡◌, ◌∙◌, ◌++◌, ℕ, List, [], ◌∷◌, true, false, true≢false, Err, ap, append_assoc, map, subst, sym}
+use Rattle.std.proofs.Common.{◌≡◌, ◌∙◌, ◌++◌, ℕ, List, [], ◌∷◌, true, false, true≢false, Err, Vec, ap, append_assoc, map, subst, sym}
+use Rattle.std.specs.Global.{Global}
 use Rattle.std.proofs.lemmas.List.{map-append}
 use Rattle.std.proofs.lemmas.List.Elements.{All-nil, All-push}
 use Rattle.coset.specs.Calls.{IsStructure}
@@ -10,6 +11,7 @@ use Rattle.coset.specs.Views.{signature_view}
 use Rattle.cwt_keys.specs.Keys.{KeysView, Name}
 use Rattle.cwt_keys.specs.Sealed.{SealView}
 use Rattle.cwt_verify.specs.Admission.{ChecksHeaders, HeadersView, IsAdmitted, signature_headers}
+use Rattle.cwt_verify.specs.Headers.{named_key}
 use Rattle.cwt_verify.specs.Layers.{by_signature, signed_by}
 use Rattle.cwt_verify.specs.Opening.{CarriesFew, HasContent, Opens}
 use Rattle.cwt_verify.specs.Policy.{PolicyView}
@@ -38,7 +40,7 @@ none_opened k p m c reason.Recipients is h = absurd h.last_refused
 none_opened k p m c reason.NoPayload is h = absurd h.last_refused
 none_opened k p m c reason.NoSignature is h = (c, is.0, h)
 none_opened k p m c reason.TooManySignatures is h = absurd h.last_refused
-none_opened k p m c (reason.Keys e) is h = (c, is, h)
+none_opened k p m c (reason.Keys id e) is h = (c, is, h)
 
 -- One of the signatures of a message is accepted.
 pub one_opened : {E : Type 0} (k : KeysView E) (p : PolicyView) (m : SignView) (c d : List ℕ) (s : SignatureView) (n : Name) → CarriesFew m c → d ≡ c
@@ -52,9 +54,13 @@ module _ {E : Type 0} (k : KeysView E) (p : PolicyView) (body : ProtectedView) (
   is_accepted s t n h x same admitted made is ok = (subst (IsAdmitted p) same admitted, (t, made, subst (λ y. k.accepts y n) is ok))
 
   -- The keys refuse the signature.
-  pub refused_by_keys : (s : SignatureView) (t : List ℕ) (e : E) (h : HeadersView) (x : SealView) → h ≡ signature_headers s → IsAdmitted p h
-      → IsStructure (signature_item body c s) t → x ≡ signature_seal s t → k.not_accepted x e → RefusesSignature k p body c s (reason.Keys e)
-  refused_by_keys s t e h x same admitted made is no_more = (subst (IsAdmitted p) same admitted, (t, made, subst (λ y. k.not_accepted y e) is no_more))
+  pub refused_by_keys : (s : SignatureView) (t : List ℕ) (id : Vec ℕ Global) (e : E) (h : HeadersView) (x : SealView) → h ≡ signature_headers s
+      → IsAdmitted p h → IsStructure (signature_item body c s) t → x ≡ signature_seal s t → id.items ≡ named_key s.protected s.unprotected
+      → k.not_accepted x e → RefusesSignature k p body c s (reason.Keys id e)
+  refused_by_keys s t id e h x same admitted made is named no_more = (
+    subst (IsAdmitted p) same admitted,
+    (t, made, (named, subst (λ y. k.not_accepted y e) is no_more)),
+  )
 
   -- The policy doesn't admit the headers of the signature, or an allocation failed.
   pub turned_away : (s : SignatureView) (e : LayerError E) → ChecksHeaders p (signature_headers s) (Err e) → TriesSignature k p body c s (Err e)
@@ -66,7 +72,7 @@ module _ {E : Type 0} (k : KeysView E) (p : PolicyView) (body : ProtectedView) (
   turned_away s reason.NoPayload h = absurd h
   turned_away s reason.NoSignature h = absurd h
   turned_away s reason.TooManySignatures h = absurd h
-  turned_away s (reason.Keys e) h = absurd h
+  turned_away s (reason.Keys id e) h = absurd h
 
   pushed : (ss : List SignatureView) (e : LayerError E) → IsLast k p body c ss e → AreAllRefused k p body c ss
   pushed ss e t =
@@ -83,7 +89,7 @@ module _ {E : Type 0} (k : KeysView E) (p : PolicyView) (body : ProtectedView) (
   all_refused ss reason.Recipients t = pushed ss reason.Recipients t
   all_refused ss reason.NoPayload t = pushed ss reason.NoPayload t
   all_refused ss reason.TooManySignatures t = pushed ss reason.TooManySignatures t
-  all_refused ss (reason.Keys e) t = pushed ss (reason.Keys e) t
+  all_refused ss (reason.Keys id e) t = pushed ss (reason.Keys id e) t
 
   last_of : (ss ts : List SignatureView) (s : SignatureView) (old e : LayerError E) → ts ≡ ss ++ s ∷ [] → RefusesSignatures k p body c ss old
       → RefusesSignature k p body c s e → IsLast k p body c ts e
@@ -100,7 +106,7 @@ module _ {E : Type 0} (k : KeysView E) (p : PolicyView) (body : ProtectedView) (
   one_more ss ts s old reason.NoPayload is t m h = absurd h
   one_more ss ts s old reason.NoSignature is t m h = absurd h
   one_more ss ts s old reason.TooManySignatures is t m h = absurd h
-  one_more ss ts s old (reason.Keys e) is t m h = last_of ss ts s old (reason.Keys e) is t h
+  one_more ss ts s old (reason.Keys id e) is t m h = last_of ss ts s old (reason.Keys id e) is t h
 
   -- None of the signatures is accepted.
   pub none_accepted : (ss : List SignatureView) (e : LayerError E) → RefusesSignatures k p body c ss e → FindsSignature k p body c ss (Err e)
@@ -112,7 +118,7 @@ module _ {E : Type 0} (k : KeysView E) (p : PolicyView) (body : ProtectedView) (
   none_accepted ss reason.NoPayload t = t
   none_accepted ss reason.NoSignature t = t
   none_accepted ss reason.TooManySignatures t = t
-  none_accepted ss (reason.Keys e) t = t
+  none_accepted ss (reason.Keys id e) t = t
 
   -- One of the signatures is accepted.
   pub found : (ss : List SignatureView) (all before left : List CoseSignature) (s : CoseSignature) (n : Name) (old : LayerError E) → all ≡ before ++ s ∷ left
@@ -143,4 +149,4 @@ module _ {E : Type 0} (k : KeysView E) (p : PolicyView) (body : ProtectedView) (
   stopped ss all before left s reason.NoPayload are same m h = absurd (true≢false (sym m))
   stopped ss all before left s reason.NoSignature are same m h = absurd (true≢false (sym m))
   stopped ss all before left s reason.TooManySignatures are same m h = absurd (true≢false (sym m))
-  stopped ss all before left s (reason.Keys e) are same m h = absurd (true≢false (sym m))
+  stopped ss all before left s (reason.Keys id e) are same m h = absurd (true≢false (sym m))

@@ -1,11 +1,12 @@
 -- The headers of one layer, side by side (RFC 9052, section 3).
-use Rattle.std.specs.Prelude.{◌==◌, ◌&&◌, ◌||◌, ◌++◌, not, ℤ, pos, List, [], ◌∷◌, length, Option, Some, None, Bool, false, is_some}
+use Rattle.std.specs.Prelude.{◌==◌, ◌&&◌, ◌||◌, ◌++◌, not, ℕ, ℤ, pos, List, [], ◌∷◌, length, Option, Some, None, Bool, false, is_some}
 use Rattle.std.specs.List.{list_any}
 use Rattle.std.specs.Map.{keys_of}
 use Rattle.std.specs.Ordering.{int_eq}
-use Rattle.coset.specs.Headers.{HeaderView, header_of, fields_in, are_none}
+use Rattle.coset.specs.Headers.{HeaderView, ProtectedView, header_of, fields_in, are_none}
 use Rattle.coset.specs.LabelData.{LabelView, number, text_label, same_label}
 use Rattle.coset.specs.Maps.{are_distinct}
+use Rattle.cwt_keys.specs.Sealed.{first_nonempty}
 
 -- Returns true if there is a value, and it passes the test.
 abbrev pub is_there_and : {A : Type 0} → (A → Bool) → Option A → Bool
@@ -55,3 +56,7 @@ has_both_ivs h g = (is_parameter h (pos 5) || is_parameter g (pos 5)) && (is_par
 -- Returns true if a label is in both headers (RFC 9052, section 3), or if they have an IV and a Partial IV (section 3.1).
 abbrev pub contradict : HeaderView → HeaderView → Bool
 contradict h g = share_parameter h g || has_both_ivs h g || repeat_label h g
+
+-- The key identifier of the protected header, or if that has none, of the unprotected one (RFC 8152, section 3.1).
+abbrev pub named_key : ProtectedView → HeaderView → List ℕ
+named_key p h = first_nonempty (fields_in p.header).key_id (fields_in h).key_id

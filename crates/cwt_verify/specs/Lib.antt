@@ -1,6 +1,7 @@
 pub mod Admission
 pub mod Claims
 pub mod HeaderClaims
+pub mod Pairs
 pub mod Headers
 pub mod Layers
 pub mod Moment

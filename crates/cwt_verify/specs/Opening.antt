@@ -1,5 +1,6 @@
 -- A layer that is opened by keys.
-use Rattle.std.specs.Prelude.{◌≡◌, ◌≤◌, ◌<◌, ℕ, List, [], length, Result, Ok, Err, Option, Some, None}
+use Rattle.std.specs.Prelude.{◌≡◌, ◌≤◌, ◌<◌, ℕ, List, [], length, Result, Ok, Err, Option, Some, None, Vec}
+use Rattle.std.specs.Global.{Global}
 use Rattle.coset.specs.Calls.{IsStructure}
 use Rattle.coset.specs.CoseError.{CoseError}
 use Rattle.coset.specs.Encoding.{HasNoImage}
@@ -21,7 +22,7 @@ use Rattle.cwt_verify.specs.Layers.{LayerView, signed, macced, encrypted, signed
 use Rattle.cwt_verify.specs.Layers.{PartView, whole, by_signature, for_recipient, part_view, attached, form_of, protected_of, recipients_in, unprotected_of}
 use Rattle.cwt_verify.specs.Policy.{PolicyView}
 use Rattle.cwt_verify.specs.Recipients.{only_direct}
-use Rattle.cwt_verify.specs.Signatures.{MAX_SIGNATURES, IsFirst, IsLast, LacksStructure}
+use Rattle.cwt_verify.specs.Signatures.{MAX_SIGNATURES, IsFirst, IsLast, LacksStructure, RefusesParts}
 use Rattle.cwt_verify.specs.declared.error.LayerError.{LayerError}
 use Rattle.cwt_verify.specs.declared.error.LayerError.TheVariants.{Message, Recipients, NoPayload, NoSignature, TooManySignatures, Keys}
 use Rattle.cwt_verify.specs.declared.layer.OpenedLayer.{OpenedLayer}
@@ -99,13 +100,14 @@ abbrev pub RefusesLast : {E : Type 0} → KeysView E → PolicyView → LayerVie
 RefusesLast k p (signed_by m) e = (c : List ℕ) × CarriesFew m c × IsLast k p m.protected c m.signatures e
 RefusesLast k p l e = ⊥
 
--- Asked about exactly this layer, or about its last signature, the keys may return the error `e`.
-abbrev pub Refuses : {E : Type 0} → KeysView E → PolicyView → LayerView → E → Type 0
-Refuses k p (signed_by m) e = RefusesLast k p (signed_by m) (Keys e)
-Refuses k p (macced_for m) e = (r : RecipientView) × Receives (macced_for m) (for_recipient r) (λ c s. k.not_accepted s e)
-Refuses k p (encrypted m) e = Receives (encrypted m) whole (λ c s. k.not_decrypted s e)
-Refuses k p (encrypted_for m) e = (r : RecipientView) × Receives (encrypted_for m) (for_recipient r) (λ c s. k.not_decrypted s e)
-Refuses k p l e = Receives l whole (λ c s. k.not_accepted s e)
+-- Asked about exactly this layer, or about its last signature, the keys may return the error `e`. `id` is the key
+-- identifier of the layer, or of that signature.
+abbrev pub Refuses : {E : Type 0} → KeysView E → PolicyView → LayerView → Vec ℕ Global → E → Type 0
+Refuses k p (signed_by m) id e = RefusesLast k p (signed_by m) (Keys id e)
+Refuses k p (macced_for m) id e = (r : RecipientView) × Receives (macced_for m) (for_recipient r) (λ c s. RefusesParts k.not_accepted id e s)
+Refuses k p (encrypted m) id e = Receives (encrypted m) whole (λ c s. RefusesParts k.not_decrypted id e s)
+Refuses k p (encrypted_for m) id e = (r : RecipientView) × Receives (encrypted_for m) (for_recipient r) (λ c s. RefusesParts k.not_decrypted id e s)
+Refuses k p l id e = Receives l whole (λ c s. RefusesParts k.not_accepted id e s)
 
 -- The reason why a layer isn't opened whose headers the policy admits.
 abbrev pub RefusesContent : {E : Type 0} → KeysView E → PolicyView → LayerView → LayerError E → Type 0
@@ -113,7 +115,7 @@ RefusesContent k p l Recipients = LacksRecipient (recipients_in l)
 RefusesContent k p l NoPayload = HasRecipient (recipients_in l) × (attached l ≡ None)
 RefusesContent k p l NoSignature = LacksSignature l
 RefusesContent k p l TooManySignatures = HasManySignatures l
-RefusesContent k p l (Keys e) = Refuses k p l e
+RefusesContent k p l (Keys id e) = Refuses k p l id e
 RefusesContent k p l (Message e) = ⊥
 RefusesContent k p l e = RefusesLast k p l e
 

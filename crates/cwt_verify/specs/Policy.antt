@@ -1,5 +1,5 @@
 -- A verifier's requirements for a token, in addition to acceptance by its keys.
-use Rattle.std.specs.Prelude.{◌==◌, ◌&&◌, ◌||◌, ℕ, ℤ, pos, List, [], ◌∷◌, length, map, Option, Some, None, Bool, true, false, is_some}
+use Rattle.std.specs.Prelude.{◌==◌, ◌&&◌, ◌||◌, ◌++◌, not, ℕ, ℤ, pos, List, [], ◌∷◌, length, map, Option, Some, None, Bool, true, false, is_some}
 use Rattle.std.specs.List.{list_any, list_all}
 use Rattle.std.specs.Ordering.{int_eq}
 use Rattle.coset.specs.Claims as claims
@@ -109,21 +109,38 @@ allows p form h = list_any (λ a. is_named (fields_in h).alg a && is_some (of_fo
 abbrev pub is_one_of : List RegisteredLabelView → RegisteredLabelView → Bool
 is_one_of labels l = list_any (λ m. claims.same_label m l) labels
 
--- The labels 1 to 6 (RFC 9052, section 3.1), 15 (RFC 9597) and 16 (RFC 9596).
+-- The labels that are always understood: 1, 2 and 4 to 6 (RFC 9052, section 3.1), and 15 (RFC 9597).
 abbrev pub known_labels : List ℤ
-known_labels = pos 1 ∷ pos 2 ∷ pos 3 ∷ pos 4 ∷ pos 5 ∷ pos 6 ∷ pos 15 ∷ pos 16 ∷ []
+known_labels = pos 1 ∷ pos 2 ∷ pos 4 ∷ pos 5 ∷ pos 6 ∷ pos 15 ∷ []
 
 abbrev pub is_known : RegisteredLabelView → Bool
 is_known (assigned i) = list_any (λ n. int_eq i n) known_labels
 is_known l = false
 
+-- Returns true if the label is 16, which is that of the type of a whole message (RFC 9596).
+abbrev pub is_type : RegisteredLabelView → Bool
+is_type (assigned i) = int_eq i (pos 16)
+is_type l = false
+
+-- Returns true if the label is that of the type, and the policy has types.
+abbrev pub checks : PolicyView → RegisteredLabelView → Bool
+checks p l = is_type l && not (length p.types == 0)
+
 -- Returns true if the caller or this crate understands the label.
 abbrev pub has_meaning : PolicyView → RegisteredLabelView → Bool
-has_meaning p l = is_known l || is_one_of p.critical l
+has_meaning p l = is_known l || (checks p l || is_one_of p.critical l)
 
 -- Returns true if the label is understood and the header contains it.
 abbrev pub is_understood : PolicyView → HeaderView → RegisteredLabelView → Bool
 is_understood p h l = has_meaning p l && has_label h (as_label l)
+
+-- The labels that this crate understands under some policy.
+abbrev pub own_labels : List RegisteredLabelView
+own_labels = map assigned (known_labels ++ pos 16 ∷ [])
+
+-- Returns true if the header lists the label `m` as critical, and doesn't have it.
+abbrev pub is_missing : HeaderView → RegisteredLabelView → Bool
+is_missing h m = list_any (λ l. claims.same_label m l) (fields_in h).crit && not (has_label h (as_label m))
 
 -- Returns true if each critical label of the protected header `h` is understood, and the unprotected header lists none.
 abbrev pub understands : PolicyView → HeaderView → HeaderView → Bool

@@ -1,6 +1,7 @@
 -- A list of signatures, of which the keys must accept one (RFC 9052, section 4.1).
-use Rattle.std.specs.Prelude.{◌≡◌, ◌++◌, ℕ, List, [], ◌∷◌, All, Bool, true, false, Option, Some, None, Result, Ok, Err}
+use Rattle.std.specs.Prelude.{◌≡◌, ◌++◌, ℕ, List, [], ◌∷◌, All, Bool, true, false, Option, Some, None, Result, Ok, Err, Vec}
 use Rattle.std.specs.Borrow.{Bor}
+use Rattle.std.specs.Global.{Global}
 use Rattle.coset.specs.Calls.{IsStructure}
 use Rattle.coset.specs.CoseError.{CoseError}
 use Rattle.coset.specs.CoseSignature.{CoseSignature}
@@ -11,7 +12,7 @@ use Rattle.coset.specs.SignatureContext.TheVariants as context
 use Rattle.coset.specs.Signed.{signed_item}
 use Rattle.coset.specs.Views.{signature_view}
 use Rattle.cwt_keys.specs.Keys.{KeysView, Name, name_view}
-use Rattle.cwt_keys.specs.Sealed.{SealView}
+use Rattle.cwt_keys.specs.Sealed.{SealView, key_id_of}
 use Rattle.cwt_keys.specs.declared.form.Form.TheVariants.{Sign}
 use Rattle.cwt_verify.specs.Admission.{IsAdmitted, RefusesHeaders, signature_headers}
 use Rattle.cwt_verify.specs.Policy.{PolicyView}
@@ -43,13 +44,17 @@ signature_seal s t = record {
 abbrev pub ReceivesSignature : ProtectedView → List ℕ → SignatureView → (SealView → Type 0) → Type 0
 ReceivesSignature body c s R = (t : List ℕ) × IsStructure (signature_item body c s) t × R (signature_seal s t)
 
+-- The keys may return the error `e` for the parts `x`, and `id` is the key identifier that these name.
+abbrev pub RefusesParts : {E : Type 0} → (SealView → E → Type 0) → Vec ℕ Global → E → SealView → Type 0
+RefusesParts refuses id e x = (id.items ≡ key_id_of x) × refuses x e
+
 -- The policy admits the signature, and the keys accept it for the issuer of this name.
 abbrev pub AcceptsSignature : {E : Type 0} → KeysView E → PolicyView → ProtectedView → List ℕ → Name → SignatureView → Type 0
 AcceptsSignature k p body c n s = IsAdmitted p (signature_headers s) × ReceivesSignature body c s (λ x. k.accepts x n)
 
 -- The first reason against the signature: that of the policy, or if the policy admits it, that of the keys.
 abbrev pub RefusesSignature : {E : Type 0} → KeysView E → PolicyView → ProtectedView → List ℕ → SignatureView → LayerError E → Type 0
-RefusesSignature k p body c s (Keys e) = IsAdmitted p (signature_headers s) × ReceivesSignature body c s (λ x. k.not_accepted x e)
+RefusesSignature k p body c s (Keys id e) = IsAdmitted p (signature_headers s) × ReceivesSignature body c s (RefusesParts k.not_accepted id e)
 RefusesSignature k p body c s e = RefusesHeaders p (signature_headers s) e
 
 -- ---- all signatures
@@ -93,8 +98,15 @@ is_message e = false
 
 -- The result of trying one signature.
 abbrev pub TriesSignature :
-    {E : Type 0} → KeysView E → PolicyView → ProtectedView → List ℕ → SignatureView → Result (Option (Bor (List ℕ))) (LayerError E) → Type 0
-TriesSignature k p body c s (Ok n) = AcceptsSignature k p body c (name_view n) s
+    {E : Type 0}
+    → KeysView E
+    → PolicyView
+    → ProtectedView
+    → List ℕ
+    → SignatureView
+    → Result (CoseSignature × Option (Bor (List ℕ))) (LayerError E)
+    → Type 0
+TriesSignature k p body c s (Ok x) = (signature_view x.0 ≡ s) × AcceptsSignature k p body c (name_view x.1) s
 TriesSignature k p body c s (Err (Message e)) = HasNoImage (signature_item body c s) e
 TriesSignature k p body c s (Err e) = RefusesSignature k p body c s e
 

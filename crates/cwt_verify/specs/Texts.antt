@@ -20,7 +20,7 @@ layer_error_text text Recipients = Some (codes "not one direct recipient with a 
 layer_error_text text NoPayload = Some (codes "no payload")
 layer_error_text text NoSignature = Some (codes "no signature")
 layer_error_text text TooManySignatures = Some (codes "too many signatures")
-layer_error_text text (Keys e) = text e
+layer_error_text text (Keys id e) = text e
 
 -- The text of a reason against a token.
 abbrev pub token_error_text : {E : Type 0} → (E → Option (List ℕ)) → TokenError E → Option (List ℕ)

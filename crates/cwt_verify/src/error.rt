@@ -26,10 +26,10 @@ pub enum LayerError<E> {
     /// A critical label isn't understood, or isn't in the protected header; or the unprotected
     /// header lists critical labels (RFC 9052, section 3.1).
     Critical,
-    /// There isn't exactly one recipient, or it isn't one that is `direct` and names its key (RFC
-    /// 9052, section 8.5.1). Such a recipient has a protected header of zero length, no encrypted
-    /// key, and no recipients inside. Its unprotected header has a key identifier, and lists no
-    /// critical labels.
+    /// There isn't exactly one recipient, or it isn't one that is `direct` and names its key. RFC
+    /// 9052, section 8.5.1, forbids other modes next to `direct`, and advises that the key is named.
+    /// Such a recipient has a protected header of zero length, no encrypted key, and no recipients
+    /// inside. Its unprotected header has a key identifier, and lists no critical labels.
     Recipients,
     /// The layer has no payload, or no ciphertext.
     NoPayload,
@@ -38,7 +38,13 @@ pub enum LayerError<E> {
     /// The list has more than 16 signatures. Its sender chose their number, and each costs a check.
     TooManySignatures,
     /// The keys were asked about this layer, or about a signature in it, and refused it.
-    Keys(E),
+    Keys {
+        /// The key identifier that the layer or the signature names, or no bytes if it names none.
+        /// The sender chose it ([`Sealed::key_id`](cwt_keys::Sealed::key_id)).
+        key_id: Vec<u8>,
+        /// The error that the keys returned.
+        error: E,
+    },
 }
 
 /// Writes the reason in words. For the keys' own error, it writes the text of that error.
@@ -56,7 +62,7 @@ impl<E: fmt::Display> fmt::Display for LayerError<E> {
             LayerError::NoPayload => write!(f, "no payload"),
             LayerError::NoSignature => write!(f, "no signature"),
             LayerError::TooManySignatures => write!(f, "too many signatures"),
-            LayerError::Keys(error) => write!(f, "{error}"),
+            LayerError::Keys { error, .. } => write!(f, "{error}"),
         }
     }
 }
@@ -79,7 +85,7 @@ pub enum TokenError<E> {
     /// The content of the innermost layer isn't a claims set, or an allocation failed.
     Claims(CoseError),
     /// A header of a layer, or of its accepted part, has a claim that isn't in the payload with the
-    /// same value, or its claims aren't a map (RFC 9597).
+    /// same value, or its claims aren't a map. RFC 9597 asks only that a claim in both has one value.
     HeaderClaims,
     /// The claims name another issuer than the one whose key authenticated the token, or that
     /// issuer has no name (RFC 8725, section 3.8).

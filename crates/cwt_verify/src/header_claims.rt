@@ -1,15 +1,18 @@
-//! Claims in headers (RFC 9597), which must be in the payload too.
+//! Claims in headers (RFC 9597). Each of them must be in the payload too.
 
-ghost use Rattle.std.specs.Prelude.{◌≡◌, IfOk, IfErr, map};
+ghost use Rattle.std.specs.List.{list_all};
+ghost use Rattle.std.specs.Prelude.{◌≡◌, ◌&&◌, IfOk, IfErr, map};
+ghost use Rattle.coset.specs.CoseError.TheVariants.{OutOfMemory};
 ghost use Rattle.coset.specs.Results.{IsRefused};
 ghost use Rattle.coset.specs.Shape.{any};
 ghost use Rattle.coset.specs.View.{value_item, value_pairs};
 ghost use Rattle.coset.specs.Views.{header_view};
-ghost use Rattle.cwt_verify.specs.HeaderClaims.{Agrees, agrees, has_claims, has_pair, layer_agrees, layer_has_claims, pairs_in, part_agrees, part_has_claims};
+ghost use Rattle.cwt_verify.specs.HeaderClaims.{Agrees, agrees, has_claims, layer_agrees, layer_has_claims, pairs_in, part_agrees, part_has_claims};
 ghost use Rattle.cwt_verify.specs.Layers.{part_view};
 ghost use Rattle.cwt_verify.specs.Opening.{verified_view};
 
 use crate::layer::{Part, VerifiedLayer};
+use crate::pairs::are_among;
 use coset::cbor::value::Value;
 use coset::laws::one_item;
 use coset::{CborSerializable, Header, Label, Result};
@@ -18,50 +21,104 @@ use std::alloc::Global;
 /// The label of claims in a header (RFC 9597).
 const CWT_CLAIMS: i64 = 15;
 
-/// Returns true if the pair is one of these.
-fn has_pair(pair: &(Value, Value), pairs: &[(Value, Value)]) -> bool
-    ensures { result ≡ has_pair (value_pairs pairs.now) (value_item pair.now.0)
-        (value_item pair.now.1) }
-{
-    pairs
-        .iter()
-        .any(|(key, value)| *key == pair.0 && *value == pair.1)
-}
-
 /// Returns true if the header has no claims, or if each of them is one of these pairs.
-fn agrees(header: &Header, pairs: &[(Value, Value)]) -> bool
-    ensures { result ≡ agrees (value_pairs pairs.now) (header_view header.now) }
+///
+/// # Errors
+/// `OutOfMemory` if an allocation fails.
+fn agrees(alloc: Global, header: &Header, pairs: &[(Value, Value)]) -> Result<bool>
+    ensures answer { IfOk result (λ b. b ≡ agrees (value_pairs pairs.now) (header_view header.now)) }
+    ensures memory { IfErr result (λ e. e ≡ OutOfMemory) }
 {
     let Some(value) = header.get(&Label::Int(CWT_CLAIMS)) else {
-        return true;
+        return Ok(true);
     };
     let Some(claims) = value.as_map() else {
-        return false;
+        return Ok(false);
     };
-    claims.iter().all(|pair| has_pair(pair, pairs))
+    are_among(alloc, claims, pairs)
+}
+
+/// Returns true if the headers agree, both of them.
+///
+/// # Errors
+/// `OutOfMemory` if an allocation fails.
+fn both_agree(
+    alloc: Global,
+    protected: &Header,
+    unprotected: &Header,
+    pairs: &[(Value, Value)],
+) -> Result<bool>
+    ensures answer { IfOk result (λ b. b ≡ (agrees (value_pairs pairs.now) (header_view protected.now)
+        && agrees (value_pairs pairs.now) (header_view unprotected.now))) }
+    ensures memory { IfErr result (λ e. e ≡ OutOfMemory) }
+{
+    if agrees(alloc, protected, pairs)? {
+        agrees(alloc, unprotected, pairs)
+    } else {
+        Ok(false)
+    }
 }
 
 /// Returns true if each claim in the headers of the part is one of these pairs.
-fn part_agrees(part: &Part, pairs: &[(Value, Value)]) -> bool
-    ensures { result ≡ part_agrees (value_pairs pairs.now) (part_view part.now) }
+///
+/// # Errors
+/// `OutOfMemory` if an allocation fails.
+fn part_agrees(alloc: Global, part: &Part, pairs: &[(Value, Value)]) -> Result<bool>
+    ensures answer { IfOk result (λ b. b ≡ part_agrees (value_pairs pairs.now) (part_view part.now)) }
+    ensures memory { IfErr result (λ e. e ≡ OutOfMemory) }
 {
     match part {
-        Part::Whole => true,
-        Part::Signature(signature) => {
-            agrees(&signature.protected.header, pairs) && agrees(&signature.unprotected, pairs)
-        }
-        Part::Recipient(recipient) => agrees(&recipient.unprotected, pairs),
+        Part::Whole => Ok(true),
+        Part::Signature(signature) => both_agree(
+            alloc,
+            &signature.protected.header,
+            &signature.unprotected,
+            pairs,
+        ),
+        Part::Recipient(recipient) => agrees(alloc, &recipient.unprotected, pairs),
     }
 }
 
 /// Returns true if each claim in the headers of the layer, and of the part that the keys accepted,
 /// is one of these pairs.
-fn layer_agrees(layer: &VerifiedLayer<'_>, pairs: &[(Value, Value)]) -> bool
-    ensures { result ≡ layer_agrees (value_pairs pairs.now) (verified_view layer.now) }
+///
+/// # Errors
+/// `OutOfMemory` if an allocation fails.
+fn layer_agrees(
+    alloc: Global,
+    layer: &VerifiedLayer<'_>,
+    pairs: &[(Value, Value)],
+) -> Result<bool>
+    ensures answer { IfOk result (λ b. b
+        ≡ layer_agrees (value_pairs pairs.now) (verified_view layer.now)) }
+    ensures memory { IfErr result (λ e. e ≡ OutOfMemory) }
 {
-    agrees(&layer.protected.header, pairs)
-        && agrees(&layer.unprotected, pairs)
-        && part_agrees(&layer.part, pairs)
+    if both_agree(alloc, &layer.protected.header, &layer.unprotected, pairs)? {
+        part_agrees(alloc, &layer.part, pairs)
+    } else {
+        Ok(false)
+    }
+}
+
+/// Returns true if each claim in the headers of the layers is one of these pairs.
+///
+/// # Errors
+/// `OutOfMemory` if an allocation fails.
+fn layers_agree(
+    alloc: Global,
+    layers: &[VerifiedLayer<'_>],
+    pairs: &[(Value, Value)],
+) -> Result<bool>
+    ensures answer { IfOk result (λ b. b
+        ≡ list_all (layer_agrees (value_pairs pairs.now)) (map verified_view layers.now)) }
+    ensures memory { IfErr result (λ e. e ≡ OutOfMemory) }
+{
+    for layer in layers {
+        if !layer_agrees(alloc, layer, pairs)? {
+            return Ok(false);
+        }
+    }
+    Ok(true)
 }
 
 /// Returns true if the header has claims.
@@ -121,6 +178,5 @@ pub(crate) fn header_claims_agree(
         return Ok(true);
     }
     let value = Value::from_slice(alloc, payload)?;
-    let pairs = pairs_in(&value);
-    Ok(layers.iter().all(|layer| layer_agrees(layer, pairs)))
+    layers_agree(alloc, layers, pairs_in(&value))
 }

@@ -2,17 +2,19 @@
 
 ghost use Rattle.std.specs.Prelude.{◌≡◌, IfOk, IfErr};
 ghost use Rattle.coset.specs.CoseError.TheVariants.{OutOfMemory};
+ghost use Rattle.coset.specs.Headers.{fields_in};
 ghost use Rattle.coset.specs.LabelViews.{entry_view};
 ghost use Rattle.coset.specs.LabelData.{as_label, same_label};
-ghost use Rattle.coset.specs.Views.{critical_view, header_view};
-ghost use Rattle.cwt_verify.specs.Headers.{contradict, has_both_ivs, has_label, is_parameter, is_set, number_in, parameters, repeat_label, share_parameter};
+ghost use Rattle.coset.specs.Views.{critical_view, header_view, protected_view};
+ghost use Rattle.cwt_verify.specs.Headers.{contradict, has_both_ivs, has_label, is_parameter, is_set, named_key, number_in, parameters, repeat_label, share_parameter};
 
 use coset::cbor::value::Value;
 use coset::iana::{EnumI64, HeaderParameter};
 use coset::laws::orders_match_equality;
-use coset::{Header, Label, RegisteredLabelWithPrivate, Result};
+use coset::{Header, Label, ProtectedHeader, RegisteredLabelWithPrivate, Result};
 use coset_codec::has_repeats;
 use std::alloc::Global;
+use std::mem;
 
 /// A critical label, which must be understood.
 pub(crate) type Critical = RegisteredLabelWithPrivate<HeaderParameter>;
@@ -132,4 +134,28 @@ pub(crate) fn has_label(header: &Header, label: &Critical) -> bool
     ensures { result ≡ has_label (header_view header.now) (as_label (critical_view label.now)) }
 {
     is_set(header, label) || header.rest.iter().any(|pair| is_labelled(pair, label))
+}
+
+/// Returns the key identifier in the protected header, or if it has none, that in the unprotected
+/// one (RFC 8152, section 3.1). It is empty if neither has one.
+pub(crate) fn named_key(
+    alloc: Global,
+    protected: ProtectedHeader,
+    unprotected: Header,
+) -> Vec<u8>
+    ensures { result.items ≡ named_key (protected_view protected) (header_view unprotected) }
+{
+    let key_id = own_key(alloc, protected.header);
+    if key_id.is_empty() {
+        own_key(alloc, unprotected)
+    } else {
+        key_id
+    }
+}
+
+/// Returns the key identifier in the header. It is empty if there is none.
+pub(crate) fn own_key(alloc: Global, mut header: Header) -> Vec<u8>
+    ensures { result.items ≡ (fields_in (header_view header)).key_id }
+{
+    mem::replace(&mut header.key_id, Vec::new(alloc))
 }

@@ -18,6 +18,7 @@ ghost use Rattle.cwt_verify.specs.Layers.{encrypted, headers_of, layer, layer_it
 
 use crate::admission::Headers;
 use crate::error::LayerError;
+use crate::headers::named_key;
 use crate::policy::Policy;
 use crate::recipients::{open_encrypted_for, open_macced_for};
 use crate::signatures::open_signed_by;
@@ -339,7 +340,10 @@ fn open_signed<'k, K: Keys>(
                 issuer,
             },
         }),
-        Err(error) => Err(LayerError::Keys(error)),
+        Err(error) => Err(LayerError::Keys {
+            key_id: named_key(alloc, message.protected, message.unprotected),
+            error,
+        }),
     }
 }
 
@@ -376,7 +380,10 @@ fn open_macced<'k, K: Keys>(
                 issuer,
             },
         }),
-        Err(error) => Err(LayerError::Keys(error)),
+        Err(error) => Err(LayerError::Keys {
+            key_id: named_key(alloc, message.protected, message.unprotected),
+            error,
+        }),
     }
 }
 
@@ -414,6 +421,9 @@ fn open_encrypted<'k, K: Keys>(
                 issuer,
             },
         }),
-        Err(error) => Err(LayerError::Keys(error)),
+        Err(error) => Err(LayerError::Keys {
+            key_id: named_key(alloc, message.protected, message.unprotected),
+            error,
+        }),
     }
 }

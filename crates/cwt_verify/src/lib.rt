@@ -12,6 +12,7 @@ mod headers;
 mod layer;
 mod layers;
 mod moment;
+mod pairs;
 mod policy;
 mod recipients;
 mod signatures;

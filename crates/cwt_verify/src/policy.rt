@@ -1,10 +1,12 @@
 //! A verifier's requirements for a token, in addition to acceptance by its keys.
 
-ghost use Rattle.std.specs.Prelude.{◌≡◌, map, option_map};
+ghost use Rattle.std.specs.List.{list_all, list_any};
+ghost use Rattle.std.specs.Prelude.{◌≡◌, ◌++◌, map, option_map};
+ghost use Rattle.coset.specs.Headers.{fields_in};
 ghost use Rattle.coset.specs.LabelViews.{algorithm_view};
 ghost use Rattle.coset.specs.LabelData.{as_label};
 ghost use Rattle.coset.specs.Views.{critical_view, header_view};
-ghost use Rattle.cwt_verify.specs.Policy.{allows, authenticates, has_meaning, is_known, is_named, is_understood, named_number, number_of, policy_view, strict, understands};
+ghost use Rattle.cwt_verify.specs.Policy.{allows, authenticates, checks, has_meaning, is_known, is_missing, is_named, is_type, is_understood, named_number, number_of, own_labels, policy_view, strict, understands};
 
 use crate::headers::{Critical, has_label};
 use coset::iana::{Algorithm, CwtClaimName, EnumI64, HeaderParameter};
@@ -18,7 +20,8 @@ pub enum Authentication {
     Signature,
     /// A layer with a signature or a MAC.
     SignatureOrMac,
-    /// Any layer. An encrypted layer authenticates those who share its key (RFC 8152, section 5.3).
+    /// Any layer. An encrypted layer shows at most that its sender has the key (RFC 8152, section
+    /// 10).
     AnyLayer,
 }
 
@@ -57,8 +60,8 @@ pub struct Policy<'a> {
     /// The claims that a token must have.
     pub required: &'a [CwtClaimName],
     /// The labels that the caller understands, out of those that a header may list as critical (RFC
-    /// 9052, section 3.1). The labels 1 to 6, 15 and 16 are always understood. `verify_token`
-    /// doesn't look at the values of the others, nor at the content type. The caller must do so.
+    /// 9052, section 3.1). `verify_token` doesn't look at their values, so the caller must do so.
+    /// The labels 1, 2, 4 to 6 and 15 are always understood, and 16 (`typ`) if there are `types`.
     pub critical: &'a [RegisteredLabelWithPrivate<HeaderParameter>],
     /// The form of an outermost layer without a tag. Sender and verifier must agree on it (RFC
     /// 8392, section 7.2, step 3). A form with a list is accepted here, whatever `accept_lists`
@@ -67,7 +70,8 @@ pub struct Policy<'a> {
     /// True if a layer under a tag may also be a `COSE_Sign`, a `COSE_Mac` or a `COSE_Encrypt`. Of
     /// a list of signatures, the keys must accept one, and nothing is known about the others (RFC
     /// 9052, section 4.1). A list of recipients must have exactly one, which is `direct` and names
-    /// its key (section 8.5.1).
+    /// its key. RFC 9052, section 8.5.1, forbids other modes next to `direct`, and advises that the
+    /// key is named.
     pub accept_lists: bool,
     /// The layers that authenticate the sender. A token must have at least one of them.
     pub authenticated_by: Authentication,
@@ -133,16 +137,54 @@ pub(crate) fn named_number(header: &Header) -> Option<i64>
     }
 }
 
-/// Returns true if the label is one that this crate understands: 1 to 6, 15 or 16.
+/// The labels that this crate may understand. The last one, `typ`, takes a policy with types.
+const OWN_LABELS: [HeaderParameter; 7] = [
+    HeaderParameter::Alg,
+    HeaderParameter::Crit,
+    HeaderParameter::Kid,
+    HeaderParameter::Iv,
+    HeaderParameter::PartialIv,
+    HeaderParameter::CwtClaims,
+    HeaderParameter::ObjectContentType,
+];
+
+/// Returns true if the label is one that this crate always understands: 1, 2, 4 to 6 or 15.
 fn is_known(label: &Critical) -> bool
     ensures { result ≡ is_known (critical_view label.now) }
 {
     match label {
         RegisteredLabelWithPrivate::Assigned(parameter) => {
-            matches!(parameter.to_i64(), 1 | 2 | 3 | 4 | 5 | 6 | 15 | 16)
+            matches!(parameter.to_i64(), 1 | 2 | 4 | 5 | 6 | 15)
         }
         _ => false,
     }
+}
+
+/// Returns true if the label is 16: `typ`, the type of a whole message (RFC 9596).
+fn is_type(label: &Critical) -> bool
+    ensures { result ≡ is_type (critical_view label.now) }
+{
+    match label {
+        RegisteredLabelWithPrivate::Assigned(parameter) => parameter.to_i64() == 16,
+        _ => false,
+    }
+}
+
+/// Returns true if the header lists this label as critical, and doesn't have it.
+fn is_missing(header: &Header, label: &Critical) -> bool
+    ensures { result ≡ is_missing (header_view header.now) (critical_view label.now) }
+{
+    header.crit.iter().any(|listed| label == listed) && !has_label(header, label)
+}
+
+/// Returns true if the header lists a critical label that it doesn't have, out of those that this
+/// crate may understand.
+fn lacks_own(header: &Header) -> bool
+    ensures { result ≡ list_any (is_missing (header_view header.now)) own_labels }
+{
+    OWN_LABELS
+        .iter()
+        .any(|parameter| is_missing(header, &RegisteredLabelWithPrivate::Assigned(*parameter)))
 }
 
 /// Returns true if a header names this algorithm.
@@ -177,19 +219,38 @@ impl Policy<'_> {
         }
     }
 
+    /// Returns true if the label is that of the type, and the policy has types.
+    fn checks(&self, label: &Critical) -> bool
+        ensures { result ≡ checks (policy_view self.now) (critical_view label.now) }
+    {
+        is_type(label) && !self.types.is_empty()
+    }
+
     /// Returns true if the caller or this crate understands the label.
     fn has_meaning(&self, label: &Critical) -> bool
         ensures { result ≡ has_meaning (policy_view self.now) (critical_view label.now) }
     {
-        is_known(label) || self.critical.contains(label)
+        is_known(label) || self.checks(label) || self.critical.contains(label)
     }
 
-    /// Returns true if the label is understood and the header contains it.
-    fn is_understood(&self, header: &Header, label: &Critical) -> bool
-        ensures { result ≡ is_understood (policy_view self.now) (header_view header.now)
-            (critical_view label.now) }
+    /// Returns true if the header lists a critical label that it doesn't have, out of those that
+    /// this crate may understand and those of the caller.
+    fn finds_missing(&self, header: &Header) -> bool
+        ensures { result ≡ list_any (is_missing (header_view header.now))
+            (own_labels ++ (policy_view self.now).critical) }
     {
-        self.has_meaning(label) && has_label(header, label)
+        lacks_own(header) || self.critical.iter().any(|label| is_missing(header, label))
+    }
+
+    /// Returns true if each critical label of the header is understood.
+    ///
+    /// It looks for few labels in two lists that the sender chose, and not for each label of one list
+    /// in the other. So the time grows with the header's length.
+    fn understands_all(&self, header: &Header) -> bool
+        ensures { result ≡ list_all (is_understood (policy_view self.now) (header_view header.now))
+            (fields_in (header_view header.now)).crit }
+    {
+        header.crit.iter().all(|label| self.has_meaning(label)) && !self.finds_missing(header)
     }
 
     /// Returns true if each critical label of the protected header `header` is understood, and the
@@ -198,10 +259,6 @@ impl Policy<'_> {
         ensures { result ≡ understands (policy_view self.now) (header_view header.now)
             (header_view unprotected.now) }
     {
-        let are_understood = header
-            .crit
-            .iter()
-            .all(|label| self.is_understood(header, label));
-        are_understood && unprotected.crit.is_empty()
+        self.understands_all(header) && unprotected.crit.is_empty()
     }
 }

@@ -13,6 +13,7 @@ ghost use Rattle.cwt_verify.specs.Policy.{PolicyView};
 ghost use Rattle.cwt_verify.specs.Recipients.{has_zero_length, holds_key, is_direct, names_direct, names_key, only_direct};
 
 use crate::error::LayerError;
+use crate::headers::own_key;
 use crate::layer::{OpenedLayer, Part, VerifiedLayer};
 use coset::iana::{Algorithm, EnumI64};
 use coset::{
@@ -62,7 +63,7 @@ fn names_key(header: &Header) -> bool
     names_direct(&header.alg) && header.crit.is_empty() && !header.key_id.is_empty()
 }
 
-/// Returns true if the recipient is `direct` and names its key (RFC 9052, section 8.5.1).
+/// Returns true if the recipient is `direct` (RFC 9052, section 8.5.1) and names its key.
 ///
 /// Its protected header has zero length. Its unprotected header has the algorithm and a key
 /// identifier, and lists no critical labels. There is no encrypted key, and there are no recipients
@@ -141,7 +142,10 @@ pub(crate) fn open_macced_for<'k, K: Keys>(
                 issuer,
             },
         }),
-        Err(error) => Err(LayerError::Keys(error)),
+        Err(error) => Err(LayerError::Keys {
+            key_id: own_key(alloc, recipient.unprotected),
+            error,
+        }),
     }
 }
 
@@ -185,6 +189,9 @@ pub(crate) fn open_encrypted_for<'k, K: Keys>(
                 issuer,
             },
         }),
-        Err(error) => Err(LayerError::Keys(error)),
+        Err(error) => Err(LayerError::Keys {
+            key_id: own_key(alloc, recipient.unprotected),
+            error,
+        }),
     }
 }

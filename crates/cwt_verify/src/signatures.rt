@@ -11,6 +11,7 @@ ghost use Rattle.cwt_verify.specs.Signatures.{FindsSignature, TriesSignature, is
 
 use crate::admission::{Headers, check_headers};
 use crate::error::LayerError;
+use crate::headers::named_key;
 use crate::layer::{OpenedLayer, Part, VerifiedLayer};
 use crate::policy::Policy;
 use coset::{CoseSign, CoseSignature};
@@ -32,8 +33,8 @@ fn headers_of(signature: &CoseSignature) -> Headers<'_>
     }
 }
 
-/// Tries one signature of a message that carries `content`. Returns the name of the issuer whose
-/// key accepted it, or `None` if that issuer has no name.
+/// Tries one signature of a message that carries `content`. Returns it, and the name of the issuer
+/// whose key accepted it, or `None` if that issuer has no name.
 ///
 /// # Errors
 /// - `Headers`, `Algorithm` or `Critical` if the policy doesn't admit the signature's headers.
@@ -45,14 +46,14 @@ fn try_signature<'k, K: Keys>(
     keys: &'k K,
     message: &CoseSign,
     content: &[u8],
-    signature: &CoseSignature,
-) -> Result<Option<&'k str>, LayerError<K::Error>>
+    signature: CoseSignature,
+) -> Result<(CoseSignature, Option<&'k str>), LayerError<K::Error>>
     requires { message.now.payload ≡ None }
     ensures { TriesSignature (K.view keys.now) (policy_view policy.now)
-        (protected_view message.now.protected) content.now (signature_view signature.now) result }
+        (protected_view message.now.protected) content.now (signature_view signature) result }
 {
-    check_headers(alloc, policy, headers_of(signature))?;
-    let structure = match message.tbs_detached_data(alloc, content, &[], signature) {
+    check_headers(alloc, policy, headers_of(&signature))?;
+    let structure = match message.tbs_detached_data(alloc, content, &[], &signature) {
         Ok(structure) => structure,
         Err(error) => return Err(LayerError::Message(error)),
     };
@@ -64,8 +65,11 @@ fn try_signature<'k, K: Keys>(
         &structure,
     );
     match keys.verify(&sealed) {
-        Ok(issuer) => Ok(issuer),
-        Err(error) => Err(LayerError::Keys(error)),
+        Ok(issuer) => Ok((signature, issuer)),
+        Err(error) => Err(LayerError::Keys {
+            key_id: named_key(alloc, signature.protected, signature.unprotected),
+            error,
+        }),
     }
 }
 
@@ -101,8 +105,8 @@ fn find_signature<'k, K: Keys>(
 {
     let mut refused = LayerError::NoSignature;
     for signature in signatures {
-        match try_signature(alloc, policy, keys, message, content, &signature) {
-            Ok(issuer) => return Ok((signature, issuer)),
+        match try_signature(alloc, policy, keys, message, content, signature) {
+            Ok(accepted) => return Ok(accepted),
             Err(error) => {
                 if is_message(&error) {
                     return Err(error);

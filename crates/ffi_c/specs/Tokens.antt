@@ -93,7 +93,7 @@ layer_number at.Recipients = 12
 layer_number at.NoPayload = 12
 layer_number at.NoSignature = 12
 layer_number at.TooManySignatures = 16
-layer_number (at.Keys v) = 19
+layer_number (at.Keys id v) = 19
 
 -- The number of a reason against a token.
 abbrev pub error_number : TokenError LayerView → ℕ
@@ -124,7 +124,7 @@ token_status (Err r) = pos (token_number r)
 -- The length of a result: of the token, of a layer's texts, or the length needed. For any other result it is 0.
 abbrev pub token_length : Result ℕ refusals.Refusal → ℕ
 token_length (Ok n) = n
-token_length (Err (Token (token.Layer index (at.Keys v)))) = v.len
+token_length (Err (Token (token.Layer index (at.Keys id v)))) = v.len
 token_length (Err (Answer (answers.Short n))) = n
 token_length (Err r) = 0
 
@@ -150,7 +150,7 @@ no_layer = record {
 
 -- The layer at this index waits and has this view, or a reason is against it.
 abbrev pub layer_at : ℕ → LayerError LayerView → layers.Layer
-layer_at index (at.Keys v) = record {
+layer_at index (at.Keys id v) = record {
   form = form_number v.form;
   key_id_map = number_of_map v.key_id_place;
   algorithm = number_or_0 v.algorithm;

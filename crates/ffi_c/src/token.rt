@@ -242,7 +242,7 @@ fn layer_number(error: LayerError<LayerView>) -> i32
         LayerError::NoPayload => COSET_ABSENT,
         LayerError::NoSignature => COSET_ABSENT,
         LayerError::TooManySignatures => COSET_NOT_ALLOWED,
-        LayerError::Keys(_) => COSET_LAYER,
+        LayerError::Keys { .. } => COSET_LAYER,
     }
 }
 
@@ -312,7 +312,7 @@ fn layer_at(index: usize, error: &LayerError<LayerView>) -> Layer
     ensures { result ≡ layer_at index error.now }
 {
     match error {
-        LayerError::Keys(layer) => Layer {
+        LayerError::Keys { error: layer, .. } => Layer {
             form: form_number(layer.form),
             key_id_map: number_of_map(layer.key_id_place),
             algorithm: number_or_0(layer.algorithm),
@@ -357,7 +357,7 @@ fn token_length(answer: &Result<usize, Refusal>) -> usize
 {
     match answer {
         Ok(len) => *len,
-        Err(Refusal::Token(TokenError::Layer(_, LayerError::Keys(view)))) => view.len,
+        Err(Refusal::Token(TokenError::Layer(_, LayerError::Keys { error: view, .. }))) => view.len,
         Err(Refusal::Answer(ffi_query::Refusal::Short(len))) => *len,
         Err(_) => 0,
     }

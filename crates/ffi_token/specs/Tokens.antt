@@ -1,5 +1,6 @@
 -- The result of opening a token.
-use Rattle.std.specs.Prelude.{◌≡◌, ◌&&◌, ◌⊎◌, ℕ, ℤ, List, Bool, Option, Some, None, Result, Ok, Err, if◌then◌else◌}
+use Rattle.std.specs.Prelude.{◌≡◌, ◌&&◌, ◌⊎◌, ℕ, ℤ, List, Bool, Option, Some, None, Result, Ok, Err, Vec, if◌then◌else◌}
+use Rattle.std.specs.Global.{Global}
 use Rattle.std.specs.List.{list_all}
 use Rattle.coset.specs.CoseError.TheVariants as errors
 use Rattle.coset.specs.Errors.{UnlessMemory}
@@ -32,8 +33,8 @@ abbrev pub refused_at : ℕ → LayerError LayerView → aparts.Apart
 refused_at index e = apart_as.Refused (token.Layer index e)
 
 abbrev pub apart_at : ℕ → LayerError Waiting → aparts.Apart
-apart_at index (at.Keys (waits.Layer l)) = apart_as.Layer index l
-apart_at index (at.Keys waits.OutOfMemory) = refused_at index (at.Message errors.OutOfMemory)
+apart_at index (at.Keys id (waits.Layer l)) = apart_as.Layer index id l
+apart_at index (at.Keys id waits.OutOfMemory) = refused_at index (at.Message errors.OutOfMemory)
 apart_at index (at.Message e) = refused_at index (at.Message e)
 apart_at index at.Headers = refused_at index at.Headers
 apart_at index (at.Algorithm n) = refused_at index (at.Algorithm n)
@@ -71,15 +72,16 @@ WritesToken t old new (Err (Answer (answers.Cose e))) =
     UnlessMemory e (λ f. (f ≡ errors.DuplicateMapKey) × (token_image t ≡ None)) × (new ≡ old)
 WritesToken t old new (Err r) = ⊥
 
--- The texts of the layer at this index are at the front of the memory, and its view is returned. Or the texts don't fit.
-abbrev pub WritesLayer : ℕ → layers.Layer → List ℕ → List ℕ → refusals.Refusal → Type 0
-WritesLayer index l old new (Token (token.Layer i (at.Keys v))) = (i ≡ index) × (v ≡ l.view) × BeginsWith l.text.items old new
-WritesLayer index l old new (Answer (answers.Short n)) = Puts l.text.items old new (Err (answers.Short n))
-WritesLayer index l old new r = ⊥
+-- The texts of the layer at this index are at the front of the memory, and its key identifier and its view are returned.
+-- Or the texts don't fit.
+abbrev pub WritesLayer : ℕ → Vec ℕ Global → layers.Layer → List ℕ → List ℕ → refusals.Refusal → Type 0
+WritesLayer index id l old new (Token (token.Layer i (at.Keys k v))) = (i ≡ index) × (k ≡ id) × (v ≡ l.view) × BeginsWith l.text.items old new
+WritesLayer index id l old new (Answer (answers.Short n)) = Puts l.text.items old new (Err (answers.Short n))
+WritesLayer index id l old new r = ⊥
 
 abbrev pub ReturnsApart : aparts.Apart → List ℕ → List ℕ → Result ℕ refusals.Refusal → Type 0
 ReturnsApart a old new (Ok n) = ⊥
-ReturnsApart (apart_as.Layer index l) old new (Err r) = WritesLayer index l old new r
+ReturnsApart (apart_as.Layer index id l) old new (Err r) = WritesLayer index id l old new r
 ReturnsApart (apart_as.Refused e) old new (Err r) = (r ≡ Token e) × (new ≡ old)
 
 -- The result for a token that was verified or refused.

@@ -24,8 +24,8 @@ pub enum Refusal {
 /// An error of a verified token: a layer that waits, or a refusal.
 #[derive(Drop)]
 pub(crate) enum Apart {
-    /// The layer at this index waits.
-    Layer(usize, Layer),
+    /// The layer at this index waits, and names the key with this identifier.
+    Layer(usize, Vec<u8>, Layer),
     /// No layer waits. This is the reason against the token.
     Refused(TokenError<LayerView>),
 }
@@ -35,8 +35,14 @@ fn apart_at(index: usize, error: LayerError<Waiting>) -> Apart
     ensures { result ≡ apart_at index error }
 {
     let refused = match error {
-        LayerError::Keys(Waiting::Layer(layer)) => return Apart::Layer(index, layer),
-        LayerError::Keys(Waiting::OutOfMemory) => LayerError::Message(CoseError::OutOfMemory),
+        LayerError::Keys {
+            key_id,
+            error: Waiting::Layer(layer),
+        } => return Apart::Layer(index, key_id, layer),
+        LayerError::Keys {
+            error: Waiting::OutOfMemory,
+            ..
+        } => LayerError::Message(CoseError::OutOfMemory),
         LayerError::Message(error) => LayerError::Message(error),
         LayerError::Headers => LayerError::Headers,
         LayerError::Algorithm(number) => LayerError::Algorithm(number),

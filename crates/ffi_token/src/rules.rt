@@ -25,14 +25,15 @@ pub struct Rules<'a> {
     /// The allowed algorithms.
     pub algorithms: &'a [i64],
     /// The labels that the caller understands, out of those that a header may list as critical. The
-    /// labels 1 to 6, 15 and 16 are always understood. A number that IANA hasn't assigned counts as
-    /// a private-use number.
+    /// labels 1, 2, 4 to 6 and 15 are always understood, and 16 if there are `types`. A number that
+    /// IANA hasn't assigned counts as a private-use number.
     pub critical: &'a [i64],
     /// The claims that a token must have.
     pub required: &'a [i64],
     /// The audiences that are accepted. If there is none, a token with an audience is refused.
     pub audiences: &'a [Text<'a>],
-    /// The types that are accepted. If there is none, the type isn't looked at.
+    /// The types that are accepted. If there is none, the type isn't looked at, and a critical type
+    /// is refused, unless `critical` names it.
     pub types: &'a [Text<'a>],
     /// True if the audience isn't checked. There are then no `audiences`.
     pub any_audience: bool,

@@ -52,11 +52,12 @@ fn write_token<'a>(
 }
 
 /// Writes the texts of a waiting layer to the front of `out`, and returns the layer's view.
-fn write_layer(index: usize, layer: Layer, out: &mut [u8]) -> Refusal
-    ensures { WritesLayer index layer out.old out.new result }
+fn write_layer(index: usize, key_id: Vec<u8>, layer: Layer, out: &mut [u8]) -> Refusal
+    ensures { WritesLayer index key_id layer out.old out.new result }
 {
+    let error = layer.view;
     match write_found(Ok(Some(layer.text)), out) {
-        Ok(_) => Refusal::Token(TokenError::Layer(index, LayerError::Keys(layer.view))),
+        Ok(_) => Refusal::Token(TokenError::Layer(index, LayerError::Keys { key_id, error })),
         Err(refusal) => Refusal::Answer(refusal),
     }
 }
@@ -72,7 +73,7 @@ fn answer(
     match verified {
         Ok(token) => write_token(alloc, &token, out),
         Err(error) => match taken_apart(error) {
-            Apart::Layer(index, layer) => Err(write_layer(index, layer, out)),
+            Apart::Layer(index, key_id, layer) => Err(write_layer(index, key_id, layer, out)),
             Apart::Refused(error) => Err(Refusal::Token(error)),
         },
     }

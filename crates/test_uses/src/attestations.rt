@@ -156,7 +156,10 @@ fn tokens_that_are_refused(rt: HostRuntime) -> Result<(), Fail> {
     assert!(rt;
         matches!(
             other_structure,
-            Err(NotAttested::Refused(TokenError::Layer(0, LayerError::Keys(No))))
+            Err(NotAttested::Refused(TokenError::Layer(
+                0,
+                LayerError::Keys { error: No, .. }
+            )))
         )
     );
     let (by_another, structure) = BY_ANOTHER_ALGORITHM;

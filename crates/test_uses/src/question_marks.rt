@@ -184,7 +184,11 @@ fn what_tokens_are_refused_for(rt: HostRuntime) -> Result<(), Fail> {
     );
     let refused: GateError<NoKey> = GateError::Caller(NoKey);
     assert_eq!(rt; text(alloc, &refused)?.as_str(), "no such key");
-    let Stopped(refused) = passed_on(TokenError::Layer(1, LayerError::Keys(NoKey)))
+    let waiting = LayerError::Keys {
+        key_id: Vec::new(alloc),
+        error: NoKey,
+    };
+    let Stopped(refused) = passed_on(TokenError::Layer(1, waiting))
         .err()
         .ok_or("went on")?;
     assert_eq!(rt; text(alloc, &refused)?.as_str(), "layer 1: no such key");

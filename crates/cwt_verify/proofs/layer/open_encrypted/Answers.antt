@@ -30,4 +30,4 @@ returns g c = λ policy.
     let x = seal_view c.new-sealed.result in
     let carried : m.ciphertext ≡ Some q = ap (option_map (λ (b : Vec ℕ Global). b.items)) (sym c.take.ensures.value ∙ c.in-Some.is) in
     let asked = same_parts Encrypt0 m.protected m.unprotected None None x _ _ q t c.new-sealed.ensures c.deref.ensures.value c.deref-2.ensures.value refl in
-    not_decrypted k policy m q t x c.in-Err-decrypt.error carried c.in-Ok.ensures asked c.in-Err-decrypt.ensures.refused
+    not_decrypted k policy m q t x c.named_key.result c.in-Err-decrypt.error carried c.in-Ok.ensures asked c.named_key.ensures c.in-Err-decrypt.ensures.refused

@@ -33,5 +33,5 @@ returns g c = λ policy.
     let carried : m.payload ≡ Some b = ap (option_map (λ (v : Vec ℕ Global). v.items)) (sym c.take.ensures.value ∙ c.in-Some.is) in
     let asked = same_parts Sign1 m.protected m.unprotected None None x _ _ m.signature t c.new-sealed.ensures c.deref-2.ensures.value
     c.deref-3.ensures.value refl in
-    signed_refused k policy m b t x c.in-Err-verify.error carried (subst (λ q. IsStructure
-    (sign1_structure m [] q) t) c.deref.ensures.value c.in-Ok.ensures) asked c.in-Err-verify.ensures.refused
+    signed_refused k policy m b t x c.named_key.result c.in-Err-verify.error carried (subst (λ q. IsStructure
+    (sign1_structure m [] q) t) c.deref.ensures.value c.in-Ok.ensures) asked c.named_key.ensures c.in-Err-verify.ensures.refused

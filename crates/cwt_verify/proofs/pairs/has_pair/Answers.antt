@@ -4,7 +4,7 @@ use Rattle.std.proofs.lemmas.Iterator.Search.{any_from_yields_List}
 use Rattle.coset_value.specs.Same.{item_eq}
 use Rattle.coset.specs.View.{value_item}
 use Rattle.cwt_verify.proofs.PairTests.{any_pair-of}
-use Rattle.cwt_verify.proofs.header_claims.has_pair.Goals as goal
+use Rattle.cwt_verify.proofs.pairs.has_pair.Goals as goal
 
 pub returns : goal.returns
 returns c =
