@@ -14,18 +14,34 @@ HEAD = """# The interface of the shared library: what a program that is linked w
 """
 
 
+# The lines that have the version or its number, in the files of programs.
+VERSIONED = (("c/include/coset.h", '#define COSET_VERSION "{version}"\n#define COSET_VERSION_NUMBER {number}'),
+             ("c/wrappers/rust/coset.rs", "const VERSION_NUMBER: u32 = {number};"),
+             ("c/wrappers/python/coset/__init__.py", "_VERSION_NUMBER = {number}"),
+             ("c/wrappers/js/coset.mjs", "const VERSION_NUMBER = {number};"),
+             ("c/wrappers/go/coset/coset.go", "const versionNumber = {number}"))
+# The files whose versions are older ones, or those of tests.
+FIXED = ("CHANGELOG.md", "tools/capi/trying.py")
+
+
 def version():
     return read("VERSION").strip()
 
 
 def numbers(of=None):
-    """Returns the four numbers of a version such as 0.4.2-rattle.7, with points between them. The library's own if `of` is None."""
+    """Returns the four numbers of a version such as 0.4.2-rattle.N, with points between them. The library's own if `of` is None."""
     return ".".join(re.findall(r"\d+", of or version()))
 
 
-def number():
-    """Returns the version's four numbers as one, with a byte for each."""
-    return int.from_bytes(bytes(map(int, numbers().split("."))), "big")
+def number(of=None):
+    """Returns the four numbers of a version as one, with a byte for each. The library's own if `of` is None."""
+    return int.from_bytes(bytes(map(int, numbers(of).split("."))), "big")
+
+
+def following():
+    """Returns the version after the library's own."""
+    head, _, last = version().rpartition(".")
+    return f"{head}.{int(last) + 1}"
 
 
 def is_older(one, other):
@@ -119,14 +135,10 @@ def compare(check):
     """Compares the list with the header."""
     (first, second), begins, lines = listed()
     there, how = declared(), f"is the interface another one? tools/c --interface writes {PATH}"
-    check(f'#define COSET_VERSION "{version()}"\n#define COSET_VERSION_NUMBER 0x{number():08x}\n' in names.header(),
-          "the header's version isn't that of VERSION")
-    check(f"const VERSION_NUMBER = 0x{number():08x};" in names.javascript(), "coset.mjs doesn't have the number of VERSION")
-    for path, head in (("rust/coset.rs", "const VERSION_NUMBER: u32"), ("go/coset/coset.go", "const versionNumber")):
-        check(f"\n{head} = 0x{number():08x}" in read(f"c/wrappers/{path}"), f"{path} doesn't have the number of VERSION")
-    python = read("c/wrappers/python/coset/__init__.py")
-    check(f'"{soname()}"' in python, f"the Python wrapper doesn't load {soname()}")
-    check(f"\n_VERSION_NUMBER = 0x{number():08x}\n" in python, "the Python wrapper doesn't have the number of VERSION")
+    for path, lines_of in VERSIONED:
+        wanted = lines_of.format(version=version(), number=f"0x{number():08x}")
+        check(f"\n{wanted}\n" in f"\n{read(path)}", f"{path} doesn't have the version of VERSION: {wanted}")
+    check(f'"{soname()}"' in read("c/wrappers/python/coset/__init__.py"), f"the Python wrapper doesn't load {soname()}")
     check(f"`{soname()}`" in read("docs/C.md"), f"docs/C.md doesn't name {soname()}")
     check(len(set(there)) == len(there), "coset.h declares something twice")
     for line in lines.keys() - set(there):
