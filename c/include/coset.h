@@ -589,8 +589,8 @@ COSET_CALL(8)
 coset_status coset_add(uint32_t kind, const uint8_t *in, size_t in_len, const uint8_t *member, size_t member_len, uint8_t *out,
                        size_t cap, size_t *len);
 
-/* Writes the item in its shortest encoding. Pairs keep their order, and protected headers their bytes. Never
- * COSET_ABSENT. */
+/* Writes the item with the shortest heads, without indefinite lengths. Floats keep their width, pairs their order, and
+ * protected headers their bytes. Never COSET_ABSENT. */
 COSET_CALL(6)
 coset_status coset_write(uint32_t kind, const uint8_t *in, size_t in_len, uint8_t *out, size_t cap, size_t *len);
 
