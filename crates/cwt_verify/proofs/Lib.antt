@@ -1,3 +1,4 @@
+mod Agreeing
 mod Among
 mod Critical
 mod Directing

@@ -1,0 +1,28 @@
+use Rattle.std.proofs.Common.{◌∙◌, sym}
+use Rattle.coset.specs.View.{value_pairs}
+use Rattle.cwt_verify.specs.HeaderClaims.{layer_agrees}
+use Rattle.cwt_verify.specs.Opening.{verified_view}
+use Rattle.cwt_verify.specs.declared.layer.VerifiedLayer.{VerifiedLayer}
+use Rattle.cwt_verify.proofs.Opened.{all-map}
+use Rattle.cwt_verify.proofs.Agreeing.{goes_on, fails_at, none_left}
+use Rattle.cwt_verify.proofs.header_claims.layers_agree.Goals as goal
+
+pub loop-layer-preserved : goal.loop-layer-preserved
+loop-layer-preserved c =
+    let test = λ (x : VerifiedLayer). layer_agrees (value_pairs c.args.pairs.now) (verified_view x) in
+    c.loop-layer.invariant
+    ∙ goes_on test c.args.layers.now c.loop-layer.layer-index _ c.loop-layer-test.true (sym c.in_ok-layer_agrees.ensures.answer ∙ c.if-not-branch.false)
+
+pub returns-then-not-branch : goal.returns-then-not-branch
+returns-then-not-branch c =
+    let all = c.args.layers.now in
+    let test = λ (x : VerifiedLayer). layer_agrees (value_pairs c.args.pairs.now) (verified_view x) in
+    let found = fails_at test all c.loop-layer.layer-index _ c.loop-layer-test.true (sym c.in_ok-layer_agrees.ensures.answer ∙ c.if-not-branch.true) in
+    record { answer = sym (all-map (layer_agrees (value_pairs c.args.pairs.now)) verified_view all ∙ (c.loop-layer.invariant ∙ found)) }
+
+pub returns : goal.returns
+returns c =
+    let all = c.args.layers.now in
+    let test = λ (x : VerifiedLayer). layer_agrees (value_pairs c.args.pairs.now) (verified_view x) in
+    let found = none_left test all c.loop-layer.layer-index c.loop-layer-test.false in
+    record { answer = sym (all-map (layer_agrees (value_pairs c.args.pairs.now)) verified_view all ∙ (c.loop-layer.invariant ∙ found)) }
