@@ -1,20 +1,26 @@
 -- The ciphers are asked for the algorithm that the layer names.
-use Rattle.std.proofs.Common.{◌≡◌, ◌∙◌, ◌++◌, ℤ, ℕ, List, [], ◌∷◌, option_map, Option, Some, None, ap, refl, sym, subst}
+use Rattle.std.proofs.Common.{◌≡◌, ◌∙◌, ◌++◌, if◌then◌else◌, ℤ, ℕ, Bool, true, false, List, [], ◌∷◌, option_map, Option, Some, None, ap, refl, sym, subst}
 use Rattle.std.specs.List.{cons_option}
 use Rattle.std.specs.Option.{IsSomeAnd, option_and_then}
 use Rattle.coset.specs.Keys.{KeyView}
 use Rattle.cwt_keys.specs.Keys.{Name}
-use Rattle.cwt_keys.specs.Sealed.{SealView, algorithm_of}
+use Rattle.cwt_keys.specs.Sealed.{SealView, algorithm_of, key_id_of}
 use Rattle.cwt_keys.specs.Table.{of_form}
 use Rattle.cwt_ring.specs.Attempts.{Finds, IssuerView, RefusedFor, fitting, fitting_of}
-use Rattle.cwt_ring.specs.Fits.{Fitted, fits, fits_by, row_numbered}
+use Rattle.cwt_ring.specs.Fits.{Fitted, fits, fits_algorithm, fits_by, may_be, row_numbered}
 use Rattle.cwt_ring.specs.Ring.{CiphersView, Decrypts, DecryptsBy, NotDecrypted, NotDecryptedBy, NotVerified, NotVerifiedBy, Verifies, VerifiesBy}
 use Rattle.cwt_ring.specs.declared.error.KeyError.{KeyError}
 
 -- ---- a layer without an algorithm
 
+no_value : {A : Type 0} (b : Bool) (o : Option A) → o ≡ None → (if b then o else None) ≡ None
+no_value true o e = e
+no_value false o e = refl
+
 no_nonce : (s : SealView) (k : KeyView) → None ≡ algorithm_of s → fits k s ≡ None
-no_nonce s k e = ap (λ o. option_and_then (λ a. option_and_then (λ r. fits_by a r k s) (of_form s.form (row_numbered a))) o) (sym e)
+no_nonce s k e =
+    no_value (may_be (key_id_of s) k.key_id) (fits_algorithm k s)
+    (ap (λ o. option_and_then (λ a. option_and_then (λ r. fits_by a r k s) (of_form s.form (row_numbered a))) o) (sym e))
 
 none_of_issuer : (s : SealView) (name : Name) (ks : List KeyView) → None ≡ algorithm_of s → fitting_of s name ks ≡ []
 none_of_issuer s name [] e = refl

@@ -64,7 +64,7 @@ may_be named id = length named == 0 || pointwise ◌==◌ id named
 
 -- The key and the layer are as the row requires.
 abbrev pub suits : Row → KeyView → SealView → Bool
-suits r k s = is_of_kind r.keys k && permits r.form k.key_ops && has_proof_length r.form r k s.proof && may_be (key_id_of s) k.key_id
+suits r k s = is_of_kind r.keys k && permits r.form k.key_ops && has_proof_length r.form r k s.proof
 
 -- The nonce by which the key opens the layer. A signature and a MAC have an empty one.
 abbrev pub nonce_by : Form → ℕ → KeyView → SealView → Option (List ℕ)
@@ -76,10 +76,13 @@ nonce_by f n k s = Some []
 abbrev pub fits_by : ℤ → Row → KeyView → SealView → Option (List ℕ)
 fits_by a r k s = if is_key_for a k.alg && suits r k s then nonce_by r.form r.nonce k s else None
 
--- The nonce by which the key fits the layer, or `None` if it doesn't fit. The row is that of the layer's algorithm, and
--- it must be of the layer's form.
+-- The same for the layer's algorithm. It must have a row, of the layer's form.
+abbrev pub fits_algorithm : KeyView → SealView → Option (List ℕ)
+fits_algorithm k s = option_and_then (λ a. option_and_then (λ r. fits_by a r k s) (of_form s.form (row_numbered a))) (algorithm_of s)
+
+-- The nonce by which the key fits the layer, or `None` if it doesn't fit, or if the layer names another key.
 abbrev pub fits : KeyView → SealView → Option (List ℕ)
-fits k s = option_and_then (λ a. option_and_then (λ r. fits_by a r k s) (of_form s.form (row_numbered a))) (algorithm_of s)
+fits k s = if may_be (key_id_of s) k.key_id then fits_algorithm k s else None
 
 abbrev pub nonce_view : Nonce → List ℕ
 nonce_view n = take n.len n.bytes

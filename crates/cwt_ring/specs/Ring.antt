@@ -51,7 +51,7 @@ Decrypts c s p k = IsSomeAnd (algorithm_of s) (λ a. DecryptsBy c a s p k)
 abbrev pub NotDecrypted : {E : Type 0} → CiphersView E → SealView → Fitted → E → Type 0
 NotDecrypted c s k e = IsSomeAnd (algorithm_of s) (λ a. NotDecryptedBy c a s k e)
 
--- The view of a ring. Each key that fits the layer is tried, in order, until one is accepted.
+-- The view of a ring. The first 16 keys that fit the layer are tried, in order, until one is accepted.
 abbrev pub ring_view : {E : Type 0} → CiphersView E → List Issuer → KeysView (KeyError E)
 ring_view c is = record {
   accepts = λ s name. Finds (Verifies c s) (NotVerified c s) (fitting s (map issuer_view is)) name;

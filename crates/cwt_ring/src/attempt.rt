@@ -12,6 +12,10 @@ use crate::nonce::Nonce;
 use coset::{CoseKey, CoseKeySet};
 use cwt_keys::Sealed;
 
+/// The most keys that a ring tries for a layer. Each try costs a use of the ciphers, and the sender
+/// chooses how many keys fit: without a key identifier, each key for the algorithm may.
+pub const MAX_KEYS: usize = 16;
+
 /// An issuer of tokens: its name and its keys.
 #[derive(Clone, Copy, Debug)]
 pub struct Issuer<'a> {
@@ -42,11 +46,12 @@ pub(crate) trait Attempt {
 }
 
 /// Tries each key that fits the layer, in order, until one is accepted. Returns its result, and the
-/// name of its issuer.
+/// name of its issuer. At most `MAX_KEYS` keys are tried.
 ///
 /// # Errors
 /// - `NoKey` if no key fits.
 /// - `Cipher` if each key that fits is refused. The error is that of the last key.
+/// - `TooManyKeys` if `MAX_KEYS` keys are refused, and another key fits.
 pub(crate) fn try_each<'k, A: Attempt>(
     issuers: &'k [Issuer<'k>],
     sealed: &Sealed<'_>,
@@ -60,13 +65,18 @@ pub(crate) fn try_each<'k, A: Attempt>(
         (fitting (seal_view sealed.now) (map issuer_view issuers.now)) e) }
 {
     let mut refused = None;
+    let mut tried = 0;
     for issuer in issuers {
         for key in &issuer.keys.0 {
             if let Some(nonce) = fits(key, sealed) {
+                if tried == MAX_KEYS {
+                    return Err(KeyError::TooManyKeys);
+                }
                 match attempt.attempt(key, &nonce) {
                     Ok(given) => return Ok((given, issuer.name)),
                     Err(error) => refused = Some(error),
                 }
+                tried += 1;
             }
         }
     }

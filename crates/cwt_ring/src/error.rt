@@ -12,6 +12,9 @@ pub enum KeyError<E> {
     NoKey,
     /// The ciphers refused the layer with each key that fits it. The error is that of the last key.
     Cipher(E),
+    /// The ciphers refused the layer with the first 16 keys that fit it, and more keys fit
+    /// ([`MAX_KEYS`](crate::MAX_KEYS)).
+    TooManyKeys,
 }
 
 /// Writes the reason in words. For the ciphers' own error, it writes the text of that error.
@@ -22,6 +25,7 @@ impl<E: fmt::Display> fmt::Display for KeyError<E> {
         match self {
             KeyError::NoKey => write!(f, "no key fits"),
             KeyError::Cipher(error) => write!(f, "{error}"),
+            KeyError::TooManyKeys => write!(f, "too many keys fit"),
         }
     }
 }

@@ -83,10 +83,7 @@ fn may_be(key: &CoseKey, sealed: &Sealed<'_>) -> bool
 fn suits(row: Row, key: &CoseKey, sealed: &Sealed<'_>) -> bool
     ensures { result ≡ suits row (key_view key.now) (seal_view sealed.now) }
 {
-    is_of_kind(key, row.keys)
-        && permits(key, row.form)
-        && has_proof_length(row, key, sealed.proof)
-        && may_be(key, sealed)
+    is_of_kind(key, row.keys) && permits(key, row.form) && has_proof_length(row, key, sealed.proof)
 }
 
 /// Returns the nonce by which the key opens the layer, or `None` if there is none.
@@ -111,6 +108,8 @@ fn nonce_by(row: Row, key: &CoseKey, sealed: &Sealed<'_>) -> Option<Nonce>
 ///
 /// A key fits if all of these hold:
 ///
+/// - The layer names no key identifier, or that of the key. That of a `COSE_Mac` or `COSE_Encrypt`
+///   is in its recipient. Of a key with another identifier, nothing else is looked at.
 /// - Its `alg` is the algorithm in the layer's protected header (RFC 8725, section 3.1). IANA
 ///   assigned the algorithm's number, and the table of `cwt_keys` has a row for it, of the layer's
 ///   form.
@@ -126,11 +125,12 @@ fn nonce_by(row: Row, key: &CoseKey, sealed: &Sealed<'_>) -> Option<Nonce>
 /// - A MAC has exactly the length of the row, and a ciphertext is at least as long as its tag.
 /// - For a ciphertext, the layer has an IV of the row's length. Or it has no IV but a Partial IV of
 ///   at most that length, and the key has a Base IV of exactly that length (RFC 9052, section 3.1).
-/// - The layer names no key identifier, or that of the key. That of a `COSE_Mac` or `COSE_Encrypt`
-///   is in its recipient.
 pub fn fits(key: &CoseKey, sealed: &Sealed<'_>) -> Option<Nonce>
     ensures { option_map nonce_view result ≡ fits (key_view key.now) (seal_view sealed.now) }
 {
+    if !may_be(key, sealed) {
+        return None;
+    }
     let algorithm = sealed.algorithm()?;
     let row = row_of_form(algorithm, sealed.form)?;
     if is_key_for(key, algorithm) && suits(row, key, sealed) {

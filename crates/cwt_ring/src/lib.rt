@@ -17,7 +17,7 @@ mod nonce;
 mod ring;
 mod signature;
 
-pub use attempt::Issuer;
+pub use attempt::{Issuer, MAX_KEYS};
 pub use error::KeyError;
 pub use fit::fits;
 pub use key_set::keys_from_slice;

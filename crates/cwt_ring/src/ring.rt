@@ -66,10 +66,14 @@ pub trait Ciphers {
 
 /// The keys of several issuers, and the ciphers that use them.
 ///
-/// For each layer, the ring tries every key that [`fits`](crate::fits), in the order of the issuers
-/// and of their keys. It returns the name of the issuer of the first key that the ciphers accept.
-/// So no two issuers may share a key. If a layer names no key, each key for its algorithm is tried:
-/// the sender chooses this cost.
+/// For each layer, the ring tries the keys that fit ([`fits`](crate::fits)), in the order of the
+/// issuers and of their keys. It returns the name of the issuer of the first key that the ciphers
+/// accept. So no two issuers may share a key.
+///
+/// A layer without a key identifier may be of any key for its algorithm. The sender chooses that, so
+/// the ring tries at most 16 keys for a layer ([`MAX_KEYS`](crate::MAX_KEYS)). If they are refused,
+/// and more keys fit, the error is `TooManyKeys`. So keep at most 16 keys with one algorithm and one
+/// identifier, or with one algorithm if tokens name no keys.
 #[derive(Drop)]
 pub struct KeyRing<'a, C> {
     /// The issuers.

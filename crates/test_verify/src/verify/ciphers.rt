@@ -11,7 +11,7 @@ use test_lines::tell::hexadecimal;
 use test_lines::words::{bytes, index};
 
 /// The number of calls that are kept.
-const MAX_CALLS: usize = 16;
+const MAX_CALLS: usize = 32;
 
 /// The most bytes of an identifier that are kept.
 const MAX_KID: usize = 64;

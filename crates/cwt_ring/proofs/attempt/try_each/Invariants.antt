@@ -9,8 +9,8 @@ use Rattle.cwt_ring.proofs.attempt.try_each.Given as goal
 abbrev pub invariant-loop-key : goal.invariant-loop-key
 invariant-loop-key g l =
     Tried (g.A.Attempt.refuses l.attempt) (fitting (seal_view l.sealed) (map issuer_view (take l.issuer-index l.issuers))
-    ++ fitting_of (seal_view l.sealed) (name_view l.issuer.name) (map key_view (take l.key-index l.key-items))) l.refused
+    ++ fitting_of (seal_view l.sealed) (name_view l.issuer.name) (map key_view (take l.key-index l.key-items))) l.refused l.tried
 
 abbrev pub invariant-loop-issuer : goal.invariant-loop-issuer
 invariant-loop-issuer g l =
-    Tried (g.A.Attempt.refuses l.attempt) (fitting (seal_view l.sealed) (map issuer_view (take l.issuer-index l.issuers))) l.refused
+    Tried (g.A.Attempt.refuses l.attempt) (fitting (seal_view l.sealed) (map issuer_view (take l.issuer-index l.issuers))) l.refused l.tried
