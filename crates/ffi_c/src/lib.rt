@@ -226,11 +226,8 @@ pub extern "C" fn coset_structure(
         (λ k. Replies (ReturnsOr k input.now (IsStructureOnce k index external_aad.now d)
         (HasNoStructure k index external_aad.now d) out.old out.new) result len.new) }
 {
-    let query = within(
-        signer_query(kind, index, has_detached, detached),
-        input,
-        out,
-    );
+    let asked = signer_query(kind, index, has_detached, detached);
+    let query = within(asked, input, out);
     match within(query, external_aad, detached) {
         Some(kind) => {
             let detached = bytes_if(has_detached, detached);

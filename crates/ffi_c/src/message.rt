@@ -143,11 +143,8 @@ pub extern "C" fn coset_message(
         (IsMessageView k index external_aad.now d known.now input.now)
         (HasNoView k index external_aad.now d known.now) out.old out.new) result len.new view.new) }
 {
-    let query = within(
-        signer_query(kind, index, has_detached, detached),
-        input,
-        out,
-    );
+    let asked = signer_query(kind, index, has_detached, detached);
+    let query = within(asked, input, out);
     match within_numbers(within(query, external_aad, detached), known, &[]) {
         Some(kind) => {
             let detached = bytes_if(has_detached, detached);
