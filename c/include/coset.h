@@ -70,9 +70,9 @@ enum {
   COSET_ABSENT = 12,       /* the bytes don't have the requested part. Or items of the kind, or the bytes that something
                               is added to, have no place for an argument */
   COSET_MISUSE = 13,       /* a number has no meaning: it names no kind, part, map, form, order or countersignature,
-                              or a kind that the call doesn't take. Or a payload or ciphertext is given as detached
-                              although the message carries one, or although the flag is 0. Or a length is above
-                              PTRDIFF_MAX */
+                              or a kind that the call doesn't take. Or the index of a signer isn't 0 for a kind without
+                              signers. Or a payload or ciphertext is given as detached although the message carries
+                              one, or although the flag is 0. Or a length is above PTRDIFF_MAX */
   COSET_TYPE = 14,         /* the value is there, but isn't a string, or isn't an integer in the range of int64_t. From
                               a call that sets a span also: a string is in chunks */
   COSET_EMPTY = 15,        /* the counted list is empty: verifying each of its signatures would verify none */
@@ -260,8 +260,9 @@ coset_status coset_key_of(const uint8_t *in, size_t in_len, const uint8_t *key_i
 /* Writes the structure that is signed (for a COSET_SIGN by the signer at index), authenticated, or goes with the
  * ciphertext: Sig_structure, MAC_structure or Enc_structure. If has_detached is 0, its payload is the one that the
  * message carries, and detached_len must be 0. Else its payload is detached, and the message must carry none. The
- * status is COSET_MISUSE if there are two. Enc_structure has no payload, but the same holds for the ciphertext. Also:
- * COSET_SHORT; COSET_ABSENT if there is no payload, no signer at index, or no structure for the kind. */
+ * status is COSET_MISUSE if there are two. Enc_structure has no payload, but the same holds for the ciphertext. For any
+ * other kind than COSET_SIGN, index must be 0, or the status is COSET_MISUSE. Also: COSET_SHORT; COSET_ABSENT if there is
+ * no payload, no signer at index, or no structure for the kind. */
 COSET_CALL(12)
 coset_status coset_structure(uint32_t kind, const uint8_t *in, size_t in_len, size_t index, const uint8_t *external_aad,
                              size_t external_aad_len, uint32_t has_detached, const uint8_t *detached, size_t detached_len,
@@ -343,8 +344,9 @@ typedef struct coset_message_view {
  * - the payload or ciphertext that the message carries,
  * - the key identifier.
  *
- * known are the critical labels that you understand. Also: COSET_SHORT; COSET_ABSENT if there is no payload, no signer
- * at index, or no structure for the kind. */
+ * known are the critical labels that you understand. For any other kind than COSET_SIGN, index must be 0, or the status
+ * is COSET_MISUSE. Also: COSET_SHORT; COSET_ABSENT if there is no payload, no signer at index, or no structure for the
+ * kind. */
 COSET_CALL(14, 15)
 coset_status coset_message(uint32_t kind, const uint8_t *in, size_t in_len, size_t index, const uint8_t *external_aad,
                            size_t external_aad_len, uint32_t has_detached, const uint8_t *detached, size_t detached_len,
@@ -374,7 +376,8 @@ typedef struct coset_message_spans_view {
 /* Does the same as coset_message, without a copy of the message's own texts. out begins with the structure alone, and
  * the view has the places of the other three texts. Each is in `in`, or follows the structure in `out`: the fields
  * is_.._in_input say which. They are in `in` if the message has no list of signatures and no critical labels, and its
- * strings have definite lengths. *len is the number of bytes written to out. Also: the same as for coset_message. */
+ * strings have definite lengths. *len is the number of bytes written to out. The rule for index is that of coset_message.
+ * Also: the same as for coset_message. */
 COSET_CALL(14, 15)
 coset_status coset_message_spans(uint32_t kind, const uint8_t *in, size_t in_len, size_t index, const uint8_t *external_aad,
                                  size_t external_aad_len, uint32_t has_detached, const uint8_t *detached, size_t detached_len,

@@ -141,7 +141,7 @@ static inline coset_status coset_verify(uint32_t kind, const uint8_t *in, size_t
   size_t len;
   *payload = NULL;
   *payload_len = 0;
-  if ((kind & 0xff) > COSET_MAC || (index && (kind & 0xff) != COSET_SIGN)) return COSET_MISUSE;
+  if ((kind & 0xff) > COSET_MAC) return COSET_MISUSE;
   status = coset_message_spans(kind, in, in_len, index, policy->external_aad, policy->external_aad_len, policy->has_detached,
                                policy->detached, policy->detached_len, policy->critical, policy->critical_len, out, cap, &len,
                                &view);

@@ -4,9 +4,8 @@
   of appendix A.2.
 - `ring` and `keys` are for the rows of test_verify: which keys of a ring are tried, and which keys of a set can be read.
 - `token` gets an answer of the wrong type: a plaintext for a signature or a MAC, or none for a ciphertext.
-- `message`, `spans` and `structure` get an index other than 0, for kinds without signers. The library's own calls ignore it.
 - The calls of openssl.py are made with the ciphers of coset.crypto."""
-from capi import calling, messages, openssl
+from capi import calling, openssl
 from capi.kinds import AUDIENCE, EXPIRED, ISSUER, MISUSE, NAMES, NOT_YET_VALID, OK, REFUSED, UNFIT, pairs_of
 from capi.tokens import Refused, Verified, rings, rows, text, verifications, without_empty
 from capi.vectors import named, status_of, token
@@ -60,8 +59,6 @@ def calls():
     """Yields all calls of this file."""
     yield from acceptances()
     yield from wrong_answers()
-    for call, words in (("message", [b"", 0, b"", "-"]), ("spans", [b"", 0, b"", "-"]), ("structure", [b"", 0, b""])):
-        yield from messages.indexed(call, words)
     for row, answer in rows("ring"):
         yield from rings(row, answer)
     for (_, keys), answer in rows("keys"):

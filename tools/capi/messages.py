@@ -4,8 +4,8 @@ A call is a tuple, here and in the other files. It has the call's name, the kind
 right status and result."""
 import itertools
 
-from capi.kinds import (ABSENT, CRITICAL, EITHER, HEADERS, MISUSE, NOT_ALLOWED, OK, PARTS, REFUSED, TAGS, bytes_at, headers_of,
-                        number_of)
+from capi.kinds import (ABSENT, CRITICAL, EITHER, HEADERS, MISUSE, NOT_ALLOWED, OK, PARTS, REFUSED, TAGGED, TAGS, bytes_at,
+                        headers_of, number_of)
 from cbor import encode
 
 CONTEXTS = {"sign1": b"Signature1", "sign": b"Signature", "mac0": b"MAC0", "mac": b"MAC", "encrypt0": b"Encrypt0",
@@ -151,20 +151,23 @@ def mac_calls():
 INDICES = (1, 2, (1 << 31) - 1)
 
 
-def indexed(call, words):
-    """Yields the calls with an index other than 0, for kinds without signers. `words` follow the index."""
-    for kind in ("sign1", "mac0", "mac"):
-        recipients = [("array", [("array", [(2, b""), ("map", []), (2, b"")])])] if kind == "mac" else []
-        item = ("array", [(2, b"\xa1\1\x26"), ("map", []), (2, b"payload"), (2, b"proof"), *recipients])
+def indexed(call, kinds, words):
+    """Yields the calls with an index other than 0, for messages of these kinds, in each form. `words` follow the index."""
+    for kind in kinds:
+        proof = [] if kind.startswith("encrypt") else [(2, b"proof")]
+        recipients = [("array", [("array", [(2, b""), ("map", []), (2, b"")])])] if kind in ("mac", "encrypt") else []
+        item = ("array", [(2, b"\xa1\1\x26"), ("map", []), (2, b"payload"), *proof, *recipients])
         signed = encode(("array", [(3, CONTEXTS[kind]), (2, b"\xa1\1\x26"), (2, b""), (2, b"payload")]))
-        for index in INDICES:
-            more = [signed, b"proof", b""] if call == "safe" else []
-            yield (call, list(CONTEXTS).index(kind) + 1, encode(item), [index, *words, *more], MISUSE, None)
+        more = [signed, b"proof", b""] if call == "safe" else []
+        for index, (form, it) in itertools.product(INDICES, ((0, item), (EITHER, item), (TAGGED, ("tag", TAGS[kind], item)))):
+            yield (call, number_of(kind) + form, encode(it), [index, *words, *more], MISUSE, None)
 
 
 def index_calls():
-    """Yields the calls of coset_verify.h with an index other than 0, for kinds without signers. Each would be accepted with 0."""
-    yield from indexed("safe", [b"", 0, b"", "-7", "-"])
+    """Yields the calls with an index other than 0, for messages without signers. Each would be accepted with 0."""
+    yield from indexed("safe", ("sign1", "mac0", "mac"), [b"", 0, b"", "-7", "-"])
+    for call, words in (("message", [b"", 0, b"", "-"]), ("spans", [b"", 0, b"", "-"]), ("structure", [b"", 0, b""])):
+        yield from indexed(call, [kind for kind in TAGS if kind != "sign"], words)
 
 
 # Headers with labels that the caller understands, all but the text (RFC 8152, section 3.1): the labels in crit, the labels of

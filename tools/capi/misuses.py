@@ -26,6 +26,14 @@ def kinds():
         yield ("sign1", number, DATA, [b"", 0, b""], MISUSE, None)
 
 
+def indices():
+    """Yields calls with an index of a signer, for kinds without signers. A kind that is no message has no structure with 0 either."""
+    for number in (1, TAGGED + 3, EITHER + 4, 5, TAGGED + 6, *range(7, 15)):
+        for call, words in WITH_KIND:
+            for index in (1, 1 << 32, (1 << 64) - 1) if call in ("structure", "message", "spans") else ():
+                yield (call, number, DATA, [index, *words[1:]], MISUSE, None)
+
+
 def pairs():
     """Yields calls with pairs and texts that can't be put into a map, and one without pairs."""
     for spelled in ("n=i1", "i1=n", "b01=i1", "e01=i1", "i1=o", "o=i1", "i1=i1,i2=n", "n=i1,i1=i1"):
@@ -49,6 +57,7 @@ def calls():
         yield ("safe", (form << 16) + 1, DATA, [0, b"", 0, b"", "-7", "-", b"", b"", b""], MISUSE, None)
     for order in (0, 3, 0xffffffff):
         yield ("canonical_key", order, b"\xa1\1\2", [], MISUSE, None)
+    yield from indices()
     yield from pairs()
     for which in (0, 4, 0xffffffff):
         for call in ("label", "label_bytes", "label_int", "label_span", "text_label"):

@@ -448,13 +448,6 @@ function size(value) {
   return BigInt(value);
 }
 
-/** Returns the index of a signer. It is 0 for a kind without signers. */
-function signerAt(kind, value) {
-  const index = size(value);
-  if (index !== 0n && (number(kind) & 0xff) !== SIGN) throw new Misuse("an index of a signer, for a kind without signers");
-  return index;
-}
-
 function isInteger(value) {
   return typeof value === "bigint" || Number.isSafeInteger(value);
 }
@@ -687,7 +680,7 @@ export function keyOf(data, keyId) {
  * SIGN alone. */
 export function structure(kind, data, options = {}) {
   const { index, externalAad, detached } = settled(options, { index: 0, externalAad: NOTHING, detached: null });
-  return written("structure", number(kind), bytes(data), signerAt(kind, index), bytes(externalAad), ...flagged(detached));
+  return written("structure", number(kind), bytes(data), size(index), bytes(externalAad), ...flagged(detached));
 }
 
 /** Returns the structure that goes with the ciphertext of a recipient, by the kind that contains it: ENCRYPT, MAC or
@@ -711,7 +704,7 @@ export function countersignStructure(kind, data, label, options = {}) {
 export function message(kind, data, options = {}) {
   const given = settled(options, { index: 0, critical: [], externalAad: NOTHING, detached: null });
   const input = bytes(data), view = new Place(blank(SPANS));
-  const words = [number(kind), input, signerAt(kind, given.index), bytes(given.externalAad), ...flagged(given.detached)];
+  const words = [number(kind), input, size(given.index), bytes(given.externalAad), ...flagged(given.detached)];
   const [status, text] = writing("message_spans", [...words, int64s(given.critical, "critical")], [view]);
   must(status);
   const told = readStruct(SPANS, view);

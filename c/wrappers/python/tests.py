@@ -242,11 +242,11 @@ error = raised(coset.decrypt, coset.ENCRYPT0, both, [1], lambda question: 1 / 0)
 assert type(error) is coset.WrongHeaders and isinstance(error, coset.Refused), error
 assert type(raised(coset.decrypt, coset.ENCRYPT0, both, [3], lambda question: 1 / 0)) is coset.NotAllowed
 
-# An index is for a kind with signers.
+# An index is for a kind with signers. One that is negative is no index.
 for index in (1, 1 << 40, (1 << 64) - 1):
     for call, more in ((coset.verify, ([-7], lambda question: True, index)), (coset.message, (index,)), (coset.structure, (index,))):
         assert type(raised(call, coset.SIGN1, critical, *more)) is coset.Misuse, (call, index)
-assert type(raised(coset.message, coset.SIGN1, critical, -1)) is coset.Misuse
+assert type(raised(coset.message, coset.SIGN1, critical, -1)) is IndexError
 
 
 def countersignatures(kind, message):

@@ -1058,7 +1058,6 @@ pub fn key_of(set: &[u8], key_id: &[u8]) -> Result<Vec<u8>, Error> {
 /// Its payload is the one that the message carries. If the message carries none, it is `detached`.
 /// For a kind without signers, an index other than 0 is `Misuse`.
 pub fn structure(kind: Kind, bytes: &[u8], index: usize, external_aad: &[u8], detached: Option<&[u8]>) -> Result<Vec<u8>, Error> {
-    indexed(kind, index)?;
     let content = detached.unwrap_or_default();
     written(room(&[bytes, external_aad, content]), |out, cap, len| unsafe {
         c::coset_structure(
@@ -1100,11 +1099,6 @@ pub fn countersign_structure(
             external_aad.as_ptr(), external_aad.len(), detached.is_some().into(), content.as_ptr(), content.len(), out, cap, len,
         )
     })
-}
-
-/// Returns `Misuse` for an index other than 0, if the kind has no signers.
-fn indexed(kind: Kind, index: usize) -> Result<(), Error> {
-    if index == 0 || matches!(kind, Kind::Sign(_)) { Ok(()) } else { Err(Error::Misuse) }
 }
 
 fn algorithm(form: u32, number: i64) -> Algorithm {
@@ -1152,7 +1146,6 @@ pub fn sign1(form: Form, bytes: &[u8], external_aad: &[u8], detached: Option<&[u
 /// For a message with signers, it is for the signer at `index`. For another kind, an index other
 /// than 0 is `Misuse`. The policy's algorithms are ignored.
 pub fn message(kind: Kind, bytes: &[u8], index: usize, policy: &Policy<'_>) -> Result<Message, Error> {
-    indexed(kind, index)?;
     let (kind, content) = (kind.number(), policy.detached.unwrap_or_default());
     let (aad, known) = (policy.external_aad, policy.critical);
     let mut view = c::Message::default();
@@ -1181,7 +1174,6 @@ pub fn message(kind: Kind, bytes: &[u8], index: usize, policy: &Policy<'_>) -> R
 /// Returns everything that verifying or decrypting a message takes, as [`Message`] does, borrowed
 /// from the message.
 pub fn message_lent<'a>(kind: Kind, bytes: &'a [u8], index: usize, policy: &Policy<'_>) -> Result<LentMessage<'a>, Error> {
-    indexed(kind, index)?;
     let (kind, content) = (kind.number(), policy.detached.unwrap_or_default());
     let (aad, known) = (policy.external_aad, policy.critical);
     let mut view = c::Spans::default();

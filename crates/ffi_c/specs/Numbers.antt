@@ -80,6 +80,16 @@ content_query k n b = if is_unflagged n b then None else kind_of k
 abbrev pub sign1_query : ℕ → ℕ → List ℕ → Option kinds.Kind
 sign1_query k n b = if is_unflagged n b then None else sign1_of k
 
+-- The kind, if it is a message with signers, in any form.
+abbrev pub only_sign : Option kinds.Kind → Option kinds.Kind
+only_sign (Some (Sign f)) = Some (Sign f)
+only_sign o = None
+
+-- The kind with this number, unless content is given although the flag n is 0. An index i other than 0 has no meaning
+-- for a kind without signers.
+abbrev pub signer_query : ℕ → ℕ → ℕ → List ℕ → Option kinds.Kind
+signer_query k i n b = if i == 0 then content_query k n b else only_sign (content_query k n b)
+
 -- The countersignature with this label (RFC 8152, section 4.5 and appendix A.2; RFC 9338, section 2).
 abbrev pub countersignature_of : ℤ → Option countersignatures.Countersignature
 countersignature_of l =

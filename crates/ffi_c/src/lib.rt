@@ -15,7 +15,7 @@ ghost use Rattle.ffi_query.specs.Labels.{HasNoNumber, HasNoString, IsNumberOf, I
 ghost use Rattle.ffi_query.specs.Parts.{HasNoCount, IsMember, IsPart, IsPositiveCount};
 ghost use Rattle.ffi_query.specs.Structures.{HasNoStructure, IsRecipientStructure, IsStructureOnce};
 ghost use Rattle.coset.specs.LabelData.{number, text_label};
-ghost use Rattle.ffi_c.specs.Numbers.{bytes_if, content_query, kind_of, map_query, part_query};
+ghost use Rattle.ffi_c.specs.Numbers.{bytes_if, kind_of, map_query, part_query, signer_query};
 ghost use Rattle.ffi_c.specs.Replies.{IsMisuse, Replies, RepliesCheck, RepliesValue};
 
 mod countersign;
@@ -35,7 +35,7 @@ use ffi_query::{
     Label, check, count_of, integer_of, member_of, part_of, recipient_structure_of, string_of,
     structure_of, value_of,
 };
-use numbers::{bytes_if, content_query, kind_of, map_query, part_query};
+use numbers::{bytes_if, kind_of, map_query, part_query, signer_query};
 use replies::{misused, reply, reply_check, reply_value};
 use std::alloc::Global;
 
@@ -206,7 +206,8 @@ pub extern "C" fn coset_text_label(
 
 /// Writes the structure of the input: what is signed, authenticated, or goes with the ciphertext.
 ///
-/// `detached` is the payload if `has_detached` isn't 0; else it is empty.
+/// `detached` is the payload if `has_detached` isn't 0; else it is empty. `index` is 0 for a kind
+/// without signers.
 #[unsafe(no_mangle)]
 pub extern "C" fn coset_structure(
     alloc: Global,
@@ -220,12 +221,13 @@ pub extern "C" fn coset_structure(
     len: &mut usize,
 ) -> i32
     ensures { let d = bytes_if has_detached detached.now in
-        MatchOption (content_query kind has_detached detached.now)
+        MatchOption (signer_query kind index has_detached detached.now)
         (IsMisuse result len.new 0 × (out.new ≡ out.old))
         (λ k. Replies (ReturnsOr k input.now (IsStructureOnce k index external_aad.now d)
         (HasNoStructure k index external_aad.now d) out.old out.new) result len.new) }
 {
-    let query = within(content_query(kind, has_detached, detached), input, out);
+    let asked = signer_query(kind, index, has_detached, detached);
+    let query = within(asked, input, out);
     match within(query, external_aad, detached) {
         Some(kind) => {
             let detached = bytes_if(has_detached, detached);

@@ -4,12 +4,12 @@
 ghost use Rattle.std.specs.Prelude.{◌≡◌, MatchOption};
 ghost use Rattle.ffi_query.specs.Results.{ReturnsWith};
 ghost use Rattle.ffi_query.specs.View.{HasNoView, IsMessageView};
-ghost use Rattle.ffi_c.specs.Numbers.{bytes_if, content_query};
+ghost use Rattle.ffi_c.specs.Numbers.{bytes_if, signer_query};
 ghost use Rattle.ffi_c.specs.Replies.{IsMisuse, reply_status, length_of};
 ghost use Rattle.ffi_c.specs.Views.{RepliesMessage, critical_number, texts_len, message_of, message_numbers, no_message};
 
 use crate::lengths::{within, within_numbers};
-use crate::numbers::{bytes_if, content_query};
+use crate::numbers::{bytes_if, signer_query};
 use crate::replies::{misused, reply};
 use crate::sign1::{COSET_NONE, algorithm_numbers, number_of_bool, number_of_map, texts_len};
 use ffi_query::{MessageView, Refusal, message_view};
@@ -121,7 +121,7 @@ fn reply_message(answer: Result<MessageView, Refusal>, len: &mut usize, view: &m
 /// - the key identifier.
 ///
 /// `detached` is the payload if `has_detached` isn't 0; else it is empty. `known` are the critical
-/// labels that the caller understands.
+/// labels that the caller understands. `index` is 0 for a kind without signers.
 #[unsafe(no_mangle)]
 pub extern "C" fn coset_message(
     alloc: Global,
@@ -137,13 +137,14 @@ pub extern "C" fn coset_message(
     view: &mut Message,
 ) -> i32
     ensures { let d = bytes_if has_detached detached.now in
-        MatchOption (content_query kind has_detached detached.now)
+        MatchOption (signer_query kind index has_detached detached.now)
         (IsMisuse result len.new 0 × (view.new ≡ no_message) × (out.new ≡ out.old))
         (λ k. RepliesMessage (ReturnsWith k input.now
         (IsMessageView k index external_aad.now d known.now input.now)
         (HasNoView k index external_aad.now d known.now) out.old out.new) result len.new view.new) }
 {
-    let query = within(content_query(kind, has_detached, detached), input, out);
+    let asked = signer_query(kind, index, has_detached, detached);
+    let query = within(asked, input, out);
     match within_numbers(within(query, external_aad, detached), known, &[]) {
         Some(kind) => {
             let detached = bytes_if(has_detached, detached);

@@ -2,7 +2,7 @@
 
 ghost use Rattle.std.specs.Prelude.{◌≡◌};
 ghost use Rattle.std.specs.Option.{option_copied};
-ghost use Rattle.ffi_c.specs.Numbers.{bytes_if, content_query, countersign_query, countersignature_of, form_of, is_unflagged, kind_of, map_of, map_query, message_of, order_of, other_of, part_of, part_query, sign1_of, sign1_query};
+ghost use Rattle.ffi_c.specs.Numbers.{bytes_if, content_query, countersign_query, countersignature_of, form_of, is_unflagged, kind_of, map_of, map_query, message_of, only_sign, order_of, other_of, part_of, part_query, sign1_of, sign1_query, signer_query};
 
 use coset::CborOrdering;
 use ffi_query::{Countersignature, Form, Kind, Map, Part};
@@ -145,6 +145,30 @@ pub(crate) fn content_query(kind: u32, has_content: u32, content: &[u8]) -> Opti
     } else {
         kind_of(kind)
     }
+}
+
+/// Returns the kind, if it is a message with signers.
+fn only_sign(kind: Option<Kind>) -> Option<Kind>
+    ensures { result ≡ only_sign kind }
+{
+    match kind {
+        Some(Kind::Sign(form)) => Some(Kind::Sign(form)),
+        _ => None,
+    }
+}
+
+/// Returns the kind with this number, unless content is given although the flag is 0, or the index
+/// isn't 0 although the kind has no signers.
+pub(crate) fn signer_query(
+    kind: u32,
+    index: usize,
+    has_content: u32,
+    content: &[u8],
+) -> Option<Kind>
+    ensures { result ≡ signer_query kind index has_content content.now }
+{
+    let kind = content_query(kind, has_content, content);
+    if index == 0 { kind } else { only_sign(kind) }
 }
 
 /// Returns the kind with this number if it has one signature, unless content is given although the

@@ -5,13 +5,13 @@ ghost use Rattle.std.specs.Prelude.{◌≡◌, MatchOption};
 ghost use Rattle.ffi_query.specs.Results.{ReturnsWith};
 ghost use Rattle.ffi_query.specs.Spans.{IsMessageSpans};
 ghost use Rattle.ffi_query.specs.View.{HasNoView};
-ghost use Rattle.ffi_c.specs.Numbers.{bytes_if, content_query};
+ghost use Rattle.ffi_c.specs.Numbers.{bytes_if, signer_query};
 ghost use Rattle.ffi_c.specs.Replies.{IsMisuse, reply_status, length_of};
 ghost use Rattle.ffi_c.specs.SpansNumbers.{RepliesSpans, length_written, no_spans, spans_of, spans_numbers};
 
 use crate::lengths::{within, within_numbers};
 use crate::message::critical_number;
-use crate::numbers::{bytes_if, content_query};
+use crate::numbers::{bytes_if, signer_query};
 use crate::replies::{misused, reply};
 use crate::sign1::{COSET_NONE, algorithm_numbers, number_of_bool, number_of_map};
 use ffi_query::{MessageSpans, Refusal, message_spans};
@@ -140,7 +140,7 @@ fn reply_spans(answer: Result<MessageSpans, Refusal>, len: &mut usize, spans: &m
 /// `view` has the places of the signature or tag, of the payload or ciphertext that the input
 /// carries, and of the key identifier. They are in the input, or in `out` after the structure.
 /// `detached` is the payload if `has_detached` isn't 0; else it is empty. `known` are the critical
-/// labels that the caller understands.
+/// labels that the caller understands. `index` is 0 for a kind without signers.
 #[unsafe(no_mangle)]
 pub extern "C" fn coset_message_spans(
     alloc: Global,
@@ -156,13 +156,14 @@ pub extern "C" fn coset_message_spans(
     view: &mut Spans,
 ) -> i32
     ensures { let d = bytes_if has_detached detached.now in
-        MatchOption (content_query kind has_detached detached.now)
+        MatchOption (signer_query kind index has_detached detached.now)
         (IsMisuse result len.new 0 × (view.new ≡ no_spans) × (out.new ≡ out.old))
         (λ k. RepliesSpans (ReturnsWith k input.now
         (IsMessageSpans k index external_aad.now d known.now input.now)
         (HasNoView k index external_aad.now d known.now) out.old out.new) result len.new view.new) }
 {
-    let query = within(content_query(kind, has_detached, detached), input, out);
+    let asked = signer_query(kind, index, has_detached, detached);
+    let query = within(asked, input, out);
     match within_numbers(within(query, external_aad, detached), known, &[]) {
         Some(kind) => {
             let detached = bytes_if(has_detached, detached);

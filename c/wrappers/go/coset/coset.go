@@ -527,11 +527,9 @@ const (
 	withSigner
 )
 
-// allowed returns an error if a field that isn't zero has no meaning for the call, or for the kind.
-func (o Options) allowed(kind Kind, fields int) error {
+// allowed returns an error if a field that isn't zero has no meaning for the call.
+func (o Options) allowed(fields int) error {
 	switch {
-	case o.Index != 0 && fields&withIndex != 0 && kind&0xff != Sign:
-		return misuse("an index of a signer, for a kind without signers")
 	case o.Index != 0 && fields&withIndex == 0:
 		return misuse("the option Index has no meaning for this call")
 	case o.Detached != nil && fields&withDetached == 0:
@@ -546,7 +544,7 @@ func (o Options) allowed(kind Kind, fields int) error {
 
 // Structure returns the structure that is signed (by the signer at an index), authenticated, or goes with the ciphertext.
 func Structure(kind Kind, data []byte, o Options) ([]byte, error) {
-	if err := o.allowed(kind, withIndex|withDetached); err != nil {
+	if err := o.allowed(withIndex|withDetached); err != nil {
 		return nil, err
 	}
 	in, n := at(data)
@@ -570,7 +568,7 @@ func RecipientStructure(holder Kind, data, externalAAD []byte) ([]byte, error) {
 // CountersignStructure returns the structure that a countersignature of a message, a signature or a recipient signs. The
 // label is 7, 9, 11 or 12 (RFC 8152, section 4.5 and appendix A.2; RFC 9338, section 2).
 func CountersignStructure(kind Kind, data []byte, label int64, o Options) ([]byte, error) {
-	if err := o.allowed(kind, withDetached|withSigner); err != nil {
+	if err := o.allowed(withDetached|withSigner); err != nil {
 		return nil, err
 	}
 	in, n := at(data)
@@ -601,7 +599,7 @@ type Message struct {
 // ReadMessage returns everything that verifying or decrypting a message takes. For a message with signers, it is for the
 // signer at an index.
 func ReadMessage(kind Kind, data []byte, o Options) (*Message, error) {
-	if err := o.allowed(kind, withIndex|withDetached|withCritical); err != nil {
+	if err := o.allowed(withIndex|withDetached|withCritical); err != nil {
 		return nil, err
 	}
 	in, n := at(data)
@@ -761,7 +759,7 @@ func Decrypt(kind Kind, data []byte, algorithms []int64, decrypter Decrypter, o 
 	if decrypter == nil {
 		return nil, misuse("the decrypter is nil")
 	}
-	if err := o.allowed(kind, withDetached|withCritical); err != nil {
+	if err := o.allowed(withDetached|withCritical); err != nil {
 		return nil, err
 	}
 	data, ciphertext := copied(data), o.Detached
@@ -1400,7 +1398,7 @@ func PutAll(kind Kind, data []byte, pairs []Pair) ([]byte, error) {
 // StructureOf does the same as Structure for a message that isn't made yet, from its protected header. The content is the
 // payload; a structure that goes with a ciphertext has none. Signer is the signer's protected header, for Sign alone.
 func StructureOf(kind Kind, header, content []byte, o Options) ([]byte, error) {
-	if err := o.allowed(kind, withSigner); err != nil {
+	if err := o.allowed(withSigner); err != nil {
 		return nil, err
 	}
 	prot, protLen := at(header)

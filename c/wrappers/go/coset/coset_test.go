@@ -223,20 +223,23 @@ func TestFieldsWithoutMeaning(t *testing.T) {
 		"Verify": func() ([]byte, error) {
 			return Verify(Sign1+Either, signed, []int64{ES256}, yes, Options{Signer: []byte{0xa0}})
 		},
-		"Verify with an index": func() ([]byte, error) {
-			return Verify(Sign1+Either, signed, []int64{ES256}, yes, Options{Index: 1})
-		},
-		"Verify with a negative index": func() ([]byte, error) {
-			return Verify(Sign1+Either, signed, []int64{ES256}, yes, Options{Index: -1})
-		},
-		"ReadMessage": func() ([]byte, error) {
-			_, err := ReadMessage(Sign1+Either, signed, Options{Index: 1})
-			return nil, err
-		},
-		"Structure with an index": func() ([]byte, error) { return Structure(Sign1+Either, signed, Options{Index: 1}) },
 	} {
 		if _, err := call(); !errors.Is(err, ErrMisuse) || err.Error() == ErrMisuse.Error() {
 			t.Errorf("%s: %v", name, err)
+		}
+	}
+}
+
+// The library says that an index is for a kind with signers.
+func TestIndexWithoutMeaning(t *testing.T) {
+	signed, yes := message(t, "x"), VerifierFunc(func(*Question) bool { return true })
+	for _, i := range []int{1, -1} {
+		o := Options{Index: i}
+		_, verified := Verify(Sign1+Either, signed, []int64{ES256}, yes, o)
+		_, read := ReadMessage(Sign1+Either, signed, o)
+		_, made := Structure(Sign1+Either, signed, o)
+		if verified != ErrMisuse || read != ErrMisuse || made != ErrMisuse {
+			t.Errorf("%d: %v, %v, %v", i, verified, read, made)
 		}
 	}
 }

@@ -483,14 +483,6 @@ def _int64(number, field="a label"):
     return number
 
 
-def _index(kind, number):
-    """Returns the index of a signer. Raises Misuse if it isn't 0 and the kind has no signers."""
-    number = _whole(number, "an index")
-    if number != 0 and _kind(kind) & 0xFF != SIGN:
-        raise Misuse("an index of a signer, for a kind without signers")
-    return _size(number)
-
-
 def _size(number):
     number = _whole(number, "an index")
     if not 0 <= number <= _NO_OFFSET:
@@ -715,7 +707,7 @@ def structure(kind, data, index=0, external_aad=b"", detached=None):
     None. Raises Misuse for an index other than 0, unless the kind is a SIGN."""
     content = _bytes(b"" if detached is None else detached)
     return _written(
-        _library.coset_structure, _kind(kind), *_bytes(data), _index(kind, index), *_bytes(external_aad), detached is not None, *content
+        _library.coset_structure, _kind(kind), *_bytes(data), _size(index), *_bytes(external_aad), detached is not None, *content
     )
 
 
@@ -794,7 +786,7 @@ def message(kind, data, index=0, critical=(), external_aad=b"", detached=None):
     the signer at `index`; for another kind, an index other than 0 is a Misuse. The payload is the one that the message
     carries. If the message carries none, it is `detached`; else `detached` is None. `critical` are the critical labels
     that the caller understands."""
-    return _seen(Message, kind, data, _index(kind, index), critical, external_aad, detached)
+    return _seen(Message, kind, data, _size(index), critical, external_aad, detached)
 
 
 def _asked(kind, found, algorithms, proof):

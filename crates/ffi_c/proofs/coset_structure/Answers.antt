@@ -22,4 +22,4 @@ returns-in-Some c =
     replied
     (λ j. Replies (ReturnsOr j b (IsStructureOnce j i aad d) (HasNoStructure j i aad d) c.args.out.now c.structure_of.new.out)
     (to_z w32 (of_z w32 c.reply.result)) c.reply.new.place)
-    _ _ k (c.in-Some.ensures ∙ (c.within-query.ensures ∙ c.content_query.ensures)) (c.structure_of.result, answers, status, c.reply.ensures.number)
+    _ _ k (c.in-Some.ensures ∙ (c.within-query.ensures ∙ c.signer_query-asked.ensures)) (c.structure_of.result, answers, status, c.reply.ensures.number)

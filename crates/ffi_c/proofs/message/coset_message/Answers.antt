@@ -23,7 +23,7 @@ returns-in-Some c =
     c.message_view-answer.result)
     c.bytes_if-detached.ensures c.message_view-answer.ensures in
     let status : to_z w32 (of_z w32 c.reply_message.result) ≡ reply_status c.message_view-answer.result = search rules in
-    let asked = c.in-Some.ensures ∙ (c.within.ensures ∙ (c.within-query.ensures ∙ c.content_query.ensures)) in
+    let asked = c.in-Some.ensures ∙ (c.within.ensures ∙ (c.within-query.ensures ∙ c.signer_query-asked.ensures)) in
     replied
     (λ j. RepliesMessage (ReturnsWith j b (IsMessageView j i aad d ns b) (HasNoView j i aad d ns) c.args.out.now c.message_view-answer.new.out)
     (to_z w32 (of_z w32 c.reply_message.result)) c.reply_message.new.len c.reply_message.new.view)

@@ -23,7 +23,7 @@ returns-in-Some c =
     c.message_spans-answer.result)
     c.bytes_if-detached.ensures c.message_spans-answer.ensures in
     let status : to_z w32 (of_z w32 c.reply_spans.result) ≡ reply_status c.message_spans-answer.result = search rules in
-    let asked = c.in-Some.ensures ∙ (c.within.ensures ∙ (c.within-query.ensures ∙ c.content_query.ensures)) in
+    let asked = c.in-Some.ensures ∙ (c.within.ensures ∙ (c.within-query.ensures ∙ c.signer_query-asked.ensures)) in
     replied
     (λ j. RepliesSpans (ReturnsWith j b (IsMessageSpans j i aad d ns b) (HasNoView j i aad d ns) c.args.out.now c.message_spans-answer.new.out)
     (to_z w32 (of_z w32 c.reply_spans.result)) c.reply_spans.new.len c.reply_spans.new.spans)
