@@ -478,12 +478,11 @@ typedef struct coset_layer {
  * The arguments:
  * - algorithms are those that you allow, each in layers of its own form. The status is COSET_MISUSE if IANA hasn't
  *   assigned one of these numbers, or one of `required`.
- * - critical are the labels that you understand, besides 1 to 6, 15 and 16. A critical content type (3) is accepted
- *   unread.
+ * - critical are the labels that you understand, besides 1, 2, 4 to 6 and 15, and besides 16 if there are types.
  * - required are the claims that a token must have.
  * - audiences: aud must name one of them. If there are none, a token with aud is refused.
  * - types: the protected header of the innermost layer must name one of them, typ (RFC 9596). If there are none, typ
- *   isn't looked at, also if it is critical.
+ *   isn't looked at, and a critical typ is refused, unless `critical` has 16.
  *
  * The status is COSET_MISUSE also if a number of the rules has no meaning, or if a text or the name of an opened layer's
  * issuer isn't UTF-8. Also: COSET_SHORT, COSET_ABSENT if a layer carries no payload or ciphertext, and the statuses

@@ -69,6 +69,7 @@ either-put (x ∷ xs) t q h = go (text_cmp t x) (either-put xs t q) h
     further : IsOneOf xs q ⊎ (t.items ≡ q) → IsOneOf (x ∷ xs) q ⊎ (t.items ≡ q)
     further (inl g) = inl (inr g)
     further (inr g) = inr g
+
     go : (o : Ordering) → (IsOneOf (insert_key text_cmp xs t) q → IsOneOf xs q ⊎ (t.items ≡ q)) → IsOneOf (placed o t x xs) q
         → IsOneOf (x ∷ xs) q ⊎ (t.items ≡ q)
     go Less rest (inl h) = inr h
@@ -99,6 +100,7 @@ one-encoded ps p s n t a e is = record { known = λ q h. known-of q (either-put 
     known-of : (q : List ℕ) → IsOneOf s.keys q ⊎ (t.items ≡ q) → IsOfOne (ps ++ p ∷ []) q
     known-of q (inl h) = before ps p q (a.known q h)
     known-of q (inr h) = last ps p q (subst (IsEncoded p) h e)
+
     is-there : AreThere n.keys (ps ++ p ∷ [])
     is-there =
         subst (λ ts. AreThere ts (ps ++ p ∷ [])) (sym is)

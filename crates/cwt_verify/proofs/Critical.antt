@@ -1,5 +1,5 @@
 -- Critical labels. If all of them have a meaning, it is enough to look for the labels that have one.
-use Rattle.std.proofs.Common.{◌≡◌, ◌∙◌, ◌&&◌, ◌||◌, ◌++◌, ℤ, pos, Bool, true, false, true≢false, not, List, [], ◌∷◌, map, ap, refl, subst, sym}
+use Rattle.std.proofs.Common.{◌≡◌, ◌∙◌, ◌&&◌, ◌||◌, ◌++◌, ◌==◌, length, ℤ, pos, Bool, true, false, true≢false, not, List, [], ◌∷◌, map, ap, refl, subst, sym}
 use Rattle.std.specs.Cmp.{tied_then}
 use Rattle.std.specs.List.{list_all, list_any}
 use Rattle.std.specs.Ordering.{int_eq, is_eq, nat_cmp}
@@ -10,7 +10,7 @@ use Rattle.coset.specs.Headers.{HeaderView, fields_in}
 use Rattle.coset.specs.LabelData.{RegisteredLabelView, as_label, assigned, label_cmp, number, private_rank, private_use, text_name}
 use Rattle.coset.specs.LabelLaws.{cose_labels_laws}
 use Rattle.cwt_verify.specs.Headers.{has_label}
-use Rattle.cwt_verify.specs.Policy.{PolicyView, checks, has_meaning, is_known, is_missing, is_one_of, is_type, is_understood, known_labels, own_labels}
+use Rattle.cwt_verify.specs.Policy.{PolicyView, has_meaning, is_known, is_missing, is_one_of, is_type, is_understood, known_labels, knows, own_labels}
 
 -- ---- truth values
 
@@ -129,11 +129,10 @@ found : (p : PolicyView) (l : RegisteredLabelView) → has_meaning p l ≡ true 
 found p l e =
     let all = list_any (λ m. same_label m l) in
     list_any-append (λ m. same_label m l) own_labels p.critical
-    ∙ either-true (is_known l) (checks p l || is_one_of p.critical l) (all own_labels || all p.critical)
-    (λ h. or-left (all own_labels) (all p.critical) (own-found l (or-left (is_known l) (is_type l) h)))
-    (λ h. either-true (checks p l) (is_one_of p.critical l) (all own_labels || all p.critical)
-    (λ g. or-left (all own_labels) (all p.critical) (own-found l (or-right (is_known l) (is_type l) (and-left (is_type l) _ g))))
-    (λ g. or-right (all own_labels) (all p.critical) g) h) e
+    ∙ either-true (knows p l) (is_one_of p.critical l) (all own_labels || all p.critical)
+    (λ h. or-left (all own_labels) (all p.critical) (own-found l (either-true (is_known l) (is_type l && not (length p.types == 0)) (is_known l || is_type l)
+    (or-left (is_known l) (is_type l)) (λ g. or-right (is_known l) (is_type l) (and-left (is_type l) (not (length p.types == 0)) g)) h)))
+    (or-right (all own_labels) (all p.critical)) e
 
 -- Each critical label is understood exactly if each has a meaning, and none that has one is missing.
 pub judged : (p : PolicyView) (h : HeaderView)

@@ -122,13 +122,13 @@ abbrev pub is_type : RegisteredLabelView → Bool
 is_type (assigned i) = int_eq i (pos 16)
 is_type l = false
 
--- Returns true if the label is that of the type, and the policy has types.
-abbrev pub checks : PolicyView → RegisteredLabelView → Bool
-checks p l = is_type l && not (length p.types == 0)
+-- Returns true if this crate understands the label: the type only if the policy has types.
+abbrev pub knows : PolicyView → RegisteredLabelView → Bool
+knows p l = is_known l || (is_type l && not (length p.types == 0))
 
 -- Returns true if the caller or this crate understands the label.
 abbrev pub has_meaning : PolicyView → RegisteredLabelView → Bool
-has_meaning p l = is_known l || (checks p l || is_one_of p.critical l)
+has_meaning p l = knows p l || is_one_of p.critical l
 
 -- Returns true if the label is understood and the header contains it.
 abbrev pub is_understood : PolicyView → HeaderView → RegisteredLabelView → Bool

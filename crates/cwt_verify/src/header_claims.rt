@@ -84,11 +84,7 @@ fn part_agrees(alloc: Global, part: &Part, pairs: &[(Value, Value)]) -> Result<b
 ///
 /// # Errors
 /// `OutOfMemory` if an allocation fails.
-fn layer_agrees(
-    alloc: Global,
-    layer: &VerifiedLayer<'_>,
-    pairs: &[(Value, Value)],
-) -> Result<bool>
+fn layer_agrees(alloc: Global, layer: &VerifiedLayer<'_>, pairs: &[(Value, Value)]) -> Result<bool>
     ensures answer { IfOk result (λ b. b
         ≡ layer_agrees (value_pairs pairs.now) (verified_view layer.now)) }
     ensures memory { IfErr result (λ e. e ≡ OutOfMemory) }

@@ -138,11 +138,7 @@ pub(crate) fn has_label(header: &Header, label: &Critical) -> bool
 
 /// Returns the key identifier in the protected header, or if it has none, that in the unprotected
 /// one (RFC 8152, section 3.1). It is empty if neither has one.
-pub(crate) fn named_key(
-    alloc: Global,
-    protected: ProtectedHeader,
-    unprotected: Header,
-) -> Vec<u8>
+pub(crate) fn named_key(alloc: Global, protected: ProtectedHeader, unprotected: Header) -> Vec<u8>
     ensures { result.items ≡ named_key (protected_view protected) (header_view unprotected) }
 {
     let key_id = own_key(alloc, protected.header);

@@ -6,7 +6,7 @@ ghost use Rattle.coset.specs.Headers.{fields_in};
 ghost use Rattle.coset.specs.LabelViews.{algorithm_view};
 ghost use Rattle.coset.specs.LabelData.{as_label};
 ghost use Rattle.coset.specs.Views.{critical_view, header_view};
-ghost use Rattle.cwt_verify.specs.Policy.{allows, authenticates, checks, has_meaning, is_known, is_missing, is_named, is_type, is_understood, named_number, number_of, own_labels, policy_view, strict, understands};
+ghost use Rattle.cwt_verify.specs.Policy.{allows, authenticates, has_meaning, is_known, is_missing, is_named, is_type, is_understood, knows, named_number, number_of, own_labels, policy_view, strict, understands};
 
 use crate::headers::{Critical, has_label};
 use coset::iana::{Algorithm, CwtClaimName, EnumI64, HeaderParameter};
@@ -182,9 +182,10 @@ fn is_missing(header: &Header, label: &Critical) -> bool
 fn lacks_own(header: &Header) -> bool
     ensures { result ≡ list_any (is_missing (header_view header.now)) own_labels }
 {
-    OWN_LABELS
-        .iter()
-        .any(|parameter| is_missing(header, &RegisteredLabelWithPrivate::Assigned(*parameter)))
+    OWN_LABELS.iter().any(|parameter| is_missing(
+        header,
+        &RegisteredLabelWithPrivate::Assigned(*parameter),
+    ))
 }
 
 /// Returns true if a header names this algorithm.
@@ -219,18 +220,19 @@ impl Policy<'_> {
         }
     }
 
-    /// Returns true if the label is that of the type, and the policy has types.
-    fn checks(&self, label: &Critical) -> bool
-        ensures { result ≡ checks (policy_view self.now) (critical_view label.now) }
+    /// Returns true if this crate understands the label under this policy: the type only if there
+    /// are types.
+    fn knows(&self, label: &Critical) -> bool
+        ensures { result ≡ knows (policy_view self.now) (critical_view label.now) }
     {
-        is_type(label) && !self.types.is_empty()
+        is_known(label) || (is_type(label) && !self.types.is_empty())
     }
 
     /// Returns true if the caller or this crate understands the label.
     fn has_meaning(&self, label: &Critical) -> bool
         ensures { result ≡ has_meaning (policy_view self.now) (critical_view label.now) }
     {
-        is_known(label) || self.checks(label) || self.critical.contains(label)
+        self.knows(label) || self.critical.contains(label)
     }
 
     /// Returns true if the header lists a critical label that it doesn't have, out of those that

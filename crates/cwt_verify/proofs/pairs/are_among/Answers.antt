@@ -17,6 +17,6 @@ returns-then-some-le-MAX_ONE_BY_ONE c =
 pub returns : goal.returns
 returns c = record {
   answer =
-    subset_tells c.shortest_is_encoding.ensures c.one_item.ensures (unique-shortest c.one_shortest.ensures c.shortest_is_in_range.ensures) c.in_ok-wanted.wanted c.in_ok-known.known
-    c.args.some.now c.args.pairs.now c.is_subset.result c.in_ok-wanted.ensures.encoded c.in_ok-known.ensures.encoded c.is_subset.ensures;
+      subset_tells c.shortest_is_encoding.ensures c.one_item.ensures (unique-shortest c.one_shortest.ensures c.shortest_is_in_range.ensures) c.in_ok-wanted.wanted c.in_ok-known.known
+      c.args.some.now c.args.pairs.now c.is_subset.result c.in_ok-wanted.ensures.encoded c.in_ok-known.ensures.encoded c.is_subset.ensures;
 }
