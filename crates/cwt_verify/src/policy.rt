@@ -246,8 +246,8 @@ impl Policy<'_> {
 
     /// Returns true if each critical label of the header is understood.
     ///
-    /// It looks for few labels in two lists that the sender chose, and not for each label of one list
-    /// in the other. So the time grows with the header's length.
+    /// It looks for each label that may be understood in both lists of the sender, and not for each
+    /// label of one list in the other. So the time grows with the header's length.
     fn understands_all(&self, header: &Header) -> bool
         ensures { result ≡ list_all (is_understood (policy_view self.now) (header_view header.now))
             (fields_in (header_view header.now)).crit }
