@@ -283,7 +283,7 @@ for make in (lambda key_id: by_edwards(6, ed25519.Ed25519PrivateKey, key_id), la
             ciphers = Counted()
             ring = coset.KeyRing([("you", key_set(*keys[:7]) or b"\x80"), ("me", key_set(*keys[7:]) or b"\x80")], ciphers)
             want = None if reason is None else (reason, 0, key_id or None)
-            assert told(right.token(CLAIMS), ring, [right.algorithm], **ANY) == want, (keys, reason)
+            assert told(right.token(CLAIMS), ring, [right.algorithm], **ANY) == want, (len(keys), reason)
             assert ciphers.calls == calls
     # The key identifiers of 41 keys leave one that fits. Without an identifier, all of them fit.
     keys, right = [make(b"%d" % number).key for number in range(40)], make(b"kid")
