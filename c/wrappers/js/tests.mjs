@@ -455,7 +455,7 @@ const tests = {
       const token = coset.make(MAC0 + TAGGED, header, id ? coset.put(HEADER, NONE, 4, id) : NONE, { content: claims(1), proof: mac });
       const right = keyOf(5, 1, id), wrong = Array(17).fill(keyOf(5, 2, id)), other = Array(40).fill(keyOf(6, 1, id));
       for (const [keys, want, calls] of [
-        [[], "UNFIT", 0], [other, "UNFIT", 0], [wrong.slice(1), "REFUSED", 16], [[...wrong.slice(1), ...other], "REFUSED", 16], [wrong, "TOO_MANY_KEYS", 16],
+        [[], "UNFIT", 0], [other, "UNFIT", 0], [wrong.slice(16), "REFUSED", 1], [wrong.slice(1), "REFUSED", 16], [[...wrong.slice(1), ...other], "REFUSED", 16], [wrong, "TOO_MANY_KEYS", 16],
         [[...wrong.slice(1), right], "TOO_MANY_KEYS", 16], [[...wrong.slice(2), right], "OK", 16], [[...other, ...wrong.slice(2), ...other, right, ...wrong], "OK", 16],
       ]) {
         let asked = 0;

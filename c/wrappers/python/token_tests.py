@@ -276,7 +276,8 @@ for make in (lambda key_id: by_edwards(6, ed25519.Ed25519PrivateKey, key_id), la
     for key_id in (b"", b"kid"):
         right, wrong, other = make(key_id), [make(key_id).key for _ in range(17)], by_curve(-7, SHA[256], 1, CURVES[1], key_id).key
         for keys, reason, calls in (
-            ([], UNFIT, 0), ([other] * 40, UNFIT, 0), (wrong[:16], REFUSED, 16), (wrong[:16] + [other], REFUSED, 16), (wrong, TOO_MANY, 16),
+            ([], UNFIT, 0), ([other] * 40, UNFIT, 0), (wrong[:1], REFUSED, 1), (wrong[:16], REFUSED, 16), (wrong[:16] + [other], REFUSED, 16),
+            (wrong, TOO_MANY, 16),
             (wrong[:16] + [right.key], TOO_MANY, 16), (wrong[:15] + [right.key], None, 16), (wrong[:15] + [right.key] + wrong, None, 16),
             ([other] * 40 + wrong[:15] + [other] * 40 + [right.key], None, 16),
         ):

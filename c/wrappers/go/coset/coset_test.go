@@ -409,7 +409,7 @@ func TestTriesOfKeys(t *testing.T) {
 			want  error
 			calls int
 		}{
-			{nil, ErrUnfit, 0}, {[][][]byte{other}, ErrUnfit, 0}, {[][][]byte{wrong[1:]}, ErrRefused, 16}, {[][][]byte{wrong[1:], other}, ErrRefused, 16},
+			{nil, ErrUnfit, 0}, {[][][]byte{other}, ErrUnfit, 0}, {[][][]byte{wrong[16:]}, ErrRefused, 1}, {[][][]byte{wrong[1:]}, ErrRefused, 16}, {[][][]byte{wrong[1:], other}, ErrRefused, 16},
 			{[][][]byte{wrong}, ErrTooManyKeys, 16}, {[][][]byte{wrong[1:], right}, ErrTooManyKeys, 16}, {[][][]byte{wrong[2:], right}, nil, 16},
 			{[][][]byte{other, wrong[2:], other, right, wrong}, nil, 16},
 		} {
@@ -436,15 +436,17 @@ func TestTriesOfKeys(t *testing.T) {
 	for i := 0; i < 40; i++ {
 		named = append(named, keyFor(t, HMAC256_256, 2, []byte{byte(i)}))
 	}
+	kid, right := []byte("kid"), keyFor(t, HMAC256_256, 1, []byte("kid"))
 	for _, it := range []struct {
+		id   []byte
 		keys [][]byte
 		want error
-	}{{append(named[:40:40], keyFor(t, HMAC256_256, 1, []byte("kid"))), nil}, {named, ErrUnfit}} {
+	}{{kid, append(named[:40:40], right), nil}, {kid, named, ErrUnfit}, {nil, append(named[:15:15], right), nil}, {nil, append(named[:16:16], right), ErrTooManyKeys}} {
 		ring, err := NewKeyRing([]Issuer{{"as", setOf(it.keys...)}}, &countedCiphers{})
 		if err != nil {
 			t.Fatal(err)
 		}
-		if _, err := VerifyToken(macToken(t, []byte("kid")), ring, p); err != it.want && !errors.Is(err, it.want) {
+		if _, err := VerifyToken(macToken(t, it.id), ring, p); err != it.want && !errors.Is(err, it.want) {
 			t.Errorf("%v and not %v", err, it.want)
 		}
 	}
