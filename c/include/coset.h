@@ -95,7 +95,7 @@ enum {
   COSET_TOKEN_TYPE = 31,   /* the innermost layer names none of the types, typ */
   COSET_HEADER_CLAIMS = 32, /* a header has claims that aren't in the payload */
   COSET_MISSING = 33,      /* the token doesn't have a required claim */
-  COSET_UNFIT = 34         /* from coset_key_fits alone: the key doesn't fit the layer */
+  COSET_UNFIT = 34         /* from coset_key_fits: the key doesn't fit the layer. From coset_verify.h: no key fits it */
 };
 
 /* Kinds. */

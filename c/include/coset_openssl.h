@@ -351,17 +351,23 @@ static inline int coset_openssl_decrypt(struct coset_openssl_bytes k, uint8_t *n
 
 /* ---- A ring of keys */
 
-/* Opens a layer by a key, if the key fits. Returns the result of a coset_opener. */
-static inline int coset_openssl_by_key(const uint8_t *key, size_t key_len, const coset_layer_question *question, uint8_t *plain,
-                                       size_t cap, size_t *len) {
+/* Opens a layer by a key. `*left` is the number of keys that may still be tried. Returns:
+ * - the result of a coset_opener for this key, if it fits,
+ * - COSET_TOO_MANY_KEYS if it fits and may not be tried,
+ * - COSET_UNFIT if it doesn't fit, or can't be read,
+ * - COSET_MEMORY if an allocation fails, so that it isn't known whether the key fits. */
+static inline int coset_openssl_by_key(const uint8_t *key, size_t key_len, const coset_layer_question *question, int *left,
+                                       uint8_t *plain, size_t cap, size_t *len) {
   uint8_t nonce[13];
   size_t nonce_len;
   struct coset_openssl_bytes k;
-  int said;
-  if (coset_key_fits(key, key_len, question->form, question->algorithm, question->key_id, question->key_id_len, question->iv,
+  const coset_status status =
+      coset_key_fits(key, key_len, question->form, question->algorithm, question->key_id, question->key_id_len, question->iv,
                      question->iv_len, question->partial_iv, question->partial_iv_len, question->proof, question->proof_len,
-                     nonce, sizeof nonce, &nonce_len))
-    return COSET_NO;
+                     nonce, sizeof nonce, &nonce_len);
+  int said;
+  if (status) return status == COSET_MEMORY ? COSET_MEMORY : COSET_UNFIT;
+  if ((*left)-- == 0) return COSET_TOO_MANY_KEYS;
   if (question->form == COSET_SIGN1) return coset_openssl_signature(key, key_len, question) ? COSET_YES : COSET_NO;
   if (question->form == COSET_MAC0) return coset_openssl_mac(key, key_len, question) ? COSET_YES : COSET_NO;
   if (question->form != COSET_ENCRYPT0) return COSET_NO;
@@ -371,36 +377,47 @@ static inline int coset_openssl_by_key(const uint8_t *key, size_t key_len, const
   return said;
 }
 
-/* Tries each key of a set that fits, in order. Returns the first result other than COSET_NO. */
-static inline int coset_openssl_by_set(const uint8_t *keys, size_t keys_len, const coset_layer_question *question,
-                                       uint8_t *plain, size_t cap, size_t *len) {
-  coset_span key;
-  size_t left;
-  int said;
-  if (coset_count(COSET_ITEM, keys, keys_len, &left)) return COSET_NO;
-  if (coset_member_span(COSET_ITEM, keys, keys_len, 0, &key)) return COSET_NO;
-  for (;;) {
-    said = coset_openssl_by_key(keys + key.at, key.len, question, plain, cap, len);
-    if (said != COSET_NO || --left == 0 || coset_item_span(keys, keys_len, key.at + key.len, &key)) return said;
-  }
+/* Adds the result for one more key or set to the result so far. Returns 1 if no further key is looked at. */
+static inline int coset_openssl_is_last(int more, int *said) {
+  if (more != COSET_UNFIT) *said = more;
+  return *said != COSET_UNFIT && *said != COSET_NO;
 }
 
-/* The coset_opener of a coset_openssl_ring, which is its context. It tries each key that fits, issuer by issuer. The
- * first key by which the layer is authentic names the issuer. Keys for other algorithms than these are passed over. If
- * an allocation fails while a key is tried, that key counts as one that doesn't fit. Errors of OpenSSL don't remain in
- * the thread's queue of errors. */
+/* Tries each key of a set that fits, in order. Returns COSET_UNFIT if none fits, COSET_NO if each is refused, or the first
+ * other result. */
+static inline int coset_openssl_by_set(const uint8_t *keys, size_t keys_len, const coset_layer_question *question, int *left,
+                                       uint8_t *plain, size_t cap, size_t *len) {
+  coset_span key;
+  size_t count;
+  int said = COSET_UNFIT;
+  coset_status status = coset_count(COSET_ITEM, keys, keys_len, &count);
+  if (!status) status = coset_member_span(COSET_ITEM, keys, keys_len, 0, &key);
+  while (!status) {
+    if (coset_openssl_is_last(coset_openssl_by_key(keys + key.at, key.len, question, left, plain, cap, len), &said)) return said;
+    if (--count == 0) return said;
+    status = coset_item_span(keys, keys_len, key.at + key.len, &key);
+  }
+  return status == COSET_MEMORY ? COSET_MEMORY : said;
+}
+
+/* The coset_opener of a coset_openssl_ring, which is its context. It tries each key that fits, issuer by issuer, and
+ * COSET_MOST_TRIES keys at most. The first key by which the layer is authentic names the issuer. A key for another
+ * algorithm than these may fit, and is refused. So is a key if an allocation fails while it is tried. If an allocation
+ * fails before it is known whether a key fits, the result is COSET_NO. Errors of OpenSSL don't remain in the thread's queue
+ * of errors. */
 static inline int coset_openssl_open(void *context, const coset_layer_question *question, uint8_t *plain, size_t cap,
                                      size_t *len, coset_text *issuer) {
   const coset_openssl_ring *ring = COSET_CAST(const coset_openssl_ring *, context);
   size_t i;
-  int said = COSET_NO;
+  int said = COSET_UNFIT, left = COSET_MOST_TRIES, more;
   ERR_set_mark();
-  for (i = 0; i < ring->len && said == COSET_NO; i++) {
-    said = coset_openssl_by_set(ring->issuers[i].keys, ring->issuers[i].keys_len, question, plain, cap, len);
-    if (said == COSET_YES) *issuer = ring->issuers[i].name;
+  for (i = 0; i < ring->len; i++) {
+    more = coset_openssl_by_set(ring->issuers[i].keys, ring->issuers[i].keys_len, question, &left, plain, cap, len);
+    if (coset_openssl_is_last(more, &said)) break;
   }
+  if (said == COSET_YES) *issuer = ring->issuers[i].name;
   ERR_pop_to_mark();
-  return said;
+  return said == COSET_MEMORY ? COSET_NO : said;
 }
 
 #ifdef __cplusplus

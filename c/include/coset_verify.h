@@ -12,9 +12,10 @@
 extern "C" {
 #endif
 
-/* One more status, which these calls return. */
+/* Two more statuses, which these calls return. */
 enum {
-  COSET_REFUSED = 18 /* the caller's function said no, or a signature or tag is empty */
+  COSET_REFUSED = 18,      /* the caller's function said no, or a signature or tag is empty */
+  COSET_TOO_MANY_KEYS = 35 /* the caller's function said so: the keys that it tried are refused, and more fit the layer */
 };
 
 /* The caller's requirements for a message. A policy of all zeros accepts nothing. */
@@ -443,10 +444,16 @@ typedef struct coset_layer_question {
   size_t index; /* of the layer, from the outermost, which is 0 */
 } coset_layer_question;
 
+/* The greatest number of keys that a ring tries for a layer. Keys that don't fit the layer aren't tried. Without this
+ * bound, a layer that names no key would cost a verification for each key of its algorithm. */
+enum { COSET_MOST_TRIES = 16 };
+
 /* Verifies or decrypts the layer by a key that fits (coset_key_fits), and that the caller trusts. Returns:
  * - COSET_YES if the layer is authentic. For COSET_ENCRYPT0 the plaintext is then in `plain`, which has `cap` bytes, and
  *   `*len` is its length. `*issuer` is the name of the key's issuer, or remains empty if that issuer has no name.
  * - COSET_NO_ROOM for COSET_ENCRYPT0 if `cap` is too small. `*len` may be the size that is needed.
+ * - COSET_UNFIT if no key fits the layer. So the caller may look for a newer set of keys.
+ * - COSET_TOO_MANY_KEYS if COSET_MOST_TRIES keys that fit are refused, and more fit.
  * - COSET_NO otherwise. Any other result counts as COSET_NO. For COSET_ENCRYPT0, so does COSET_YES with a length greater
  *   than `cap`, or if `*len` isn't set.
  *
@@ -468,8 +475,10 @@ typedef struct coset_token {
   const char *issuer; /* the name of the issuer whose key authenticated the token; NULL if it has none */
   size_t issuer_len;
   coset_layer layer; /* after a refusal: the layer or claim that it is about, as coset_token_open says; after
-                        COSET_REFUSED the layer that was refused; else zeros */
-  size_t needed;     /* after COSET_SHORT the least size of `work` for the next step; else 0 */
+                        COSET_REFUSED, COSET_UNFIT or COSET_TOO_MANY_KEYS the layer that was refused; else zeros */
+  const uint8_t *key_id; /* after these three the key identifier of that layer; NULL if it names no key, and otherwise */
+  size_t key_id_len;
+  size_t needed; /* after COSET_SHORT the least size of `work` for the next step; else 0 */
 } coset_token;
 
 /* Returns the question for a layer that waits. Its texts are at `text`. */
@@ -498,6 +507,8 @@ static inline void coset_token_none(coset_token *token, const coset_layer *layer
   token->claims_len = token->audience_len = token->others_len = token->layers_len = 0;
   token->issuer = NULL;
   token->issuer_len = 0;
+  token->key_id = NULL;
+  token->key_id_len = 0;
   token->layer = *layer;
   token->needed = needed;
 }
@@ -547,7 +558,8 @@ static inline coset_status coset_work_next(const struct coset_work *work, const 
 }
 
 /* Asks about the layer whose five texts, of `texts_len` bytes, are behind the opened layers. If the answer is yes,
- * appends the layer to these. Returns COSET_OK, COSET_REFUSED, or COSET_SHORT if `*needed` bytes are needed. */
+ * appends the layer to these. Returns COSET_OK, COSET_REFUSED, COSET_UNFIT, COSET_TOO_MANY_KEYS, or COSET_SHORT if
+ * `*needed` bytes are needed. */
 COSET_CALL(1, 2, 4, 6)
 static inline coset_status coset_work_ask(struct coset_work *work, const coset_layer *layer, size_t texts_len,
                                           coset_opener opener, void *context, size_t *needed) {
@@ -563,6 +575,7 @@ static inline coset_status coset_work_ask(struct coset_work *work, const coset_l
     *needed = coset_larger(at, left, plain, layer->proof_len);
     return COSET_SHORT;
   }
+  if (said == COSET_UNFIT || said == COSET_TOO_MANY_KEYS) return said;
   if (layer->form != COSET_ENCRYPT0) plain = 0;
   if (!name.chars) name.len = 0;
   if (said != COSET_YES || plain > left || name.len > COSET_CAST(size_t, PTRDIFF_MAX) - at - plain) return COSET_REFUSED;
@@ -579,12 +592,28 @@ static inline coset_status coset_work_ask(struct coset_work *work, const coset_l
   return COSET_OK;
 }
 
+/* Moves the key identifier of a layer that was refused to the front of the memory, and returns its length. Returns 0 if the
+ * layer names no key, or if the status isn't the answer for a layer. */
+static inline size_t coset_key_id_first(const struct coset_work *work, const coset_layer *layer, coset_status status) {
+  const size_t start = work->used + layer->structure_len + layer->proof_len;
+  size_t i;
+  if (status != COSET_REFUSED && status != COSET_UNFIT && status != COSET_TOO_MANY_KEYS) return 0;
+  for (i = 0; i < layer->key_id_len; i++) work->at[i] = work->at[start + i];
+  return layer->key_id_len;
+}
+
 /* Verifies a token at `now`, in seconds since 1970 began in UTC, and returns the status.
  *
  * If the status is COSET_OK, `opener` said yes to each layer, and the token meets the policy. `*token` then has its
  * parts. After any other status the pointers of `*token` are NULL, and `work` has zeros, unless `cap` is above
- * PTRDIFF_MAX. COSET_REFUSED means that `opener` said no, or that a signature or MAC is empty. A leeway or a greatest
- * age above INT64_MAX, such as a converted -1, is COSET_MISUSE, because it would switch off the checks of times.
+ * PTRDIFF_MAX. The key identifier of a refused layer is the exception:
+ *
+ * COSET_REFUSED means that `opener` said no, or that a signature or MAC is empty. COSET_UNFIT and COSET_TOO_MANY_KEYS
+ * are answers of `opener`. After these three, token->key_id is the key identifier of the layer, if it names a key. It is
+ * at the front of `work`, and zeros follow it.
+ *
+ * A leeway or a greatest age above INT64_MAX, such as a converted -1, is COSET_MISUSE, because it would switch off the
+ * checks of times.
  *
  * `work` needs room for the texts of each layer, plaintexts, names of issuers, and the verified token. Nine times the
  * token's length and 64 bytes for each of its layers are enough, if the names of issuers and audience are short
@@ -598,7 +627,7 @@ static inline coset_status coset_token_verify(const uint8_t *in, size_t in_len, 
   struct coset_work room;
   coset_layer layer;
   coset_status status = COSET_LAYER;
-  size_t len = 0, needed = 0;
+  size_t len = 0, needed = 0, named;
   room.at = work, room.cap = cap, room.used = 0, room.count = 0;
   coset_token_none(token, &nowhere, 0);
   if (cap > COSET_CAST(size_t, PTRDIFF_MAX)) return COSET_MISUSE;
@@ -611,11 +640,13 @@ static inline coset_status coset_token_verify(const uint8_t *in, size_t in_len, 
   }
   if (!status) status = coset_token_parts(work + room.used, len, token);
   if (!status) return COSET_OK;
-  coset_cleared(work, cap);
+  named = coset_key_id_first(&room, &layer, status);
+  coset_cleared(coset_after(&room, named), cap - named);
   if (status == COSET_SHORT)
     coset_token_none(token, &nowhere, needed);
   else
     coset_token_none(token, &layer, 0);
+  if (named) token->key_id = work, token->key_id_len = named;
   return status;
 }
 

@@ -6,7 +6,7 @@
 - `token` gets an answer of the wrong type: a plaintext for a signature or a MAC, or none for a ciphertext.
 - The calls of openssl.py are made with the ciphers of coset.crypto."""
 from capi import calling, openssl
-from capi.kinds import AUDIENCE, EXPIRED, ISSUER, MISUSE, NAMES, NOT_YET_VALID, OK, REFUSED, UNFIT, pairs_of
+from capi.kinds import AUDIENCE, BY_KEYS, EXPIRED, ISSUER, MISUSE, NAMES, NOT_YET_VALID, OK, REFUSED, pairs_of
 from capi.tokens import Refused, Verified, rings, rows, text, verifications, without_empty
 from capi.vectors import named, status_of, token
 from cbor import decode, encode
@@ -73,13 +73,14 @@ def is_as_openssl(want, got):
         return name not in ("ok", "Short", "Memory")
     if want[0] == str(OK):
         return name == "ok" and (told[0], told[3]) == (want[2], want[5])
-    return name in ([NAMES[REFUSED], NAMES[UNFIT]] if want[0] == str(REFUSED) else [NAMES[int(want[0])]])
+    return name == NAMES[int(want[0])] and (int(want[0]) not in BY_KEYS or told[2] == want[5])
 
 
 def by_ciphers(command, check, **more):
     """Makes the calls of openssl.py from Python. Returns their number."""
     calls = openssl.Calls()
-    for add in (openssl.every_algorithm, openssl.wrong_signatures, openssl.short_rsa, openssl.wrong_points, openssl.rings, openssl.examples):
+    for add in (openssl.every_algorithm, openssl.wrong_signatures, openssl.short_rsa, openssl.wrong_points, openssl.rings, openssl.many_keys,
+                openssl.examples):
         add(calls)
     made = [(line, want) for line, want in zip(calls.lines, calls.wanted) if line.startswith("openssl ")]
     for (line, want), got in zip(made, calling.answers(command, [line for line, _ in made], check, **more)):

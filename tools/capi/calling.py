@@ -3,7 +3,7 @@ import itertools
 import subprocess
 
 from capi import interface
-from capi.kinds import CRITICAL, HEADERS, LAYER, MISSING, MISUSE, NAMES, NOT_ALLOWED, OK, REFUSED, SHORT
+from capi.kinds import BY_KEYS, CRITICAL, HEADERS, LAYER, MISSING, MISUSE, NAMES, NOT_ALLOWED, OK, REFUSED, SHORT, TOO_MANY_KEYS, UNFIT
 from capi.messages import Told
 from capi.tokens import Refused, Verified
 from capi.vectors import token
@@ -130,7 +130,7 @@ def lines_of(call, number, data, words, status, answer):
     for cap in rooms(call, answer):
         yield line(call, number, data, words, cap), told_by_c(call, status, answer, cap)
     if call == "safe" and status in (OK, NOT_ALLOWED, CRITICAL, REFUSED, HEADERS) or call in TOKENS and status == OK:
-        yield line(call, number, data, words, 0), [str(SHORT), None, *(["0"] * 4 + ["-"] * 2 if call in TOKENS else [])]
+        yield line(call, number, data, words, 0), [str(SHORT), None, *(["0"] * 3 + ["-", "0"] + ["-"] * 2 if call in TOKENS else [])]
     if call == "verified" and status == OK:
         whole = len(words[2])  # the structure that is signed; the other parts stay in the token
         yield line(call, number, data, words, whole - 1), [str(SHORT), str(whole), untouched(whole - 1)]
@@ -172,18 +172,19 @@ def pairs_built(program, check):
 # The results of the caller's functions, as coset_verify.h numbers them.
 YES, NO_ROOM = 0x59e5, 0x2008
 # Numbers that a function returns by mistake: statuses, truths, error codes, and numbers near those that count.
-OTHERS = (*range(-3, 20), 255, 256, YES - 1, YES + 1, YES + (1 << 16), YES - (1 << 31), NO_ROOM + 1, NO_ROOM + (1 << 16))
+OTHERS = (*range(-3, 34), *range(36, 40), 255, 256, YES - 1, YES + 1, YES + (1 << 16), YES - (1 << 31), NO_ROOM + 1, NO_ROOM + (1 << 16))
 
 
 def numbers_said(program, check):
     """Checks which results of a verifier and of a decrypter count as a yes, and which say that there is too little room.
 
     An empty signature or MAC is refused whatever the verifier returns."""
+    numbers = (*OTHERS, UNFIT, TOO_MANY_KEYS, YES, NO_ROOM)
     messages = {1: ("8443a10126a0416140", "8443a10126a041614170"), 3: ("8443a10105a0416140", "8443a10105a041614170"),
                 2: ("8440a04161818343a10126a040", "8440a04161818343a10126a04170"), 4: ("8543a10105a041614080", "8543a10105a04161417080")}
     calls = [(kind, data, number, OK if number == YES and data is proved else REFUSED) for kind, (_, proved) in messages.items()
-             for data in messages[kind] for number in (*OTHERS, YES, NO_ROOM)]
-    calls += [(5, "8343a10101a04163", number, {YES: OK, NO_ROOM: SHORT}.get(number, REFUSED)) for number in (*OTHERS, YES, NO_ROOM)]
+             for data in messages[kind] for number in numbers]
+    calls += [(5, "8343a10101a04163", number, {YES: OK, NO_ROOM: SHORT}.get(number, REFUSED)) for number in numbers]
     told = answers([program], [f"said {kind} {data} 4096 {number}" for kind, data, number, _ in calls], check)
     for (*call, status), got in zip(calls, told):
         check(got == str(status), f"the caller's function for a message: {call}: {got} and not {status}")
@@ -194,15 +195,15 @@ def numbers_said(program, check):
 
 # The statuses against a layer of a token. The others are against the whole token. A wrapper reports an answer of the wrong type as
 # the misuse of a layer.
-OF_LAYER = (*range(3, 14), NOT_ALLOWED, CRITICAL, REFUSED, HEADERS)
+OF_LAYER = (*range(3, 14), NOT_ALLOWED, CRITICAL, *BY_KEYS, HEADERS)
 
 
 def refusal_told(status, refused):
     """Returns the right output of a wrapper for a token that is refused. It has the reason, the index of the refused
-    layer, and the number of the refused algorithm or of the missing claim."""
-    index, algorithm, claim = refused.words
+    layer, the number of the refused algorithm or of the missing claim, and the key identifier of the layer."""
+    index, algorithm, claim, key_id = refused.words
     number = {NOT_ALLOWED: algorithm if algorithm != "0" else "-", MISSING: claim}.get(status, "-")
-    return " ".join([NAMES[status], index if status in OF_LAYER else "-", number, *refused.asked])
+    return " ".join([NAMES[status], index if status in OF_LAYER else "-", number, key_id, *refused.asked])
 
 
 def told_by_wrapper(status, answer):

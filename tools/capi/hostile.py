@@ -80,7 +80,7 @@ def is_like(asked, want, got):
     if status in (OK, SHORT) and got[0] != "ok" or status not in (OK, SHORT) and got[0] != NAMES[status]:
         return False
     if call == "token":
-        return got[1:] == want[2:] if status == OK else got[-3:] == want[-3:]
+        return got[1:] == want[2:] if status == OK else got[-4:] == want[-4:]
     if status != OK or call == "check":
         return True
     if call in calling.WITHOUT_ROOM:

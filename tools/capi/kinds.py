@@ -9,9 +9,11 @@ OK, SHORT, MEMORY, ABSENT, MISUSE, TYPE, EMPTY, NOT_ALLOWED, CRITICAL, REFUSED =
 # The names by which the programs print the statuses, in the order of their numbers.
 NAMES = ("ok Short Memory Ends Malformed Deep Extraneous Unexpected Duplicate OutOfRange Unregistered NotPrivate Absent Misuse "
          "Type Empty NotAllowed Critical Refused Layer TooDeep Unauthenticated NotClaims NoExpiration Expired NotYetValid "
-         "IssuedLater TooOld Issuer Audience Headers TokenType HeaderClaims Missing Unfit").split()
-LAYER, EXPIRED, NOT_YET_VALID, ISSUER, AUDIENCE, HEADERS, MISSING, UNFIT = map(
-    NAMES.index, ("Layer", "Expired", "NotYetValid", "Issuer", "Audience", "Headers", "Missing", "Unfit"))
+         "IssuedLater TooOld Issuer Audience Headers TokenType HeaderClaims Missing Unfit TooManyKeys").split()
+LAYER, EXPIRED, NOT_YET_VALID, ISSUER, AUDIENCE, HEADERS, MISSING, UNFIT, TOO_MANY_KEYS = map(
+    NAMES.index, ("Layer", "Expired", "NotYetValid", "Issuer", "Audience", "Headers", "Missing", "Unfit", "TooManyKeys"))
+# The statuses of a layer that no key opens. The refusal then has the layer's key identifier.
+BY_KEYS = (REFUSED, UNFIT, TOO_MANY_KEYS)
 TAGS = {"sign1": 18, "sign": 98, "mac0": 17, "mac": 97, "encrypt0": 16, "encrypt": 96}
 # The places in the array of the parts of `coset_part`, by the part's number and the kind. The parts are the protected header,
 # the payload, the ciphertext, and the signature or tag.

@@ -215,7 +215,7 @@ def compare_texts(check):
     """Compares the texts of errors in Rust and in Python with those of the library."""
     told = dict(re.findall(r'case (?:COSET_)?(\w+): return "(.*?)";', read("c", "wrappers", "c", "text.c")))
     told = {"".join(it.title() for it in name.split("_")): text for name, text in told.items()}
-    told["Refused"] = told.pop("18")  # of coset_verify.h
+    told["Refused"], told["TooManyKeys"] = told.pop("18"), told.pop("35")  # of coset_verify.h
     rust = dict(re.findall(r'Error::(\w+) => "(.*)",', read("c", "wrappers", "rust", "coset.rs")))
     python = re.search(r"^_FAULTS = \{(.*?)^\}", read("c", "wrappers", "python", "coset", "__init__.py"), re.M | re.S)[1]
     python = {NAMES[int(number)]: text for number, text in re.findall(r'(\d+): "(.*)",', python)}

@@ -1,7 +1,7 @@
 """Calls with answers that no caller's function should give, and calls of coset_token_open with arguments that no caller should
 have."""
 from capi.calling import NO_ROOM, OTHERS, YES
-from capi.kinds import LAYER, MISUSE, NAMES, OK, REFUSED, SHORT
+from capi.kinds import LAYER, MISUSE, NAMES, OK, REFUSED, SHORT, TOO_MANY_KEYS, UNFIT
 from capi.tokens import SIZE, Answer, Opening, layers_of, opened_words
 
 SIGNED = bytes.fromhex("d28443a10126a045a1041907d0420102")
@@ -20,6 +20,9 @@ def answers():
     for data, yes, no_room in ((SIGNED, OK, REFUSED), (ENCRYPTED, NOT_CLAIMS, SHORT)):
         for number in (*OTHERS, 1 << 30):
             yield data, f"={number}", REFUSED
+        for number in (UNFIT, TOO_MANY_KEYS):
+            yield data, f"={number}", number
+            yield data, f"~{number}", number
         yield data, f"={YES}", yes
         yield data, f"={NO_ROOM}", no_room
         yield data, "", REFUSED
@@ -46,6 +49,8 @@ def answers():
     yield ENCRYPTED, "pa1041907d0,yes", OK
     yield ENCRYPTED, "p" + SIGNED.hex() + ",=2", REFUSED
     yield ENCRYPTED, "p" + SIGNED.hex() + ",>5", REFUSED
+    for number in (UNFIT, TOO_MANY_KEYS):
+        yield ENCRYPTED, f"p{SIGNED.hex()},={number}", number
 
 
 def rules():

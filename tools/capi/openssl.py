@@ -11,7 +11,7 @@ import tempfile
 
 from capi import calling
 from capi.building import FLAGS, WRAPPERS, has_openssl, run
-from capi.kinds import NAMES, OK, REFUSED
+from capi.kinds import BY_KEYS, NAMES, OK, REFUSED, TOO_MANY_KEYS, UNFIT
 from capi.tokens import item, listed, policy_of, rows, text
 from cbor import byte_string, head
 
@@ -159,7 +159,7 @@ class Calls:
     def __init__(self):
         self.lines, self.wanted = [], []
 
-    def add(self, token, sets, status, payload=None, issuer=AS, policy=ANY, now=1000, call="openssl"):
+    def add(self, token, sets, status, payload=None, issuer=AS, policy=ANY, now=1000, call="openssl", key_id=b"k"):
         issuers = listed(f"{text(None if name is None else name.encode())}:{keys.hex() or '-'}" for name, keys in sets)
         words = [now, *policy_of(policy), issuers]
         want = [str(status)]
@@ -167,6 +167,8 @@ class Calls:
             want.append("0")
             if status == OK:
                 want += [payload.hex(), None, None, text(None if issuer is None else issuer.encode())]
+            elif status in BY_KEYS:
+                want += [None, None, None, key_id.hex() or "-"]
         self.lines.append(calling.line(call, 0, token, words, 1 << 16))
         self.wanted.append([*want, ...])
 
@@ -210,6 +212,13 @@ def reproved(key, change):
     return Sealer(key.tag, key.algorithm, key.public, lambda signed, content: change(key.prove(signed, content)))
 
 
+def by_length(key, change):
+    """Returns the status of a changed proof that is no good one. No key fits a proof of a wrong length, and none is asked for an empty
+    one."""
+    length = len(key.prove(b"", b""))
+    return REFUSED if len(change(bytes(length))) in (0, length) else UNFIT
+
+
 def wrong_signatures(calls):
     """Adds signatures of other lengths and encodings."""
     payload = claims()
@@ -221,11 +230,11 @@ def wrong_signatures(calls):
                        lambda it: b"\0" + it[:size] + b"\0" + it[size:], lambda it: it[size:] + it[:size],
                        lambda it: b"\xff" * len(it), lambda it, size=size: der(it, size)]
             for change in changes:
-                calls.bad(reproved(key, change).seal(payload), keys_of(key.public))
+                calls.bad(reproved(key, change).seal(payload), keys_of(key.public), by_length(key, change))
     for key in [*(eddsa(algorithm, curve, 12345) for algorithm, curves in EDDSA.items() for curve in curves), *map(rsa, RSA)]:
         for change in (lambda it: it[:-1], lambda it: it + b"\0", lambda it: b"\0" + it, lambda it: b"",
                        lambda it: bytes(len(it))):
-            calls.bad(reproved(key, change).seal(payload), keys_of(key.public))
+            calls.bad(reproved(key, change).seal(payload), keys_of(key.public), by_length(key, change))
     for algorithm, (length, tag) in HMAC.items():
         key = mac(algorithm, bytes(length), 64)
         for cut in (0, 1, 7, 8, 16, 31, 32, 33, 48, 64):
@@ -233,7 +242,7 @@ def wrong_signatures(calls):
             if min(cut, getattr(hashlib, HASHES[algorithm])().digest_size) == tag:
                 calls.good(token, keys_of(key.public), payload)
             else:
-                calls.bad(token, keys_of(key.public))
+                calls.bad(token, keys_of(key.public), UNFIT if cut else REFUSED)
 
 
 def der(signature, size):
@@ -253,11 +262,11 @@ def short_rsa(calls):
                 break
             number += 1
         calls.good(token, keys_of(key.public), payload)
-        calls.bad(token[:-259] + head(2, 255) + token[-255:], keys_of(key.public))
+        calls.bad(token[:-259] + head(2, 255) + token[-255:], keys_of(key.public), UNFIT)
 
 
 def wrong_points(calls):
-    """Adds keys whose points aren't on their curves, or whose members aren't as they should be."""
+    """Adds keys whose points aren't on their curves, which are refused. Keys whose members aren't as they should be don't fit."""
     payload = claims()
     for curve, algorithm in (("P-256", -7), ("P-384", -35), ("P-521", -36), ("secp256k1", -47)):
         key, size = ecdsa(algorithm, curve, 12345), SIZES[curve]
@@ -265,9 +274,11 @@ def wrong_points(calls):
         off = (int.from_bytes(y, "big") ^ 1).to_bytes(size, "big")
         many = b"\xff" * size
         for member, value in ((-3, off), (-2, off), (-2, bytes(size)), (-3, bytes(size)), (-2, many), (-3, many), (-3, x),
-                              (-2, y[1:]), (-3, y[1:]), (-3, b""), (-2, b""), (-3, b"\0" + y), (-3, not y[-1] & 1), (-3, 2),
-                              (-3, "y"), (-1, 1 if curve != "P-256" else 2), (-1, 8 if curve == "P-256" else 6), (-1, 4)):
+                              (-3, not y[-1] & 1)):
             calls.bad(token, keys_of({**key.public, member: value}))
+        for member, value in ((-2, y[1:]), (-3, y[1:]), (-3, b""), (-2, b""), (-3, b"\0" + y), (-3, 2), (-3, "y"),
+                              (-1, 1 if curve != "P-256" else 2), (-1, 8 if curve == "P-256" else 6), (-1, 4)):
+            calls.bad(token, keys_of({**key.public, member: value}), UNFIT)
         both = {**key.public, -2: bytes(size), -3: bytes(size)}
         calls.bad(token, keys_of(both))
         calls.good(token, keys_of({**key.public, -3: bool(y[-1] & 1)}), payload)
@@ -277,14 +288,16 @@ def wrong_points(calls):
     for curve, size in ((6, 32), (7, 57)):
         key = eddsa(-8, curve, 12345)
         token = key.seal(payload)
-        for value in (b"\xff" * size, bytes(size), b"\2" + bytes(size - 1), key.public[-2][:-1], key.public[-2] + b"\0"):
+        for value in (b"\xff" * size, bytes(size), b"\2" + bytes(size - 1)):
             calls.bad(token, keys_of({**key.public, -2: value}))
-        calls.bad(token, keys_of({**key.public, -1: 13 - curve}))
+        for member, value in ((-2, key.public[-2][:-1]), (-2, key.public[-2] + b"\0"), (-1, 13 - curve)):
+            calls.bad(token, keys_of({**key.public, member: value}), UNFIT)
     key = rsa(-37)
     token, n = key.seal(payload), key.public[-1]
-    for member, value in ((-2, b"\1"), (-2, b"\2"), (-2, b"\0"), (-2, b""), (-1, n[:-1]), (-1, bytes(256)),
-                          (-1, n[:-1] + b"\0")):
+    for member, value in ((-2, b"\1"), (-2, b"\2"), (-1, n[:-1] + b"\0")):
         calls.bad(token, keys_of({**key.public, member: value}))
+    for member, value in ((-2, b"\0"), (-2, b""), (-1, n[:-1]), (-1, bytes(256))):
+        calls.bad(token, keys_of({**key.public, member: value}), UNFIT)
     signature_of_one = Sealer(18, -257, {**rsa(-257).public, -2: b"\1"}, lambda signed, _: padded(signed))
     calls.bad(signature_of_one.seal(payload), keys_of(signature_of_one.public))
 
@@ -315,17 +328,17 @@ def rings(calls):
         token = key.seal(payload)
         calls.good(token, keys_of(*odd, key.public), payload)
         calls.good(token, b"\x9f" + keys_of(*odd, key.public)[1:] + b"\xff", payload)
-        calls.bad(token, keys_of(*odd))
+        calls.bad(token, keys_of(*odd), UNFIT)
         for data in (b"", b"\x80", b"\x9f\xff", b"\xa0", b"\x01", keys_of(key.public)[:-1], keys_of(key.public) + b"\0"):
-            calls.bad(token, data)
-        calls.bad(token, [("x", b"\x80"), (HUB, keys_of({**key.public, 2: b"other"}))])
+            calls.bad(token, data, UNFIT)
+        calls.bad(token, [("x", b"\x80"), (HUB, keys_of({**key.public, 2: b"other"}))], UNFIT)
         calls.bad(token, [(None, keys_of(key.public))], ISSUER)
         nameless = item({4: 2000})
         calls.good(key.seal(nameless), [(None, keys_of(key.public))], nameless, issuer=None)
         calls.good(key.seal(nameless), [("", keys_of(key.public))], nameless, issuer=None)
         calls.bad(token, [("", keys_of(key.public))], ISSUER)
         for name, value in ((3, -8 if key is not macer else 4), (4, [9]), (2, b"K"), (1, 1)):
-            calls.bad(token, keys_of({**key.public, name: value}))
+            calls.bad(token, keys_of({**key.public, name: value}), UNFIT)
     for without in (Sealer(17, 14, {1: 4, -1: bytes(16)}, lambda signed, _: bytes(8)),
                     Sealer(18, -265, {1: 2, -1: 256, -2: bytes(32), -3: bytes(32)}, lambda signed, _: bytes(64))):
         calls.bad(without.seal(payload), keys_of(without.public))
@@ -334,12 +347,53 @@ def rings(calls):
     for outer in (macer, cipher):
         calls.good(outer.seal(signer.seal(payload)), both, payload)
         calls.good(outer.seal(cipher.seal(macer.seal(signer.seal(payload)))), both, payload)
-        calls.bad(outer.seal(signer.seal(payload)), [(AS, keys_of(signer.public))])
+        calls.bad(outer.seal(signer.seal(payload)), [(AS, keys_of(signer.public))], UNFIT)
+        calls.bad(outer.seal(signer.seal(payload)), [(HUB, keys_of(macer.public, cipher.public))], UNFIT)
     by_key = ANY.replace("by=any,", "")
     calls.bad(signer.seal(macer.seal(payload)), both, ISSUER)
     calls.bad(signer.seal(cipher.seal(payload)), both, ISSUER)
     calls.good(signer.seal(cipher.seal(payload)), both, payload, policy=by_key)
     calls.bad(cipher.seal(payload), both, NAMES.index("Unauthenticated"), policy=by_key)
+
+
+def unnamed(key):
+    """Returns a key like this one, whose layers name no key."""
+    made = Sealer(key.tag, key.algorithm, key.public, key.prove)
+    made.unprotected = {label: value for label, value in key.unprotected.items() if label != 4}
+    return made
+
+
+def many_keys(calls):
+    """Adds rings with more keys that fit a layer than are tried, and with keys of other identifiers."""
+    payload, most, iv = claims(), 16, bytes(range(13))
+    for key, other, spare in ((ecdsa(-7, "P-256", 5), ecdsa(-7, "P-256", 6), eddsa(-8, 6, 7)),
+                              (mac(5, bytes(range(32))), mac(5, bytes(32)), mac(6, bytes(48))),
+                              (aead(10, bytes(range(16)), iv), aead(10, bytes(16), iv), aead(11, bytes(32), iv))):
+        right, wrong, unfit = key.public, other.public, spare.public
+        named = [{**wrong, 2: bytes([number])} for number in range(most)]
+        for sealer, key_id in ((key, b"k"), (unnamed(key), b"")):
+            token = sealer.seal(payload)
+            bad = lambda keys, status, token=token, key_id=key_id: calls.bad(token, keys, status, key_id=key_id)
+            bad(keys_of(), UNFIT)
+            bad(keys_of(unfit), UNFIT)
+            bad(keys_of(*[unfit] * 40), UNFIT)
+            bad(keys_of(*[wrong] * most), REFUSED)
+            bad(keys_of(*[wrong] * most, *[unfit] * 3), REFUSED)
+            bad(keys_of(*[wrong] * most, wrong), TOO_MANY_KEYS)
+            bad(keys_of(*[wrong] * most, right), TOO_MANY_KEYS)
+            bad([(HUB, keys_of(*[wrong] * 9)), (AS, keys_of(*[wrong] * 7)), (AS, keys_of(right))], TOO_MANY_KEYS)
+            calls.good(token, keys_of(*[wrong] * (most - 1), right), payload)
+            calls.good(token, keys_of(*[wrong] * (most - 1), right, *[wrong] * 3), payload)
+            calls.good(token, keys_of(*[unfit] * 30, *[wrong] * (most - 1), *[unfit] * 30, right), payload)
+            calls.good(token, [(HUB, keys_of(*[wrong] * 9)), (AS, keys_of(*[wrong] * 6, right, wrong))], payload)
+        calls.good(key.seal(payload), keys_of(*named, *named, right), payload)
+        calls.bad(key.seal(payload), keys_of(*named, *named), UNFIT)
+        calls.bad(unnamed(key).seal(payload), keys_of(*named, right), TOO_MANY_KEYS, key_id=b"")
+        calls.good(unnamed(key).seal(payload), keys_of(*named[1:], right), payload)
+    # Keys of an algorithm without a cipher fit, and are refused.
+    none = Sealer(17, 14, {1: 4, -1: bytes(16)}, lambda signed, _: bytes(8))
+    calls.bad(none.seal(payload), keys_of(*[none.public] * most))
+    calls.bad(none.seal(payload), keys_of(*[none.public] * (most + 1)), TOO_MANY_KEYS)
 
 
 def examples(calls):
@@ -425,7 +479,7 @@ def tried(folder, objects, check):
     run(["cc", *flags, "-o", "calls_openssl", *sources, "text.o", *objects, "-lcrypto"], cwd=folder)
     run(["cc", *FLAGS, "-o", "accept", f"{WRAPPERS}/c/accept.c", "libcoset.a", "-lcrypto"], cwd=folder)
     calls = Calls()
-    for add in (every_algorithm, wrong_signatures, short_rsa, wrong_points, rings):
+    for add in (every_algorithm, wrong_signatures, short_rsa, wrong_points, rings, many_keys):
         add(calls)
     few = Calls()
     few.lines, few.wanted = calls.lines[::40], calls.wanted[::40]
@@ -440,11 +494,14 @@ def tried(folder, objects, check):
 
 
 def refusals(program, calls, number, check):
-    """Refuses an allocation of each call. No other token is then accepted. Returns how many allocations were refused."""
+    """Refuses an allocation of each call. No other token is then accepted, and a key that fits doesn't count as one that doesn't.
+    Returns how many allocations were refused."""
     refused = 0
     told = calling.answers([program], calls.lines, check, env={**os.environ, "REFUSE": str(number)})
     for asked, want, got in zip(calls.lines, calls.wanted, told):
-        is_less = got.split()[0] in ("2", str(REFUSED)) and want[0] != got.split()[0]
+        # The right key is refused then, and one more may fit than are tried.
+        less = ("2", str(REFUSED), *([str(TOO_MANY_KEYS)] if want[0] == str(OK) else []))
+        is_less = got.split()[0] in less and want[0] != got.split()[0]
         refused += is_less
         is_right = is_less or calling.agrees(got.split(), want) or asked.startswith("roomy ")
         check(is_right, f"OpenSSL, refused {number}: {asked}: {got}")

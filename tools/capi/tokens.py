@@ -5,7 +5,7 @@ layers, their proofs and structures, and the rest of each question."""
 import re
 import sys
 
-from capi.kinds import ABSENT, LAYER, NAMES, NOT_ALLOWED, OK, REFUSED, UNFIT, pairs_of
+from capi.kinds import ABSENT, BY_KEYS, LAYER, NAMES, NOT_ALLOWED, OK, REFUSED, TOO_MANY_KEYS, UNFIT, pairs_of
 from capi.vectors import rows_of, status_of
 from cbor import byte_string, decode, encode, head
 
@@ -159,10 +159,12 @@ class Verified(bytes):
 
 
 class Refused:
-    """The layer, the algorithm and the claim that a refusal is about, and what the caller's function was asked."""
+    """The layer, the algorithm and the claim that a refusal is about, and what the caller's function was asked. The layer's key
+    identifier is given for a layer that no key opens."""
 
-    def __init__(self, numbers, asked):
-        self.words, self.asked = [None if number is None else str(number) for number in numbers], asked
+    def __init__(self, numbers, asked, key_id=b""):
+        words = [*numbers, None if key_id is None else key_id.hex() or "-"]
+        self.words, self.asked = [None if word is None else str(word) for word in words], asked
 
 
 def issuer_of(word):
@@ -200,7 +202,8 @@ def refused(index, name, told, layers):
     if name == "Algorithm":
         return NOT_ALLOWED, [index, int((re.findall(r"-?\d+", told) or [0])[0]), 0]
     if name == "Keys":
-        return REFUSED, [index, layers[-1].algorithm if layers else None, 0]
+        by_ring = {"NoKey": UNFIT, "TooManyKeys": TOO_MANY_KEYS}
+        return by_ring.get(re.match(r"\w*", told or "")[0], REFUSED), [index, layers[-1].algorithm if layers else None, 0]
     return ERRORS[name], [index, 0, CLAIMS[told] if name == "Missing" else 0]
 
 
@@ -216,7 +219,8 @@ def result_of(answer, layers):
         result.asked = asked
         return OK, result
     status, numbers = refused(*told.groups()[:3], layers)
-    return status, Refused(numbers, asked)
+    named = layers[-1].texts[0] if layers else None
+    return status, Refused(numbers, asked, named if status in BY_KEYS else b"")
 
 
 # ---- The calls
@@ -241,12 +245,12 @@ def openings(data, now, policy, layers, status, result):
     words = [now, f"{SIZE},{policy[0]}", *policy[1:]]
     for index, layer in enumerate(layers):
         yield ("open", 0, data, [*words, *opened_words(layers[:index])], LAYER, layer.waiting(index))
-    if status == REFUSED:
+    if status in BY_KEYS:
         return
     told = Opening(result if status == OK else b"")
     told.layer = [0] * 10
     if status != OK:
-        index, algorithm, claim = map(int, result.words)
+        index, algorithm, claim = map(int, result.words[:3])
         told.layer = [0, 0, algorithm, claim, index, 0, 0, 0, 0, 0]
     yield ("open", 0, data, [*words, *opened_words(layers)], status, told)
 
@@ -285,7 +289,8 @@ def without_empty(call, layers):
         return call
     asked = layers[:empty]
     texts = b"".join(layer.proof + layer.structure for layer in asked).hex() or "-"
-    told = Refused([empty, layers[empty].algorithm, 0], [str(empty), texts, listed(layer.facts() for layer in asked)])
+    asked = [str(empty), texts, listed(layer.facts() for layer in asked)]
+    told = Refused([empty, layers[empty].algorithm, 0], asked, layers[empty].texts[0])
     return (*call[:4], REFUSED, told)
 
 
@@ -297,8 +302,10 @@ def rings(row, answer):
         return
     issuers = [word.rpartition(":") for word in sets.split(",")]
     spelled_sets = listed(f"{text(name.encode() or None)}:{keys}" for name, _, keys in issuers)
-    status, result = result_of(answer, [])
-    yield ("ring", 0, bytes.fromhex(spelled), [now, *words, spelled_sets, said], status, result)
+    data, form = bytes.fromhex(spelled), int(words[0].split(",")[2])
+    outermost = layers_of(data, form, [], 1) if answer.startswith("Layer(0, Keys(") else []
+    status, result = result_of(answer, outermost)
+    yield ("ring", 0, data, [now, *words, spelled_sets, said], status, result)
 
 
 def fittings(row, answer):

@@ -16,6 +16,7 @@ export const PROTECTED: 1, PAYLOAD: 2, CIPHERTEXT: 3, PROOF: 4;
 export const IN_PROTECTED: 1, IN_UNPROTECTED: 2, IN_ITEM: 3;
 export const LEXICOGRAPHIC: 1, LENGTH_FIRST: 2;
 export const BY_SIGNATURE: 1, BY_ANY: 2;
+export const MOST_TRIES: 16;
 export const NONE: 0, INT: 1, TEXT: 2, BYTES: 3, ENCODED: 4;
 export const UNDERSTOOD: 1, NOT_UNDERSTOOD: 2;
 
@@ -32,6 +33,7 @@ export const Status: Readonly<{
   UNREGISTERED: 10; NOT_PRIVATE: 11; ABSENT: 12; MISUSE: 13; TYPE: 14; EMPTY: 15; NOT_ALLOWED: 16; CRITICAL: 17; REFUSED: 18;
   LAYER: 19; TOO_DEEP: 20; UNAUTHENTICATED: 21; NOT_CLAIMS: 22; NO_EXPIRATION: 23; EXPIRED: 24; NOT_YET_VALID: 25;
   ISSUED_LATER: 26; TOO_OLD: 27; ISSUER: 28; AUDIENCE: 29; HEADERS: 30; TOKEN_TYPE: 31; HEADER_CLAIMS: 32; MISSING: 33; UNFIT: 34;
+  TOO_MANY_KEYS: 35;
 }>;
 
 export class CosetError extends Error {
@@ -51,9 +53,10 @@ export class NotAllowed extends Refused {}
 export class Critical extends Refused {}
 export class WrongHeaders extends Refused {}
 export class InvalidToken extends CosetError {
-  constructor(status: number, layer?: number | null, number?: Integer | null);
+  constructor(status: number, layer?: number | null, number?: Integer | null, keyId?: Uint8Array | null);
   readonly layer: number | null;
   readonly number: Integer | null;
+  readonly keyId: Uint8Array | null;
 }
 
 /** A range of the input, for `subarray(start, end)`. */

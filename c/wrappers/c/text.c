@@ -47,7 +47,8 @@ const char *coset_status_text(coset_status status) {
   case COSET_TOKEN_TYPE: return "the token has none of the accepted types";
   case COSET_HEADER_CLAIMS: return "a header has other claims than the payload";
   case COSET_MISSING: return "the token lacks a required claim";
-  case COSET_UNFIT: return "the key doesn't fit the layer";
+  case COSET_UNFIT: return "no given key fits the layer";
+  case 35: return "the keys that were tried are refused, and more fit the layer"; /* COSET_TOO_MANY_KEYS of coset_verify.h */
   default: return "no status of this library";
   }
 }

@@ -21,9 +21,10 @@ struct line {
 };
 
 /* The answers that are left for layers, and the questions that were asked. For `ring` the sets of keys, the calls that
- * are accepted, and those whose plaintext is used up. */
+ * are accepted, those whose plaintext is used up, and the number of keys that fitted the layer. */
 struct script {
   const char *answers, *sets, *says;
+  int tries;
   size_t count;
   char asked[4 * ASKED], layers[ASKED];
   uint8_t name[MOST * MOST];
@@ -170,14 +171,16 @@ static int is_accepted(struct script *script, const uint8_t *kid, size_t kid_len
   return COSET_NO;
 }
 
-/* Asks about a layer and a key that fits it. */
+/* Asks about a layer and a key that fits it. Returns COSET_UNFIT if it doesn't fit, and COSET_TOO_MANY_KEYS if it would be one key
+ * too many. */
 static int by_key(struct script *script, const uint8_t *key, size_t key_len, const coset_layer_question *q, uint8_t *plain,
                   size_t cap, size_t *len) {
   uint8_t nonce[13], kid[MOST];
   size_t nonce_len, kid_len;
   if (coset_key_fits(key, key_len, q->form, q->algorithm, q->key_id, q->key_id_len, q->iv, q->iv_len, q->partial_iv,
                      q->partial_iv_len, q->proof, q->proof_len, nonce, sizeof nonce, &nonce_len))
-    return COSET_NO;
+    return COSET_UNFIT;
+  if (script->tries++ == COSET_MOST_TRIES) return COSET_TOO_MANY_KEYS;
   if (coset_label_bytes(COSET_KEY, key, key_len, COSET_IN_ITEM, 2, kid, sizeof kid, &kid_len)) kid_len = 0;
   char *to = script->layers + strlen(script->layers);
   to = hexadecimal(to + sprintf(to, "%s", script->count ? "," : ""), kid, kid_len);
@@ -190,21 +193,27 @@ static int by_key(struct script *script, const uint8_t *key, size_t key_len, con
   return is;
 }
 
-/* Asks each key of the sets that fits, in order. Keys that can't be read are skipped. */
+/* Returns 1 if a ring goes on to the next key: so far none fits, or each is refused. */
+static int goes_on(int said) { return said == COSET_UNFIT || said == COSET_NO; }
+
+/* Asks each key of the sets that fits, in order, and COSET_MOST_TRIES keys at most. Keys that can't be read are skipped. */
 static int by_ring(void *context, const coset_layer_question *question, uint8_t *plain, size_t cap, size_t *len, coset_text *issuer) {
   struct script *script = context;
-  int is = COSET_NO;
-  for (const char *set = script->sets; *set && !is; set += strcspn(set, ","), set += *set == ',') {
+  int is = COSET_UNFIT;
+  script->tries = 0;
+  for (const char *set = script->sets; *set && goes_on(is); set += strcspn(set, ","), set += *set == ',') {
     const char *spells = strchr(set, ':');
     struct bytes name = spelled(*set == 't' ? set + 1 : "-"), keys = spelled(spells + 1);
     size_t count = 0;
     coset_span key;
     if (coset_count(COSET_ITEM, keys.at, keys.len, &count)) count = 0;
-    for (size_t i = 0; i < count && !is; i++)
-      if (!coset_member_span(COSET_ITEM, keys.at, keys.len, i, &key))
-        is = by_key(script, keys.at + key.at, key.len, question, plain, cap, len);
+    for (size_t i = 0; i < count && goes_on(is); i++)
+      if (!coset_member_span(COSET_ITEM, keys.at, keys.len, i, &key)) {
+        const int said = by_key(script, keys.at + key.at, key.len, question, plain, cap, len);
+        if (said != COSET_UNFIT) is = said;
+      }
     if (name.len) memcpy(script->name, name.at, name.len);
-    if (is && *set == 't') *issuer = (coset_text){(const char *)script->name, name.len};
+    if (is == COSET_YES && *set == 't') *issuer = (coset_text){(const char *)script->name, name.len};
     free(name.at), free(keys.at);
   }
   return is;
@@ -240,7 +249,7 @@ static coset_opener opener_of(const char *call) {
 /* ---- The calls */
 
 /* Returns the status of coset_token_verify, with memory to work in that is in a block of its own. -3: it isn't cleared
- * after a refusal, -4: the token has something after a refusal, or lies elsewhere. */
+ * after a refusal, except for a key identifier at its front, -4: the token has something else after a refusal, or lies elsewhere. */
 static int32_t verify(const struct line *line, char **word, struct script *script, size_t cap, uint8_t **work,
                       coset_token *token) {
   const coset_opener opener = opener_of(word[0]);
@@ -262,7 +271,8 @@ static int32_t verify(const struct line *line, char **word, struct script *scrip
     if (status ? parts[i].at || parts[i].len : !parts[i].at && (i < 4 || parts[i].len)) return -4;
     if (!status && parts[i].at && (at > cap || parts[i].len > cap - at)) return -4;
   }
-  for (size_t i = 0; status && i < cap; i++)
+  if (token->key_id ? !status || token->key_id != *work || !token->key_id_len || token->key_id_len > cap : token->key_id_len) return -4;
+  for (size_t i = token->key_id_len; status && i < cap; i++)
     if ((*work)[i]) return -3;
   if ((status == COSET_SHORT) != (token->needed > cap) || (status != COSET_SHORT && token->needed)) return -4;
   return status;
@@ -354,8 +364,10 @@ void token_call(char **word, struct bytes in, size_t cap) {
   left = -1;
   printf("%" PRId32 " %zu", status, told.needed);
   if (status == COSET_OK) tell_token(&told);
-  else if (status > 0 && status != COSET_MEMORY)
-    printf(" %zu %" PRId64 " %" PRId64, told.layer.index, told.layer.algorithm, told.layer.claim);
+  else if (status > 0 && status != COSET_MEMORY) {
+    printf(" %zu %" PRId64 " %" PRId64 " %s", told.layer.index, told.layer.algorithm, told.layer.claim, told.key_id ? "" : "-");
+    tell(told.key_id, told.key_id_len);
+  }
   if (status >= 0 && status != COSET_MEMORY)
     printf(" %zu %s %s", script->count, *script->asked ? script->asked : "-",
            *script->layers ? script->layers : "-");

@@ -127,16 +127,7 @@ class Ring extends Asked {
       verify: async (key, algorithm, input, proof) => this.plaintext(key, algorithm, new Uint8Array(), input, proof) !== null,
       decrypt: async (...words) => this.plaintext(...words),
     });
-    this.keys = layer => this.open(layer);
-  }
-
-  async open(layer) {
-    try {
-      return await this.ring.open(layer);
-    } catch (refused) {
-      if (refused.reason === "UNFIT" && refused.layer === layer.index) return null;
-      throw refused;
-    }
+    this.keys = layer => this.ring.open(layer);
   }
 
   plaintext(key, algorithm, nonce, input, proof) {
@@ -150,8 +141,8 @@ class Ring extends Asked {
   }
 }
 
-/** Returns the result of `verifyToken` and the questions that it asked. After a refusal, the layer and the number are in place
- * of the token. */
+/** Returns the result of `verifyToken` and the questions that it asked. After a refusal, the layer, the number and the key
+ * identifier are in place of the token. */
 async function opened(asked, given, now, rules, algorithms, critical, required, audiences, types) {
   const [leeway, age, untaggedForm, authenticatedBy, anyAudience, forever, later] = rules.split(",").map(BigInt);
   try {
@@ -162,8 +153,11 @@ async function opened(asked, given, now, rules, algorithms, critical, required, 
       now: BigInt(now),
     }))} ${asked.told()}`;
   } catch (refused) {
-    if (refused instanceof coset.InvalidToken) return [NAMES[refused.reason], refused.layer ?? "-", refused.number ?? "-", asked.told()].join(" ");
-    if (refused instanceof coset.Misuse) return ["Misuse", asked.heard.length - 1, "-", asked.told()].join(" ");
+    if (refused instanceof coset.InvalidToken) {
+      const keyId = refused.keyId === null ? "-" : hex(refused.keyId);
+      return [NAMES[refused.reason], refused.layer ?? "-", refused.number ?? "-", keyId, asked.told()].join(" ");
+    }
+    if (refused instanceof coset.Misuse) return ["Misuse", asked.heard.length - 1, "- -", asked.told()].join(" ");
     throw refused;
   }
 }

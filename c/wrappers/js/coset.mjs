@@ -22,6 +22,7 @@ export const PROTECTED = 1, PAYLOAD = 2, CIPHERTEXT = 3, PROOF = 4;
 export const IN_PROTECTED = 1, IN_UNPROTECTED = 2, IN_ITEM = 3;
 export const LEXICOGRAPHIC = 1, LENGTH_FIRST = 2; // orders of labels
 export const BY_SIGNATURE = 1, BY_ANY = 2; // the layers that authenticate the sender of a token
+export const MOST_TRIES = 16; // the greatest number of keys that a KeyRing tries for a layer
 export const NONE = 0, INT = 1, TEXT = 2, BYTES = 3, ENCODED = 4; // forms of algorithms (the first three), labels and values
 export const UNDERSTOOD = 1, NOT_UNDERSTOOD = 2; // the state of critical labels; NONE if there are none
 
@@ -41,6 +42,7 @@ export const Status = Object.freeze({
   UNREGISTERED: 10, NOT_PRIVATE: 11, ABSENT: 12, MISUSE: 13, TYPE: 14, EMPTY: 15, NOT_ALLOWED: 16, CRITICAL: 17, REFUSED: 18,
   LAYER: 19, TOO_DEEP: 20, UNAUTHENTICATED: 21, NOT_CLAIMS: 22, NO_EXPIRATION: 23, EXPIRED: 24, NOT_YET_VALID: 25,
   ISSUED_LATER: 26, TOO_OLD: 27, ISSUER: 28, AUDIENCE: 29, HEADERS: 30, TOKEN_TYPE: 31, HEADER_CLAIMS: 32, MISSING: 33, UNFIT: 34,
+  TOO_MANY_KEYS: 35,
 });
 const NAMES = Object.keys(Status);
 
@@ -104,15 +106,19 @@ export class Critical extends Refused {}
 export class WrongHeaders extends Refused {}
 
 /** The token is refused. `reason` is the first reason against it, such as "EXPIRED". It is "UNFIT" if no key of a
- * KeyRing fits a layer. `layer` is the index of the refused layer, counted from 0, the outermost, or null. `number` is
- * the number of the algorithm for "NOT_ALLOWED", and of the missing claim for "MISSING", else null. */
+ * KeyRing fits a layer. It is "TOO_MANY_KEYS" if a KeyRing tried MOST_TRIES keys for a layer, each is refused, and more
+ * fit. `layer` is the index of the refused layer, counted from 0, the outermost, or null. `number` is the number of the
+ * algorithm for "NOT_ALLOWED", and of the missing claim for "MISSING", else null. It is null also for the algorithm 0,
+ * which is reserved. `keyId` is the key identifier of the layer for "UNFIT", "TOO_MANY_KEYS" and "REFUSED". It is null
+ * for another reason, and if the layer names no key. */
 export class InvalidToken extends CosetError {
-  constructor(status, layer = null, number = null) {
+  constructor(status, layer = null, number = null, keyId = null) {
     const subject = layer === null ? "the token" : `layer ${layer} of the token`;
     const told = AGAINST[status] ?? statusText(status);
     super(status, `${subject} is refused: ${told}${number === null ? "" : ` (${number})`}`);
     this.layer = layer;
     this.number = number;
+    this.keyId = keyId;
   }
 }
 
@@ -869,15 +875,15 @@ function accepted(form, said) {
   return true;
 }
 
-/** Returns the plaintext of the layer, and the name of an issuer or null. */
-function answered(view, said) {
+/** Returns the plaintext of the layer that waits, and the name of an issuer or null. */
+function answered(view, text, said) {
   let name = null;
   if (Array.isArray(said)) {
     if (said.length !== 2) throw new Misuse("the answer is one value, or a pair of it and the issuer's name");
     [said, name] = [said[0], issuerOf(said[1])];
   }
   const answer = accepted(view.form, said);
-  if (answer === null) throw new InvalidToken(Status.REFUSED, view.index);
+  if (answer === null) throw new InvalidToken(Status.REFUSED, view.index, null, waiting(view, text).keyId);
   return [answer === true ? NOTHING : answer, name ?? NOTHING];
 }
 
@@ -961,7 +967,7 @@ export async function verifyToken(data, keys, options) {
     const view = readStruct(LAYER, place);
     if (status === Status.LAYER) {
       const isEmpty = view.form !== ENCRYPT0 && !view.proof_len;
-      const said = answered(view, isEmpty ? null : await ask(waiting(view, text)));
+      const said = answered(view, text, isEmpty ? null : await ask(waiting(view, text)));
       const [entry, more] = handed(view, text, ...said, known.length);
       layers.push(entry);
       known = joined([known, more]);
@@ -1020,7 +1026,8 @@ function issuersOf(issuers) {
   throw new Misuse("issuers are a plain object, a Map or an array of pairs: a name and a COSE_KeySet for each");
 }
 
-/** The keys of issuers, for `verifyToken`. It says whose key accepted a layer.
+/** The keys of issuers, for `verifyToken`. It says whose key accepted a layer. A layer is compared with each key of the
+ * ring. If it names a key identifier, only keys with that identifier are decoded. At most MOST_TRIES keys that fit are tried.
  *
  * `issuers` is a plain object, a Map or an array of pairs: for each issuer's name, as in `iss`, a KEY_SET. The name null is for
  * an issuer whose tokens have no `iss`; undefined is a Misuse. Keys that can't be read are skipped (RFC 9052, section 7).
@@ -1040,27 +1047,30 @@ export class KeyRing {
     this.#ciphers = ciphers;
     this.#keys = issuersOf(issuers).flatMap(([name, keys]) => {
       issuerOf(name);
-      return readableKeys(keys).map(key => [name, key]);
+      return readableKeys(keys).map(key => [name, key, orNull(() => String(labelBytes(KEY, key, IN_ITEM, 2)))]);
     });
   }
 
-  /** Tries each key that fits the layer, in order. Returns a promise of the answer for `verifyToken`. Throws InvalidToken,
-   * with UNFIT, if no key fits. */
+  /** Tries each key that fits the layer, in order, and MOST_TRIES keys at most. Returns a promise of the answer for
+   * `verifyToken`. Throws InvalidToken, with UNFIT, if no key fits, and with TOO_MANY_KEYS if those that it tried are
+   * refused, and more fit. */
   async open(layer) {
     objectOf(layer);
-    const { form, algorithm, input, proof, index } = layer;
-    let isFitting = false;
-    for (const [name, key] of this.#keys) {
+    const { form, algorithm, input, proof, index } = layer, keyId = layer.keyId === null ? NOTHING : own(layer.keyId), named = String(keyId);
+    const refusal = status => new InvalidToken(status, index, null, named ? keyId : null);
+    let tries = 0;
+    for (const [name, key, id] of this.#keys) {
+      if (named && id !== named) continue;
       const nonce = keyFits(key, layer);
       if (nonce === null) continue;
-      isFitting = true;
+      if (tries++ === MOST_TRIES) throw refusal(Status.TOO_MANY_KEYS);
       if (form === ENCRYPT0 && typeof this.#ciphers.decrypt !== "function") throw new Misuse("the ciphers have no function decrypt");
       const said = accepted(form, await (form === ENCRYPT0
         ? this.#ciphers.decrypt(key.slice(), algorithm, nonce, input.slice(), proof.slice())
         : this.#ciphers.verify(key.slice(), algorithm, input.slice(), proof.slice())));
       if (said !== null) return [said, name];
     }
-    if (!isFitting) throw new InvalidToken(Status.UNFIT, index);
+    if (!tries) throw refusal(Status.UNFIT);
     return null;
   }
 }

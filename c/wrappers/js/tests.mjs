@@ -447,6 +447,46 @@ const tests = {
     assert.ok(await thrown(() => says({ as: undefined })) instanceof coset.Misuse);
   },
 
+  async "a ring tries 16 keys that fit a layer, and no others"() {
+    assert.deepEqual([coset.MOST_TRIES, coset.Status.TOO_MANY_KEYS], [16, 35]);
+    const kid = ENCODER.encode("kid"), mac = new Uint8Array(32), header = coset.put(HEADER, NONE, 1, 5);
+    const keyOf = (algorithm, secret, id) => coset.putAll(KEY, NONE, [[1, 4], ...(id ? [[2, id]] : []), [3, algorithm], [-1, new Uint8Array(64).fill(secret)]]);
+    for (const id of [null, kid]) {
+      const token = coset.make(MAC0 + TAGGED, header, id ? coset.put(HEADER, NONE, 4, id) : NONE, { content: claims(1), proof: mac });
+      const right = keyOf(5, 1, id), wrong = Array(17).fill(keyOf(5, 2, id)), other = Array(40).fill(keyOf(6, 1, id));
+      for (const [keys, want, calls] of [
+        [[], "UNFIT", 0], [other, "UNFIT", 0], [wrong.slice(16), "REFUSED", 1], [wrong.slice(1), "REFUSED", 16], [[...wrong.slice(1), ...other], "REFUSED", 16], [wrong, "TOO_MANY_KEYS", 16],
+        [[...wrong.slice(1), right], "TOO_MANY_KEYS", 16], [[...wrong.slice(2), right], "OK", 16], [[...other, ...wrong.slice(2), ...other, right, ...wrong], "OK", 16],
+      ]) {
+        let asked = 0;
+        const setOf = keys => Uint8Array.from([0x98, keys.length, ...keys.flatMap(key => [...key])]);
+        const ring = new coset.KeyRing([["you", setOf(keys.slice(0, 7))], ["as", setOf(keys.slice(7))]], { verify: async key => (asked++, key.at(-1) === 1) });
+        const refusal = await coset.verifyToken(token, ring, { algorithms: [5], now: 1000 }).then(() => ({ reason: "OK" }), error => error);
+        assert.deepEqual([refusal.reason, asked], [want, calls]);
+        if (want !== "OK") assert.deepEqual([refusal.layer, refusal.number, refusal.keyId], [0, null, id]);
+      }
+    }
+    // The key identifiers of 41 keys leave one that fits.
+    const named = Array.from({ length: 40 }, (_, number) => keyOf(5, 2, Uint8Array.of(number))), right = keyOf(5, 1, kid);
+    const setOf = keys => Uint8Array.from([0x98, keys.length, ...keys.flatMap(key => [...key])]), verify = key => key.at(-1) === 1;
+    const token = coset.make(MAC0 + TAGGED, header, coset.put(HEADER, NONE, 4, kid), { content: claims(1), proof: mac }), policy = { algorithms: [5], now: 1000 };
+    assert.equal((await coset.verifyToken(token, new coset.KeyRing({ as: setOf([...named, right]) }, { verify }), policy)).issuer, "as");
+    const refusal = await thrown(() => coset.verifyToken(token, new coset.KeyRing({ as: setOf(named) }, { verify }), policy));
+    assert.deepEqual([refusal.reason, refusal.keyId, refusal.message], ["UNFIT", kid, "layer 0 of the token is refused: no key fits it"]);
+  },
+
+  async "a refusal by keys has the key identifier of the layer"() {
+    const kid = ENCODER.encode("kid"), named = coset.put(HEADER, NONE, 4, kid), content = claims(1), policy = { algorithms: [-7], now: 1000 };
+    const token = (unprotected, proof) => coset.make(SIGN1, ES256, unprotected, { content, proof });
+    const says = (keys, unprotected = named, proof = new Uint8Array(64), options = policy) => thrown(() => coset.verifyToken(token(unprotected, proof), keys, options));
+    const changing = layer => (layer.keyId.fill(0), false);
+    for (const keys of [() => false, async () => null, changing]) assert.deepEqual((await says(keys)).keyId, kid);
+    assert.deepEqual((await says(() => true, named, NONE)).keyId, kid); // an empty signature
+    assert.equal((await says(() => false, NONE)).keyId, null);
+    assert.equal((await says(() => true, named, undefined, { ...policy, now: 5000 })).keyId, null);
+    assert.equal((await says(() => true, named, undefined, { ...policy, algorithms: [5] })).keyId, null);
+  },
+
   async "a ring without ciphers, or without issuers, is a misuse when it is made"() {
     const key = coset.putAll(KEY, NONE, [[1, 4], [3, 5], [-1, new Uint8Array(32)]]), set = coset.add(KEY_SET, NONE, key), verify = () => true;
     const misuses = async (make, told) => {

@@ -12,7 +12,7 @@ _NAMES = {3: "Ends", 4: "Malformed", 5: "Deep", 6: "Extraneous", 7: "Unexpected"
           10: "Unregistered", 11: "NotPrivate"}
 _REFUSED = dict(enumerate(
     "Refused Layer TooDeep Unauthenticated NotClaims NoExpiration Expired NotYetValid IssuedLater TooOld Issuer Audience Headers "
-    "TokenType HeaderClaims Missing Unfit".split(), 18))
+    "TokenType HeaderClaims Missing Unfit TooManyKeys".split(), 18))
 _REFUSED |= {**_NAMES, 12: "Absent", 16: "NotAllowed", 17: "Critical"}
 _RAISED = {coset.Absent: "Absent", coset.Empty: "Empty", coset.WrongType: "Type", coset.Misuse: "Misuse",
            coset.Refused: "Refused", coset.NotAllowed: "NotAllowed", coset.Critical: "Critical", coset.WrongHeaders: "Headers",
@@ -132,8 +132,9 @@ class Ring:
         try:
             said = self.ring(layer)
         except coset.InvalidToken as refused:
-            assert (refused.reason, refused.layer, len(self.heard)) == (coset.Status.UNFIT, layer.index, before)
-            return None
+            assert refused.layer == layer.index
+            assert len(self.heard) == before + {coset.Status.UNFIT: 0, coset.Status.TOO_MANY_KEYS: coset.MOST_TRIES}[refused.reason]
+            raise
         assert len(self.heard) > before
         return said
 
@@ -183,7 +184,7 @@ class Crypto:
 
 def opened(script, given, now, rules, algorithms, critical, required, audiences, types):
     """Returns the result of `verify_token` and the questions that it asked, as calls.c describes them. After a refusal,
-    prints the layer and the number in place of the token, and returns None."""
+    prints the layer, the number and the key identifier in place of the token, and returns None."""
     leeway, age, form, by, any_audience, forever, later = map(int, rules.split(","))
     try:
         token = coset.verify_token(
@@ -191,11 +192,12 @@ def opened(script, given, now, rules, algorithms, critical, required, audiences,
             critical=integers(critical), leeway=leeway, max_age=age or None, untagged_form=form, authenticated_by=by,
             any_audience=bool(any_audience), may_not_expire=bool(forever), may_be_issued_later=bool(later), now=int(now))
     except coset.InvalidToken as refused:
-        told = ["-" if it is None else str(it) for it in (refused.layer, refused.number)]
+        key_id = None if refused.key_id is None else refused.key_id.hex()
+        told = ["-" if it is None else str(it) for it in (refused.layer, refused.number, key_id)]
         print(_REFUSED[refused.reason], *told, script.told())
         return None
     except TypeError:
-        print("Misuse", len(script.heard) - 1, "-", script.told())
+        print("Misuse", len(script.heard) - 1, "- -", script.told())
         return None
     return f"{told_token(token)} {script.told()}"
 

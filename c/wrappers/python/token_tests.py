@@ -242,6 +242,70 @@ for one, two in zip(makers(), makers()):
     both = coset.KeyRing({"you": key_set(two.key), "me": key_set(two.key, one.key)})
     assert verified(one.token(CLAIMS), both, [one.algorithm], **ANY).issuer == "me"
 
+# ---- which keys of a ring are tried: 16 that fit the layer, and no others
+
+
+def told(*arguments, **more):
+    """Returns the reason, the layer and the key identifier of the refusal, or None if the token is accepted."""
+    try:
+        verified(*arguments, **more)
+    except coset.InvalidToken as refusal:
+        return refusal.reason, refusal.layer, refusal.key_id
+    return None
+
+
+class Counted:
+    """Ciphers that count their calls."""
+
+    def __init__(self):
+        self.calls = 0
+
+    def verify(self, *given):
+        self.calls += 1
+        return CIPHERS.verify(*given)
+
+    def decrypt(self, *given):
+        self.calls += 1
+        return CIPHERS.decrypt(*given)
+
+
+UNFIT, TOO_MANY, REFUSED = coset.Status.UNFIT, coset.Status.TOO_MANY_KEYS, coset.Status.REFUSED
+assert coset.MOST_TRIES == 16 and int(TOO_MANY) == 35
+for make in (lambda key_id: by_edwards(6, ed25519.Ed25519PrivateKey, key_id), lambda key_id: by_hmac(5, SHA[256], 32, key_id),
+             lambda key_id: by_aead(24, 32, aead.ChaCha20Poly1305, key_id)):
+    for key_id in (b"", b"kid"):
+        right, wrong, other = make(key_id), [make(key_id).key for _ in range(17)], by_curve(-7, SHA[256], 1, CURVES[1], key_id).key
+        for keys, reason, calls in (
+            ([], UNFIT, 0), ([other] * 40, UNFIT, 0), (wrong[:1], REFUSED, 1), (wrong[:16], REFUSED, 16), (wrong[:16] + [other], REFUSED, 16),
+            (wrong, TOO_MANY, 16),
+            (wrong[:16] + [right.key], TOO_MANY, 16), (wrong[:15] + [right.key], None, 16), (wrong[:15] + [right.key] + wrong, None, 16),
+            ([other] * 40 + wrong[:15] + [other] * 40 + [right.key], None, 16),
+        ):
+            ciphers = Counted()
+            ring = coset.KeyRing([("you", key_set(*keys[:7]) or b"\x80"), ("me", key_set(*keys[7:]) or b"\x80")], ciphers)
+            want = None if reason is None else (reason, 0, key_id or None)
+            assert told(right.token(CLAIMS), ring, [right.algorithm], **ANY) == want, (len(keys), reason)
+            assert ciphers.calls == calls
+    # The key identifiers of 41 keys leave one that fits. Without an identifier, all of them fit.
+    keys, right = [make(b"%d" % number).key for number in range(40)], make(b"kid")
+    ciphers = Counted()
+    ring = coset.KeyRing({"me": key_set(*keys, right.key)}, ciphers)
+    assert verified(right.token(CLAIMS), ring, [right.algorithm], **ANY).issuer == "me" and ciphers.calls == 1
+    assert told(right.token(CLAIMS), coset.KeyRing({"me": key_set(*keys)}), [right.algorithm], **ANY) == (UNFIT, 0, b"kid")
+    right.key_id = b""
+    assert told(right.token(CLAIMS), ring, [right.algorithm], **ANY) == (TOO_MANY, 0, None)
+    assert verified(right.token(CLAIMS), coset.KeyRing({"me": key_set(*keys[:15], right.key)}), [right.algorithm], **ANY).issuer == "me"
+# A refusal has the key identifier of the inner layer that is refused, and one for another reason has none.
+outer, inner = by_hmac(5, SHA[256], 32, b"outer"), by_edwards(6, ed25519.Ed25519PrivateKey, b"inner")
+token, ring = outer.token(inner.token(CLAIMS)), coset.KeyRing({"me": key_set(outer.key)})
+assert told(token, ring, [5, -8], **ANY) == (UNFIT, 1, b"inner") and told(token, ring, [5], **ANY) == (coset.Status.NOT_ALLOWED, 1, None)
+assert told(token, lambda layer: layer.index == 0, [5, -8], **ANY) == (REFUSED, 1, b"inner")
+assert told(token, lambda layer: False, [5, -8], **ANY) == (REFUSED, 0, b"outer")
+token = coset.make(coset.SIGN1, b"\xa1\x01\x26", b"\xa1\x04\x41k", CLAIMS, b"")
+assert told(token, ring, [-7], **ANY) == (REFUSED, 0, b"k")
+error = coset.InvalidToken(TOO_MANY, 1, key_id=b"k")
+assert str(error) == "layer 1 of the token is refused: " + coset.status_text(35) and error.args == (TOO_MANY, 1, None, b"k")
+
 # ---- two issuers and three keys, in twelve lines
 
 ONE, TWO = by_curve(-7, SHA[256], 1, CURVES[1], b"one"), by_edwards(6, ed25519.Ed25519PrivateKey, b"two")

@@ -1,6 +1,6 @@
 //! Accepts web tokens (RFC 8392) of the issuers whose keys are known, with the caller's cryptography.
 
-use crate::coset::{self, InvalidToken, Layer, Opened, TokenPolicy, VerifiedToken};
+use crate::coset::{self, Error, InvalidToken, Layer, Opened, TokenPolicy, VerifiedToken};
 
 /// Returns a token that a key of one of the issuers signed. `issuers` has a COSE_KeySet for each
 /// issuer's name. `verify` receives a key that fits, and a layer with the signature.
@@ -16,8 +16,19 @@ pub fn accepted(
     }
     let policy = TokenPolicy { algorithms: &[-7], audience: &["coap://light.example.com"], leeway: 60, ..TokenPolicy::default() };
     coset::verify_token(token, now, &policy, |layer| {
-        let is_of = |key| matches!(coset::key_fits(key, layer), Ok(Some(_))) && verify(key, layer);
-        let (name, _) = keys.iter().find(|(_, key)| is_of(key))?;
-        Some(Opened { plaintext: None, issuer: Some(name) })
+        let mut tries = 0;
+        for (name, key) in &keys {
+            if coset::key_fits(key, layer)?.is_none() {
+                continue;
+            }
+            if tries == coset::MOST_TRIES {
+                return Err(Error::TooManyKeys);
+            }
+            if verify(key, layer) {
+                return Ok(Opened { plaintext: None, issuer: Some(name) });
+            }
+            tries += 1;
+        }
+        Err(if tries == 0 { Error::Unfit } else { Error::Refused })
     })
 }

@@ -262,7 +262,7 @@ fn or_none(word: String) -> String {
 }
 
 impl<'a> Script<'a> {
-    fn answer(&mut self, layer: &Layer<'_>) -> Option<Opened<'a>> {
+    fn answer(&mut self, layer: &Layer<'_>) -> Result<Opened<'a>, Error> {
         assert_eq!(layer.index, self.heard.len());
         self.asked += &hex(layer.proof);
         self.asked += &hex(layer.input);
@@ -272,7 +272,7 @@ impl<'a> Script<'a> {
         let (said, issuer) = self.answers.next().map_or(("no", None), |(said, issuer)| (*said, issuer.as_deref()));
         let plaintext = said.strip_prefix('p').map(bytes).unwrap_or_default();
         let is_encrypted = (layer.form == TokenForm::Encrypt0) != (said == "wrong");
-        (said != "no").then_some(Opened { plaintext: is_encrypted.then_some(plaintext), issuer })
+        if said == "no" { Err(Error::Refused) } else { Ok(Opened { plaintext: is_encrypted.then_some(plaintext), issuer }) }
     }
 }
 
@@ -311,16 +311,21 @@ impl Ring {
         Some(std::mem::take(&mut rule.1))
     }
 
-    fn answer(&mut self, layer: &Layer<'_>) -> Option<(Vec<u8>, Option<String>)> {
+    fn answer(&mut self, layer: &Layer<'_>) -> Result<(Vec<u8>, Option<String>), Error> {
+        let mut tries = 0;
         for (name, keys) in self.sets.clone() {
-            for key in coset::readable_keys(&keys).unwrap() {
-                let nonce = coset::key_fits(key, layer).unwrap();
-                if let Some(plaintext) = nonce.and_then(|nonce| self.accepted(key, &nonce, layer)) {
-                    return Some((plaintext, name));
+            for key in coset::readable_keys(&keys)? {
+                let Some(nonce) = coset::key_fits(key, layer)? else { continue };
+                if tries == coset::MOST_TRIES {
+                    return Err(Error::TooManyKeys);
+                }
+                tries += 1;
+                if let Some(plaintext) = self.accepted(key, &nonce, layer) {
+                    return Ok((plaintext, name));
                 }
             }
         }
-        None
+        Err(if tries == 0 { Error::Unfit } else { Error::Refused })
     }
 }
 
@@ -336,9 +341,9 @@ fn told_token(token: &VerifiedToken) -> String {
     parts.join(" ")
 }
 
-/// Returns the result of `verify_token`. After a refusal it has the layer and the number in place of
-/// the token.
-fn verified<'a>(w: &[&str], opener: impl FnMut(&Layer<'_>) -> Option<Opened<'a>>) -> String {
+/// Returns the result of `verify_token`. After a refusal it has the layer, the number and the key
+/// identifier in place of the token.
+fn verified<'a>(w: &[&str], opener: impl FnMut(&Layer<'_>) -> Result<Opened<'a>, Error>) -> String {
     let numbers: Vec<u64> = w[5].split(',').map(|number| number.parse().unwrap()).collect();
     let lists = [6, 7, 8].map(|place| integers(w[place]));
     let (audience, types) = (texts(w[9]), texts(w[10]));
@@ -363,7 +368,8 @@ fn verified<'a>(w: &[&str], opener: impl FnMut(&Layer<'_>) -> Option<Opened<'a>>
         Ok(token) => format!("ok {}", told_token(&token)),
         Err(error) => {
             let layer = number(error.layer.map(|layer| layer as i64));
-            format!("{:?} {layer} {}", error.reason, number(error.number))
+            let key_id = error.key_id.map_or("-".to_string(), |id| hex(&id));
+            format!("{:?} {layer} {} {key_id}", error.reason, number(error.number))
         }
     }
 }
@@ -389,7 +395,7 @@ fn ring(w: &[&str]) -> String {
     let result = verified(w, |layer| {
         let (plaintext, issuer) = ring.answer(layer)?;
         let issuer = names.iter().find(|name| **name == issuer).and_then(|name| name.as_deref());
-        Some(Opened { plaintext: (layer.form == TokenForm::Encrypt0).then_some(plaintext), issuer })
+        Ok(Opened { plaintext: (layer.form == TokenForm::Encrypt0).then_some(plaintext), issuer })
     });
     format!("{result} {}", told_questions(ring.heard.len(), ring.asked, &ring.heard))
 }

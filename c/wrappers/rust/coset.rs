@@ -400,7 +400,7 @@ pub struct VerifiedLayer {
 }
 
 /// The reason why a web token isn't accepted.
-#[derive(Clone, Copy, Debug, PartialEq, Eq)]
+#[derive(Clone, Debug, PartialEq, Eq)]
 pub struct InvalidToken {
     /// The first reason against the token. Or `Memory`; or `Misuse` if the policy has no meaning, or
     /// the answer for a layer. Without a `layer`, a fault or `NotKeySet` is the error of other bytes,
@@ -408,9 +408,12 @@ pub struct InvalidToken {
     pub reason: Error,
     /// The index of the refused layer, if the reason is against a layer. The outermost has 0.
     pub layer: Option<usize>,
-    /// The algorithm that isn't allowed (`NotAllowed`), if it has a number. Or the required claim
-    /// that is missing (`Missing`).
+    /// The algorithm that isn't allowed (`NotAllowed`), if it has a number other than 0, which is
+    /// reserved. Or the required claim that is missing (`Missing`).
     pub number: Option<i64>,
+    /// The key identifier of the layer, if the reason is `Refused`, `Unfit` or `TooManyKeys`, and the
+    /// layer names a key.
+    pub key_id: Option<Vec<u8>>,
 }
 
 const WRONG_POLICY: &str = "the policy has no meaning: an algorithm or a required claim isn't assigned, a number of seconds is \
@@ -423,6 +426,7 @@ impl fmt::Display for InvalidToken {
             (Error::Misuse, None) => return f.write_str(WRONG_POLICY),
             (Error::Misuse, Some(index)) => return write!(f, "the answer for layer {index} of the token has no meaning: {WRONG_ANSWER}"),
             (Error::Absent, Some(index)) => write!(f, "layer {index} of the token is refused: it carries no payload or ciphertext")?,
+            (Error::Unfit, Some(index)) => write!(f, "layer {index} of the token is refused: no key fits it")?,
             (reason, Some(index)) => write!(f, "layer {index} of the token is refused: {reason}")?,
             (reason, None) if reason.is_of_token() => write!(f, "the token is refused: {reason}")?,
             (reason, None) => write!(f, "{reason}")?,
@@ -480,6 +484,11 @@ pub enum Error {
     Critical,
     /// The caller's function said no, or a signature or MAC is empty.
     Refused,
+    /// No key fits the layer. From the caller's function alone, for [`verify_token`].
+    Unfit,
+    /// [`MOST_TRIES`] keys that fit the layer are refused, and more fit. From the caller's function
+    /// alone, for [`verify_token`].
+    TooManyKeys,
     /// The token has more than four nested layers.
     TooDeep,
     /// No layer authenticates the sender of the token.
@@ -532,6 +541,8 @@ impl fmt::Display for Error {
             Error::NotAllowed => "the algorithm isn't one that is allowed",
             Error::Critical => "a label that must be understood isn't",
             Error::Refused => "the signature, the tag or the ciphertext is refused",
+            Error::Unfit => "no given key fits the layer",
+            Error::TooManyKeys => "the keys that were tried are refused, and more fit the layer",
             Error::TooDeep => "the token has too many layers",
             Error::Unauthenticated => "no layer authenticates the sender of the token",
             Error::NotClaims => "the content of the token isn't a claims set",
@@ -1412,13 +1423,22 @@ impl InvalidToken {
                 Error::Missing => Some(view.claim),
                 _ => None,
             },
+            key_id: None,
         }
+    }
+
+    /// Returns the reason of the caller's function, which has refused a layer or failed.
+    fn by(reason: Error, layer: &Layer<'_>) -> InvalidToken {
+        if !matches!(reason, Error::Refused | Error::Unfit | Error::TooManyKeys) {
+            return reason.into();
+        }
+        InvalidToken { layer: Some(layer.index), key_id: layer.key_id.map(<[u8]>::to_vec), ..reason.into() }
     }
 }
 
 impl From<Error> for InvalidToken {
     fn from(reason: Error) -> Self {
-        InvalidToken { reason, layer: None, number: None }
+        InvalidToken { reason, layer: None, number: None, key_id: None }
     }
 }
 
@@ -1452,12 +1472,17 @@ impl Handed {
     }
 }
 
+/// The greatest number of keys that a ring should try for a layer. Without this bound, a layer that names
+/// no key costs a verification for each key of its algorithm.
+pub const MOST_TRIES: usize = 16;
+
 /// Verifies a web token (RFC 8392) at `now`, in seconds since 1970 began in UTC.
 ///
 /// `opener` is called for each layer, and must accept it. It accepts a signature or a MAC that a key
-/// verifies, and answers an encrypted layer with its plaintext. `None` refuses the token. An empty
-/// signature or MAC is refused, and `opener` isn't called for it.
-/// [`key_fits`] says which keys fit the layer.
+/// verifies, and answers an encrypted layer with its plaintext. [`key_fits`] says which keys fit the
+/// layer. An error refuses the token for that reason: `Unfit` if no key fits, `TooManyKeys` if
+/// [`MOST_TRIES`] keys that fit are refused and more fit, else `Refused`. Any other error is returned
+/// without the layer. An empty signature or MAC is refused, and `opener` isn't called for it.
 ///
 /// # Errors
 /// The first reason against the token, layer by layer from the outermost in. Or:
@@ -1469,7 +1494,7 @@ pub fn verify_token<'a>(
     token: &[u8],
     now: i64,
     policy: &TokenPolicy<'_>,
-    mut opener: impl FnMut(&Layer<'_>) -> Option<Opened<'a>>,
+    mut opener: impl FnMut(&Layer<'_>) -> Result<Opened<'a>, Error>,
 ) -> Result<VerifiedToken, InvalidToken> {
     const LAYER: i32 = 19;
     let rules = policy.rules()?;
@@ -1492,10 +1517,10 @@ pub fn verify_token<'a>(
             SHORT => out.resize(len, 0),
             LAYER => {
                 let layer = Layer::of(&view, &out[..len]);
-                let refused = |reason| InvalidToken { reason, layer: Some(layer.index), number: None };
                 let is_empty = layer.form != TokenForm::Encrypt0 && layer.proof.is_empty();
-                let accepted = if is_empty { None } else { opener(&layer) }.ok_or(refused(Error::Refused))?;
-                handed.push(&layer, &accepted).map_err(refused)?;
+                let answer = if is_empty { Err(Error::Refused) } else { opener(&layer) };
+                let accepted = answer.map_err(|reason| InvalidToken::by(reason, &layer))?;
+                handed.push(&layer, &accepted).map_err(|reason| InvalidToken { layer: Some(layer.index), ..reason.into() })?;
                 let inner = accepted.plaintext.map_or(0, |bytes| bytes.len().saturating_sub(layer.proof.len()));
                 out.resize(out.len() + 2 * (inner + accepted.issuer.map_or(0, str::len)), 0);
             }

@@ -15,7 +15,7 @@ fn token(claims: &[(i64, Entry<'_>)]) -> Vec<u8> {
 /// Returns the text of the error for a token with `exp` and these claims, whose layer is answered so.
 fn refused(more: &[(i64, Entry<'_>)], policy: &TokenPolicy<'_>, plaintext: Option<Vec<u8>>, issuer: Option<&str>) -> String {
     let claims = [&[(4, Entry::Int(2000))], more].concat();
-    coset::verify_token(&token(&claims), 1000, policy, |_| Some(Opened { plaintext: plaintext.clone(), issuer })).unwrap_err().to_string()
+    coset::verify_token(&token(&claims), 1000, policy, |_| Ok(Opened { plaintext: plaintext.clone(), issuer })).unwrap_err().to_string()
 }
 
 /// A policy without meaning is no reason against the token.
@@ -71,9 +71,35 @@ fn single_key() {
     assert_eq!(coset::readable_keys(&set).unwrap(), [&key[..]]);
 }
 
+/// A refusal by keys has the layer and its key identifier. Any other error of the caller's function has neither.
+fn refusals_by_keys() {
+    let header = coset::put(Kind::Header, b"", 1, Entry::Int(-7)).unwrap();
+    let named = coset::put(Kind::Header, b"", 4, Entry::Bytes(b"kid")).unwrap();
+    let payload = coset::put_all(Kind::Claims, b"", &[(4, Entry::Int(2000))]).unwrap();
+    let policy = TokenPolicy { algorithms: &[-7], ..TokenPolicy::default() };
+    let refused = |unprotected: &[u8], proof: &[u8], reason| {
+        let token = coset::make(Kind::Sign1(Form::Tagged), &header, unprotected, Some(&payload), proof).unwrap();
+        coset::verify_token(&token, 1000, &policy, |_| Err(reason)).unwrap_err()
+    };
+    let told = |reason, key_id: Option<&[u8]>| InvalidToken { reason, layer: Some(0), number: None, key_id: key_id.map(<[u8]>::to_vec) };
+    for reason in [Error::Refused, Error::Unfit, Error::TooManyKeys] {
+        assert_eq!(refused(&named, &[0; 64], reason), told(reason, Some(b"kid")));
+        assert_eq!(refused(b"", &[0; 64], reason), told(reason, None));
+    }
+    assert_eq!(refused(&named, b"", Error::Unfit), told(Error::Refused, Some(b"kid"))); // an empty signature
+    assert_eq!(refused(&named, &[0; 64], Error::Unfit).to_string(), "layer 0 of the token is refused: no key fits it");
+    let text = "layer 0 of the token is refused: the keys that were tried are refused, and more fit the layer";
+    assert_eq!(refused(&named, &[0; 64], Error::TooManyKeys).to_string(), text);
+    for reason in [Error::Memory, Error::NotKeySet] {
+        assert_eq!(refused(&named, &[0; 64], reason), reason.into());
+    }
+    assert_eq!(coset::MOST_TRIES, 16);
+}
+
 fn main() {
     wrong_policies();
     reasons();
     single_key();
-    println!("Rust's tests 3");
+    refusals_by_keys();
+    println!("Rust's tests 4");
 }

@@ -66,6 +66,7 @@ UNDERSTOOD: int
 NOT_UNDERSTOOD: int
 BY_SIGNATURE: int
 BY_ANY: int
+MOST_TRIES: int
 ES256: int
 ES384: int
 ES512: int
@@ -135,6 +136,7 @@ class Status(IntEnum):
     HEADER_CLAIMS = 32
     MISSING = 33
     UNFIT = 34
+    TOO_MANY_KEYS = 35
 
 class Fault(ValueError):
     status: int
@@ -155,7 +157,10 @@ class InvalidToken(Exception):
     reason: Status
     layer: int | None
     number: int | None
-    def __init__(self, reason: int, layer: int | None = None, number: int | None = None) -> None: ...
+    key_id: bytes | None
+    def __init__(
+        self, reason: int, layer: int | None = None, number: int | None = None, key_id: bytes | None = None
+    ) -> None: ...
 
 class Layer(NamedTuple):
     form: int

@@ -18,7 +18,7 @@ import (
 
 var names = strings.Fields(`ok Short Memory Ends Malformed Deep Extraneous Unexpected Duplicate OutOfRange Unregistered NotPrivate
 	Absent Misuse Type Empty NotAllowed Critical Refused Layer TooDeep Unauthenticated NotClaims NoExpiration Expired NotYetValid
-	IssuedLater TooOld Issuer Audience Headers TokenType HeaderClaims Missing Unfit`)
+	IssuedLater TooOld Issuer Audience Headers TokenType HeaderClaims Missing Unfit TooManyKeys`)
 
 func data(word string) []byte {
 	found, err := hex.DecodeString(strings.TrimPrefix(word, "-"))
@@ -248,11 +248,7 @@ func ringOf(sets, says string) (*ring, error) {
 }
 
 func (r *ring) Open(layer *coset.Layer) (*coset.Opened, error) {
-	opened, err := r.keys.Open(layer)
-	if errors.Is(err, coset.ErrUnfit) {
-		return nil, nil
-	}
-	return opened, err
+	return r.keys.Open(layer)
 }
 
 func (r *ring) Decrypt(key []byte, algorithm int64, nonce, aad, ciphertext []byte) ([]byte, bool) {
@@ -278,8 +274,8 @@ func (r *ring) Verify(key []byte, algorithm int64, input, proof []byte) bool {
 	return is
 }
 
-// opened returns the result of VerifyToken and the questions that it asked. After a refusal, the layer and the number are in
-// place of the token.
+// opened returns the result of VerifyToken and the questions that it asked. After a refusal, the layer, the number and the key
+// identifier are in place of the token.
 func opened(opener coset.Opener, s *script, given []byte, w []string) string {
 	rules := strings.Split(w[1], ",")
 	seconds := func(word string) time.Duration { return time.Duration(integer(word)) * time.Second }
@@ -300,9 +296,9 @@ func opened(opener coset.Opener, s *script, given []byte, w []string) string {
 		if refused.Number != 0 {
 			number = strconv.FormatInt(refused.Number, 10)
 		}
-		return strings.Join([]string{names[refused.Reason], layer, number, s.told()}, " ")
+		return strings.Join([]string{names[refused.Reason], layer, number, spelled(refused.KeyID), s.told()}, " ")
 	case errors.Is(err, coset.ErrMisuse):
-		return fmt.Sprintf("Misuse %d - %s", len(s.heard)-1, s.told())
+		return fmt.Sprintf("Misuse %d - - %s", len(s.heard)-1, s.told())
 	}
 	return failed(err)
 }

@@ -17,6 +17,7 @@ package coset
 import "C"
 
 import (
+	"bytes"
 	"fmt"
 	"time"
 	"unicode/utf8"
@@ -170,7 +171,11 @@ const (
 	ErrHeaderClaims    Status = C.COSET_HEADER_CLAIMS
 	ErrMissing         Status = C.COSET_MISSING
 	ErrUnfit           Status = C.COSET_UNFIT
+	ErrTooManyKeys     Status = 35 // COSET_TOO_MANY_KEYS of coset_verify.h
 )
+
+// MostTries is the greatest number of keys that a KeyRing tries for a layer.
+const MostTries = 16
 
 // Error returns a few words for the status.
 func (s Status) Error() string {
@@ -201,12 +206,15 @@ func (f *Fault) Error() string { return f.Status.Error() }
 func (f *Fault) Unwrap() error { return f.Status }
 
 // An InvalidToken says why a token is refused. Reason is the first reason against it. It is ErrUnfit if no key of a
-// KeyRing fits a layer. Layer is the index of the refused layer, counted from 0, the outermost, or -1. Number is the
-// number of the algorithm for ErrNotAllowed, and of the missing claim for ErrMissing, else 0.
+// KeyRing fits a layer. It is ErrTooManyKeys if a KeyRing tried MostTries keys for a layer, each is refused, and more
+// fit. Layer is the index of the refused layer, counted from 0, the outermost, or -1. Number is the number of the
+// algorithm for ErrNotAllowed, and of the missing claim for ErrMissing, else 0. KeyID is the key identifier of the layer
+// for ErrUnfit, ErrTooManyKeys and ErrRefused. It is nil for another reason, and if the layer names no key.
 type InvalidToken struct {
 	Reason Status
 	Layer  int
 	Number int64
+	KeyID  []byte
 }
 
 func (e *InvalidToken) Error() string {
@@ -934,6 +942,11 @@ func waiting(view *C.coset_layer, text []byte) *Layer {
 	return &layer
 }
 
+// refused returns the error of a layer that no key opens.
+func (l *Layer) refused(reason Status) error {
+	return &InvalidToken{Reason: reason, Layer: l.Index, KeyID: append([]byte(nil), l.KeyID...)}
+}
+
 // append adds an opened layer. The plaintext and the name of the issuer follow the bytes of the layer.
 func (o *opening) append(view *C.coset_layer, text []byte, opened *Opened) error {
 	if (Kind(view.form) == Encrypt0) != (opened.Plaintext != nil) {
@@ -991,15 +1004,15 @@ func moments(now time.Time) []int64 {
 
 // open opens the layer that waits. An empty signature or MAC is refused.
 func (o *opening) open(view *C.coset_layer, text []byte, opener Opener) error {
-	if view.form != C.COSET_ENCRYPT0 && view.proof_len == 0 {
-		return &InvalidToken{ErrRefused, int(view.index), 0}
-	}
-	opened, err := opener.Open(waiting(view, text))
-	if err != nil {
-		return err
+	var opened *Opened
+	if view.form == C.COSET_ENCRYPT0 || view.proof_len != 0 {
+		var err error
+		if opened, err = opener.Open(waiting(view, text)); err != nil {
+			return err
+		}
 	}
 	if opened == nil {
-		return &InvalidToken{ErrRefused, int(view.index), 0}
+		return waiting(view, text).refused(ErrRefused)
 	}
 	return o.append(view, text, opened)
 }
@@ -1216,9 +1229,17 @@ type Ciphers interface {
 	Decrypt(key []byte, algorithm int64, nonce, aad, ciphertext []byte) ([]byte, bool)
 }
 
-// A KeyRing has the keys of issuers, for VerifyToken. It says whose key accepted a layer.
+// A ringKey is one key of an issuer. Its identifier is empty if it has none.
+type ringKey struct {
+	issuer  string
+	key, id []byte
+}
+
+// A KeyRing has the keys of issuers, for VerifyToken. It says whose key accepted a layer. A layer is compared with each key of
+// the ring. If it names a key identifier, only keys with that identifier are decoded. At most MostTries keys that fit are
+// tried.
 type KeyRing struct {
-	keys    []Issuer
+	keys    []ringKey
 	ciphers Ciphers
 }
 
@@ -1234,40 +1255,51 @@ func NewKeyRing(issuers []Issuer, ciphers Ciphers) (*KeyRing, error) {
 			return nil, err
 		}
 		for _, key := range keys {
-			ring.keys = append(ring.keys, Issuer{issuer.Name, key})
+			id, err := LabelBytes(Key, key, InItem, 2)
+			if err != nil && err != ErrAbsent {
+				return nil, err
+			}
+			ring.keys = append(ring.keys, ringKey{issuer.Name, key, id})
 		}
 	}
 	return &ring, nil
 }
 
-// Open tries each key that fits the layer, in order. The error is an *InvalidToken with ErrUnfit if no key fits.
+// Open tries each key that fits the layer, in order, and MostTries keys at most. The error is an *InvalidToken with ErrUnfit
+// if no key fits, and with ErrTooManyKeys if those that it tried are refused, and more fit.
 func (r *KeyRing) Open(layer *Layer) (*Opened, error) {
-	isFitting := false
+	tries := 0
 	for _, it := range r.keys {
-		nonce, fits, err := KeyFits(it.Keys, layer)
+		if len(layer.KeyID) > 0 && !bytes.Equal(it.id, layer.KeyID) {
+			continue
+		}
+		nonce, fits, err := KeyFits(it.key, layer)
 		if err != nil {
 			return nil, err
 		}
 		if !fits {
 			continue
 		}
-		isFitting = true
+		if tries == MostTries {
+			return nil, layer.refused(ErrTooManyKeys)
+		}
+		tries++
 		if opened := r.by(it, nonce, layer); opened != nil {
 			return opened, nil
 		}
 	}
-	if !isFitting {
-		return nil, &InvalidToken{ErrUnfit, layer.Index, 0}
+	if tries == 0 {
+		return nil, layer.refused(ErrUnfit)
 	}
 	return nil, nil
 }
 
 // by returns the answer by one key, or nil. The ciphers get copies, which they may change.
-func (r *KeyRing) by(it Issuer, nonce []byte, layer *Layer) *Opened {
-	key, input, proof := copied(it.Keys), copied(layer.Input), copied(layer.Proof)
+func (r *KeyRing) by(it ringKey, nonce []byte, layer *Layer) *Opened {
+	key, input, proof := copied(it.key), copied(layer.Input), copied(layer.Proof)
 	if layer.Form != Encrypt0 {
 		if r.ciphers.Verify(key, layer.Algorithm, input, proof) {
-			return &Opened{Issuer: it.Name}
+			return &Opened{Issuer: it.issuer}
 		}
 		return nil
 	}
@@ -1275,7 +1307,7 @@ func (r *KeyRing) by(it Issuer, nonce []byte, layer *Layer) *Opened {
 	if !isAuthentic {
 		return nil
 	}
-	return &Opened{copied(plaintext), it.Name}
+	return &Opened{copied(plaintext), it.issuer}
 }
 
 // ---- Making

@@ -360,6 +360,131 @@ func TestSingleKeyIsNoSet(t *testing.T) {
 	}
 }
 
+// countedCiphers accept the keys whose last byte is 1, and count their calls.
+type countedCiphers struct{ calls int }
+
+func (c *countedCiphers) Verify(key []byte, _ int64, _, _ []byte) bool {
+	c.calls++
+	return key[len(key)-1] == 1
+}
+
+func (*countedCiphers) Decrypt([]byte, int64, []byte, []byte, []byte) ([]byte, bool) {
+	return nil, false
+}
+
+// keyFor returns a key for HMAC whose secret has equal bytes, with an identifier unless that is nil.
+func keyFor(t *testing.T, algorithm, secret int, id []byte) []byte {
+	pairs := []Pair{{1, 4}, {3, algorithm}, {-1, bytes.Repeat([]byte{byte(secret)}, 64)}}
+	if id != nil {
+		pairs = append([]Pair{{2, id}}, pairs...)
+	}
+	return must(t)(PutAll(Key, nil, pairs))
+}
+
+func setOf(keys ...[]byte) []byte {
+	return append([]byte{0x98, byte(len(keys))}, bytes.Join(keys, nil)...)
+}
+
+func times(count int, key []byte) [][]byte {
+	found := make([][]byte, count)
+	for i := range found {
+		found[i] = key
+	}
+	return found
+}
+
+func macToken(t *testing.T, id []byte) []byte {
+	unprotected := []byte(nil)
+	if id != nil {
+		unprotected = must(t)(PutBytes(Header, nil, 4, id))
+	}
+	content := must(t)(PutAll(Claims, nil, []Pair{{1, "as"}, {4, 2000}}))
+	return must(t)(Make(Mac0+Tagged, must(t)(PutInt(Header, nil, 1, HMAC256_256)), unprotected, content, make([]byte, 32)))
+}
+
+// A ring tries 16 keys that fit a layer, and no others.
+func TestTriesOfKeys(t *testing.T) {
+	p := TokenPolicy{Algorithms: []int64{HMAC256_256}, Now: time.Unix(1000, 0)}
+	for _, id := range [][]byte{nil, []byte("kid")} {
+		right, wrong, other := times(1, keyFor(t, HMAC256_256, 1, id)), times(17, keyFor(t, HMAC256_256, 2, id)), times(40, keyFor(t, HMAC384_384, 1, id))
+		for i, it := range []struct {
+			keys  [][][]byte
+			want  error
+			calls int
+		}{
+			{nil, ErrUnfit, 0}, {[][][]byte{other}, ErrUnfit, 0}, {[][][]byte{wrong[16:]}, ErrRefused, 1}, {[][][]byte{wrong[1:]}, ErrRefused, 16}, {[][][]byte{wrong[1:], other}, ErrRefused, 16},
+			{[][][]byte{wrong}, ErrTooManyKeys, 16}, {[][][]byte{wrong[1:], right}, ErrTooManyKeys, 16}, {[][][]byte{wrong[2:], right}, nil, 16},
+			{[][][]byte{other, wrong[2:], other, right, wrong}, nil, 16},
+		} {
+			var issuers []Issuer
+			for _, keys := range it.keys {
+				issuers = append(issuers, Issuer{"as", setOf(keys...)})
+			}
+			ciphers := countedCiphers{}
+			ring, err := NewKeyRing(issuers, &ciphers)
+			if err != nil {
+				t.Fatal(err)
+			}
+			_, err = VerifyToken(macToken(t, id), ring, p)
+			var refused *InvalidToken
+			if ciphers.calls != it.calls || it.want == nil && err != nil {
+				t.Errorf("%d: %d calls, %v", i, ciphers.calls, err)
+			}
+			if it.want != nil && (!errors.As(err, &refused) || !errors.Is(err, it.want) || refused.Layer != 0 || !bytes.Equal(refused.KeyID, id)) {
+				t.Errorf("%d: %v and not %v", i, err, it.want)
+			}
+		}
+	}
+	named := [][]byte{}
+	for i := 0; i < 40; i++ {
+		named = append(named, keyFor(t, HMAC256_256, 2, []byte{byte(i)}))
+	}
+	kid, right := []byte("kid"), keyFor(t, HMAC256_256, 1, []byte("kid"))
+	for _, it := range []struct {
+		id   []byte
+		keys [][]byte
+		want error
+	}{{kid, append(named[:40:40], right), nil}, {kid, named, ErrUnfit}, {nil, append(named[:15:15], right), nil}, {nil, append(named[:16:16], right), ErrTooManyKeys}} {
+		ring, err := NewKeyRing([]Issuer{{"as", setOf(it.keys...)}}, &countedCiphers{})
+		if err != nil {
+			t.Fatal(err)
+		}
+		if _, err := VerifyToken(macToken(t, it.id), ring, p); err != it.want && !errors.Is(err, it.want) {
+			t.Errorf("%v and not %v", err, it.want)
+		}
+	}
+}
+
+// A refusal by keys has the key identifier of the layer, also if the opener changes its own.
+func TestKeyIDsOfRefusals(t *testing.T) {
+	says := func(yes bool) OpenerFunc {
+		return func(layer *Layer) (*Opened, error) {
+			copy(layer.KeyID, "???")
+			if !yes {
+				return nil, nil
+			}
+			return &Opened{Issuer: "as"}, nil
+		}
+	}
+	for _, it := range []struct {
+		yes       bool
+		id        []byte
+		algorithm int64
+		now       int64
+		want      error
+		wantID    string
+	}{
+		{false, []byte("kid"), HMAC256_256, 1000, ErrRefused, "kid"}, {false, nil, HMAC256_256, 1000, ErrRefused, ""},
+		{true, []byte("kid"), HMAC256_256, 5000, ErrExpired, ""}, {true, []byte("kid"), ES256, 1000, ErrNotAllowed, ""},
+	} {
+		_, err := VerifyToken(macToken(t, it.id), says(it.yes), TokenPolicy{Algorithms: []int64{it.algorithm}, Now: time.Unix(it.now, 0)})
+		var refused *InvalidToken
+		if !errors.As(err, &refused) || !errors.Is(err, it.want) || string(refused.KeyID) != it.wantID || (refused.KeyID == nil) != (it.wantID == "") {
+			t.Errorf("%v: %#v", it, err)
+		}
+	}
+}
+
 // ringCiphers accept nothing.
 type ringCiphers struct{}
 

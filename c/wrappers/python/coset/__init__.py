@@ -40,6 +40,7 @@ PROTECTED, PAYLOAD, CIPHERTEXT, PROOF = range(1, 5)
 IN_PROTECTED, IN_UNPROTECTED, IN_ITEM = range(1, 4)
 LEXICOGRAPHIC, LENGTH_FIRST = range(1, 3)  # orders of labels
 BY_SIGNATURE, BY_ANY = range(1, 3)  # which layers authenticate who sent a token
+MOST_TRIES = 16  # the greatest number of keys that a KeyRing tries for a layer
 NONE, INT, TEXT, BYTES, ENCODED = range(0, 5)  # forms in which a message names its algorithm: the first three; and of labels and values
 UNDERSTOOD, NOT_UNDERSTOOD = range(1, 3)  # what there is of labels that must be understood; NONE where there are none
 
@@ -58,7 +59,7 @@ class Status(enum.IntEnum):
 
     OK, SHORT, MEMORY, ENDS, MALFORMED, DEEP, EXTRANEOUS, UNEXPECTED, DUPLICATE, OUT_OF_RANGE, UNREGISTERED, NOT_PRIVATE = range(0, 12)
     ABSENT, MISUSE, TYPE, EMPTY, NOT_ALLOWED, CRITICAL = range(12, 18)
-    REFUSED = 18  # of coset_verify.h
+    REFUSED, TOO_MANY_KEYS = 18, 35  # of coset_verify.h
     LAYER, TOO_DEEP, UNAUTHENTICATED, NOT_CLAIMS, NO_EXPIRATION, EXPIRED, NOT_YET_VALID, ISSUED_LATER, TOO_OLD = range(19, 28)
     ISSUER, AUDIENCE = range(28, 30)
     HEADERS, TOKEN_TYPE, HEADER_CLAIMS, MISSING, UNFIT = range(30, 35)
@@ -158,15 +159,18 @@ class Question(namedtuple("Question", "algorithm key_id key_id_map input proof i
 
 class InvalidToken(Exception):
     """The token is refused. str() is a sentence that says why:
-    - `reason` is the first reason against the token, a Status. It is UNFIT if no key of a KeyRing fits a layer.
+    - `reason` is the first reason against the token, a Status. It is UNFIT if no key of a KeyRing fits a layer. It is
+      TOO_MANY_KEYS if a KeyRing tried MOST_TRIES keys for a layer, each is refused, and more fit.
     - `layer` is the index of the refused layer, counted from 0, the outermost. It is None if the reason isn't against
       a layer.
     - `number` is the number of the algorithm for NOT_ALLOWED, and that of the missing claim for MISSING. It is None
-      for another reason, and if the layer names no algorithm by a number."""
+      for another reason, if the layer names no algorithm by a number, and for the number 0, which is reserved.
+    - `key_id` is the key identifier of the layer for UNFIT, TOO_MANY_KEYS and REFUSED. It is None for another reason,
+      and if the layer names no key."""
 
-    def __init__(self, reason, layer=None, number=None):
-        super().__init__(reason, layer, number)
-        self.reason, self.layer, self.number = Status(reason), layer, number
+    def __init__(self, reason, layer=None, number=None, key_id=None):
+        super().__init__(reason, layer, number, key_id)
+        self.reason, self.layer, self.number, self.key_id = Status(reason), layer, number, key_id
 
     def __str__(self):
         subject = "the token" if self.layer is None else f"layer {self.layer} of the token"
@@ -987,7 +991,7 @@ def _answered(layer, keys):
         said, name = said[0], _issuer(said[1])
     accepted = _accepted(layer.form, said)
     if accepted is None:
-        raise InvalidToken(Status.REFUSED, layer.index)
+        raise InvalidToken(Status.REFUSED, layer.index, key_id=layer.key_id)
     return b"" if accepted is True else accepted, None if name is None else name.encode()
 
 
@@ -1115,6 +1119,9 @@ def readable_keys(keys):
 class KeyRing:
     """The keys of issuers, for `verify_token`. It says whose key accepted a layer.
 
+    A layer is compared with each key of the ring. If it names a key identifier, only keys with that identifier are
+    decoded. At most MOST_TRIES keys that fit are tried.
+
     `issuers` is a dict, or pairs: for each issuer's name, as in `iss`, a KEY_SET. The name None is for an issuer whose
     tokens have no `iss`. Keys that can't be read are skipped (RFC 9052, section 7).
 
@@ -1131,17 +1138,22 @@ class KeyRing:
             from coset.crypto import CIPHERS as ciphers
         self._ciphers, self._keys = ciphers, []
         for name, keys in _pairs(issuers, "issuers are a dict, or tuples of a name and a COSE_KeySet"):
-            self._keys += [(_issuer(name), key) for key in readable_keys(keys)]
+            self._keys += [(_issuer(name), key, _found(label_bytes, KEY, key, IN_ITEM, 2)) for key in readable_keys(keys)]
 
     def __call__(self, layer):
-        """Tries each key that fits the layer, in order. Returns True or the plaintext, with the name of the key's
-        issuer; or None if each of them is refused. Raises InvalidToken, with UNFIT, if no key fits."""
-        is_fitting = False
-        for name, key in self._keys:
+        """Tries each key that fits the layer, in order, and MOST_TRIES keys at most. Returns True or the plaintext, with
+        the name of the key's issuer; or None if each of them is refused. Raises InvalidToken, with UNFIT, if no key
+        fits, and with TOO_MANY_KEYS if those that it tried are refused, and more fit."""
+        named, tries = None if layer.key_id is None else _bytes(layer.key_id)[0] or None, 0
+        for name, key, key_id in self._keys:
+            if named is not None and key_id != named:
+                continue
             nonce = key_fits(key, layer)
             if nonce is None:
                 continue
-            is_fitting = True
+            if tries == MOST_TRIES:
+                raise InvalidToken(Status.TOO_MANY_KEYS, layer.index, key_id=named)
+            tries += 1
             if layer.form == ENCRYPT0:
                 said = self._ciphers.decrypt(key, layer.algorithm, nonce, layer.input, layer.proof)
             else:
@@ -1149,8 +1161,8 @@ class KeyRing:
             said = _accepted(layer.form, said)
             if said is not None:
                 return said, name
-        if not is_fitting:
-            raise InvalidToken(Status.UNFIT, layer.index)
+        if not tries:
+            raise InvalidToken(Status.UNFIT, layer.index, key_id=named)
         return None
 
 
