@@ -26,3 +26,8 @@ borrowed-view (p ∷ ps) = ap (λ ls. label_view p.0.now ∷ ls) (borrowed-view 
 pub answered : (r : Result Bool CoseError) (x y : Bool) → x ≡ y → IfOk r (λ b. b ≡ not x) → IfOk r (λ b. b ≡ not y)
 answered (Ok b) x y e h = h ∙ ap not e
 answered (Err f) x y e h = tt
+
+-- What holds of a result, if it follows from what is known of it.
+pub if-ok : {A : Type 0} (P Q : A → Type 0) (r : Result A CoseError) → ((x : A) → P x → Q x) → IfOk r P → IfOk r Q
+if-ok P Q (Ok x) f h = f x h
+if-ok P Q (Err e) f h = tt

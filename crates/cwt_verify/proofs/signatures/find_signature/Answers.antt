@@ -1,10 +1,11 @@
-use Rattle.std.proofs.Common.{◌≡◌, ◌∙◌, ◌++◌, ◌∷◌, List, [], ap, map, sym}
+use Rattle.std.proofs.Common.{◌≡◌, ◌∙◌, ◌++◌, ◌∷◌, List, [], ap, map, subst, sym}
 use Rattle.std.proofs.lemmas.List.{map-append}
 use Rattle.std.specs.Vec.Iter.{into_iter_items}
 use Rattle.coset.specs.CoseSignature.{CoseSignature}
 use Rattle.coset.specs.Views.{protected_view, signature_view}
 use Rattle.cwt_keys.specs.Keys.{name_view}
 use Rattle.cwt_verify.specs.Policy.{policy_view}
+use Rattle.cwt_verify.specs.Signatures.{IsFirst}
 use Rattle.cwt_verify.proofs.Trying.{found, moved, one_more, stopped}
 use Rattle.cwt_verify.proofs.signatures.find_signature.Goals as goal
 
@@ -17,8 +18,11 @@ returns-in-Ok g c =
     let are = sym (ap (λ (ss : List CoseSignature). before ++ ss) (sym c.in-Some.ensures.steps.0) ∙ c.loop-signature.invariant.0) in
     let all : into_iter_items c.into_iter-signature-iterator.result ≡ c.args.signatures.items = c.into_iter-signature-iterator.ensures.into_iter_gives.0 in
     let same = ap (map signature_view) (sym all) in
-    found k p body c.args.content.now (map signature_view c.args.signatures.items) _ before _ c.in-Some.signature (name_view c.in-Ok.issuer)
-    c.loop-signature.refused are same c.loop-signature.invariant.1 c.in-Ok.ensures
+    let n = name_view c.in-Ok.accepted.1 in
+    let ss = map signature_view c.args.signatures.items in
+    subst (λ v. IsFirst k p body c.args.content.now ss v n) (sym c.in-Ok.ensures.0)
+    (found k p body c.args.content.now ss _ before _ c.in-Some.signature n c.loop-signature.refused are same c.loop-signature.invariant.1
+    c.in-Ok.ensures.1)
 
 pub returns-then-is_message : goal.returns-then-is_message
 returns-then-is_message g c =

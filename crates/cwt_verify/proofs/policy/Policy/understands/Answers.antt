@@ -1,11 +1,9 @@
 use Rattle.std.proofs.Common.{◌≡◌, ◌∙◌, ◌&&◌, ◌==◌, Bool, ap, length, sym, rules}
-use Rattle.std.specs.List.{list_all}
 use Rattle.std.proofs.lemmas.List.{length-map}
 use Rattle.coset.specs.Fields.{FieldsView}
 use Rattle.coset.specs.Headers.{fields_in}
 use Rattle.coset.specs.Views.{header_view}
 use Rattle.coset.specs.Header.{out-Header}
-use Rattle.cwt_verify.specs.Policy.{is_understood, policy_view}
 use Rattle.cwt_verify.proofs.Opened.{opened}
 use Rattle.cwt_verify.proofs.policy.Policy.understands.Goals as goal
 
