@@ -301,7 +301,7 @@ pub struct TokenPolicy<'a> {
     /// token's audience with its own names.
     pub any_audience: bool,
     /// The accepted types (`typ`, RFC 9596), such as `application/cwt`. If there is none, `typ` is
-    /// ignored, also if it is critical.
+    /// ignored, and refused if it is critical, unless `critical` has 16.
     pub types: &'a [&'a str],
     /// The numbers of claims that a token must have.
     pub required: &'a [i64],

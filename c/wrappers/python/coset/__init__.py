@@ -1040,7 +1040,7 @@ def verify_token(data, keys, algorithms, *, audience=(), types=(), required=(), 
     - `audience` has the caller's own names. `aud` must contain one of them. If there is none, a token with `aud` is
       refused. `any_audience` leaves the check to the caller, who then compares the result's `audience`.
     - `types` are the accepted types (`typ`, RFC 9596), such as "application/cwt". If there is none, `typ` is ignored,
-      also if it is critical.
+      and refused if it is critical, unless `critical` has 16.
     - `required` are the numbers of claims that the token must have.
     - `critical` are the critical labels that the caller understands, and acts on.
     - `leeway` is the number of seconds by which the clocks of issuer and verifier may differ.
