@@ -123,7 +123,7 @@ static coset_status answer(const char *call) {
   return reads_a_message(call);
 }
 
-/* Planted: compares each byte with each. tools/growth must report it (--planted). */
+/* The planted reader: compares each byte with each. tools/growth fails unless it finds this. */
 static coset_status planted(void) {
   volatile size_t equal = 0;
   for (size_t i = 0; i < n; i++)

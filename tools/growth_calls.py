@@ -270,8 +270,8 @@ def maps_of_c():
         yield from cases_of("growth", f"coset_check of {name}", f"check {kind} 0", every)
         written = every if name in ("value", "keyset") else having(every, "s in random", "aud of", "key_ops", "levels")
         yield from cases_of("growth", f"coset_write of {name}", f"write {kind} 0", written)
-    for order in (1, 2):
-        yield from cases_of("growth", "coset_canonical_key", f"canonical_key {KINDS['key']} {order}", having(made["key"], "labels"))
+    for order, name in ((1, "lexicographic"), (2, "length first")):
+        yield from cases_of("growth", f"coset_canonical_key, {name}", f"canonical_key {KINDS['key']} {order}", having(made["key"], "labels"))
     some = {name: having(made[name], "s in random order") for name in ("key", "claims", "value")}
     for name, of in some.items():
         last = lambda n, extra=(6 if name == "claims" else 0): n - 1 + extra
