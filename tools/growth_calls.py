@@ -1,4 +1,5 @@
 """The readers of tools/growth, each with the shapes that it reads."""
+import base64
 from typing import Callable, NamedTuple
 
 import growth_shapes as shapes
@@ -61,42 +62,31 @@ def signed(header, unprotected=(), content=None, kind="sign1", **more):
     return shapes.message(kind, [*first, *header], unprotected, byte_string(content), **more)
 
 
+def with_claims(members, more=(), claimed=None, place=0):
+    """Returns a token whose protected header has these header claims, or with the place 1 its unprotected header. Its payload has
+    `claimed`, or the same in the opposite order."""
+    header = [b"\x0f" + shapes.pairs(members)]
+    content = shapes.claims(members[::-1] if claimed is None else claimed)
+    return signed([*more, *header], content=content) if place == 0 else signed(more, header, content)
+
+
 def header_claims():
-    """Returns tokens whose headers have n claims of the payload, by name."""
-    found = {}
-    for name in ("integers ascending", "integers descending", "integers in random order", "texts in random order",
-                 "long texts in random order", "integers and texts in turn"):
-        def make(n, of=shapes.LABELS[name]):
-            return signed([b"\x0f" + shapes.pairs(shapes.zeros(of(n)))], content=shapes.claims(shapes.zeros(shapes.shuffled(of(n))[::-1])))
-        found[f"header claims: {name}"] = make
+    """Returns tokens whose headers have n claims, by name. The payload has them too, unless the name says otherwise."""
+    zeros, labels = shapes.zeros, shapes.LABELS
+    names = ("integers ascending", "integers in random order", "texts in random order", "long texts in random order", "integers and texts in turn")
+    found = {f"header claims: {name}": (lambda n, of=labels[name]: with_claims(zeros(of(n)), claimed=zeros(shapes.shuffled(of(n))[::-1])))
+             for name in names}
+    mixed = lambda n: zeros(shapes.shuffled(shapes.integers(n)))
     value = [b"\x00" + shapes.array([b"\x00"] * 40)]
-
-    def both(n):
-        labels = shapes.zeros(shapes.integers(n))
-        return signed([b"\x0f" + shapes.pairs(shapes.shuffled(labels))], [b"\x0f" + shapes.pairs(labels)] if n < 0 else [],
-                      content=shapes.claims(labels[::-1]))
-
-    def crit(n):
-        labels = shapes.zeros(shapes.shuffled(shapes.integers(n)))
-        return signed([shapes.critical([b"\x0f"] * n), b"\x0f" + shapes.pairs(labels), *labels], content=shapes.claims(labels[::-1]))
-
+    deep = lambda n: [b"\x20" + shapes.wide(n)]
     return found | {
-        "header claims: one of them in the payload, again and again":
-            lambda n: signed([b"\x0f" + shapes.pairs([b"\x01\x61i"] * n)], content=shapes.claims(shapes.zeros(shapes.integers(n)))),
-        "header claims: one label with values that aren't in the payload":
-            lambda n: signed([b"\x0f" + shapes.pairs(value * (n // 40))], content=shapes.claims(shapes.zeros(shapes.integers(n)))),
-        "header claims in the unprotected header": lambda n: signed(
-            [], [b"\x0f" + shapes.pairs(shapes.zeros(shapes.shuffled(shapes.integers(n))))], shapes.claims(shapes.zeros(shapes.integers(n)))),
-        "header claims: deep values": lambda n: signed(
-            [b"\x0f" + shapes.pairs([b"\x20" + shapes.wide(n)])], content=shapes.claims([integer_pair(n)])),
-        "header claims, crit and labels": crit,
-        "header claims, descending in the payload": both,
+        "header claims: integers in the opposite order": lambda n: with_claims(zeros(shapes.integers(n))),
+        "header claims: one of them, again and again": lambda n: with_claims([b"\x01\x61i"] * n, claimed=mixed(n)),
+        "header claims: long values that the payload doesn't have": lambda n: with_claims(value * (n // 40), claimed=mixed(n)),
+        "header claims: deep values": lambda n: with_claims(deep(n)),
+        "header claims in the unprotected header": lambda n: with_claims(mixed(n), place=1),
+        "header claims, crit and labels": lambda n: with_claims(mixed(n), [shapes.critical([b"\x0f"] * n), *mixed(n)]),
     }
-
-
-def integer_pair(n):
-    """Returns the claim -1 with a deep value."""
-    return b"\x20" + shapes.wide(n)
 
 
 def layered(n, layers=4):
@@ -298,25 +288,27 @@ def maps_of_c():
 def runs():
     """Yields the cases of `./run`."""
     for name in MESSAGES:
-        few = {shape: make for shape, make in shapes.messages(name).items() if name == "sign1" or "payload" not in shape}
-        few |= {f"header, {shape}": (lambda n, make=shapes.headers()[shape], name=name: shapes.message(name, make(n))) for shape in (SOME if name == "sign1" else SOME[2:3])}
+        few = shapes.messages(name) if name == "sign1" else having(shapes.messages(name), "both", "signatures", "recipients, of")
+        few |= {f"header, {shape}": in_sign1(shape) for shape in SOME if name == "sign1"}
         yield from cases_of("coset_show", f"./run {name}", name, few)
     signature = lambda n: shapes.signature(shapes.pairs(shapes.zeros(shapes.shuffled(shapes.integers(n)))))
     yield from cases_of("coset_show", "./run countersignature", "countersignature", {"labels: integers in random order": signature})
-    key = {shape: make for shape, make in shapes.keys().items() if "order" in shape}
-    claims = {shape: make for shape, make in shapes.claim_sets().items() if "order" in shape or "aud of" in shape}
-    for name, made in (("key", key), ("claims", claims), ("keyset", shapes.key_sets()), ("kdf", shapes.contexts()), ("value", shapes.VALUES)):
+    made = {"key": having(shapes.keys(), "s in random order"), "claims": having(shapes.claim_sets(), "s in random order", "aud of names"),
+            "keyset": having(shapes.key_sets(), "for ES256", "100 labels"), "kdf": having(shapes.contexts(), "labels", "private"),
+            "value": having(shapes.VALUES, "levels", "chunks", "order")}
+    for name, made in made.items():
         yield from cases_of("coset_show", f"./run {name}", name, made)
+
+
+def dump(data):
+    """Returns a dump as that of xxd."""
+    lines = (data[at : at + 16] for at in range(0, len(data), 16))
+    shown = lambda line: "".join(chr(byte) if 32 <= byte < 127 else "." for byte in line)
+    return "".join(f"{16 * i:08x}: {line.hex(' ', 2):39}  {shown(line)}\n" for i, line in enumerate(lines))
 
 
 def spellings():
     """Returns the ways to spell bytes, by name."""
-    import base64
-
-    def dump(data):
-        lines = (data[at : at + 16] for at in range(0, len(data), 16))
-        return "".join(f"{16 * i:08x}: {line.hex(' ', 2):39}  {''.join(chr(b) if 32 <= b < 127 else '.' for b in line)}\n" for i, line in enumerate(lines))
-
     return {
         "hexadecimal": lambda data: data.hex(),
         "hexadecimal with spaces": lambda data: data.hex(" "),
@@ -350,20 +342,22 @@ def notations():
 def looks():
     """Yields the cases of `./look`."""
     every = tokens()
-    names = ["header, labels: integers in random order", "payload, labels: texts in random order", "header, crit of equal labels, and other parameters",
-             "header claims: integers in random order", "header, countersignatures, label 11", "header, protected headers 10 levels deep",
-             "payload, a value: arrays 240 levels deep", "a payload in chunks", "payload, aud of names", "payload, a value: a long text"]
+    names = ["header, labels: integers in random order", "payload, labels: texts in random order", "payload, a value: arrays 240 levels deep",
+             "header, crit of equal labels, and other parameters", "header claims: integers in random order", "header, countersignatures, label 11",
+             "header, protected headers 10 levels deep", "a payload in chunks", "payload, aud of names", "payload, a value: a long text"]
     yield from cases_of("tool_look", "./look", "", chosen(every, *names) | {"four layers": layered, "16 signatures": listed})
     for options in ("--json", "--edn", "--html", "--where", "--short"):
-        yield from cases_of("tool_look", f"./look {options}", options, chosen(every, names[0], names[1], names[6]))
-    made = {"key": chosen(shapes.keys(), "labels: texts in random order", "key_ops, texts in random order"), "keyset": chosen(shapes.key_sets(), "keys for ES256"),
+        yield from cases_of("tool_look", f"./look {options}", options, chosen(every, *names[:3]))
+    made = {"key": chosen(shapes.keys(), "labels: texts in random order", "key_ops, texts in random order"),
+            "keyset": chosen(shapes.key_sets(), "keys for ES256"),
             "claims": chosen(shapes.claim_sets(), "labels: integers in random order", "aud of names"),
             "mac": chosen(shapes.messages("mac"), "recipients, of empty ones", "recipients, 100 levels deep"),
             "sign": chosen(shapes.messages("sign"), "signatures, of empty ones")}
     for kind, of in made.items():
         yield from cases_of("tool_look", f"./look {kind}", kind, of)
-    values = {name: shapes.VALUES[name] for name in ("a map of one label", "a text in chunks", "tags 200 levels deep, again and again", "floats and big integers")}
-    yield from cases_of("tool_look", "./look of items", "", values | {"a sequence": lambda n: b"\x81\x00" * n, "items that end early": lambda n: b"\x9f" + b"\x81\x00" * n})
+    values = chosen(shapes.VALUES, "a map of one label", "a text in chunks", "tags 200 levels deep, again and again", "floats and big integers")
+    values |= {"a sequence": lambda n: b"\x81\x00" * n, "items that end early": lambda n: b"\x9f" + b"\x81\x00" * n}
+    yield from cases_of("tool_look", "./look of items", "", values)
     spelled = {name: (lambda n, spell=spell: spell(every[names[0]](n)).encode()) for name, spell in spellings().items()}
     yield from cases_of("tool_look", "./look of spellings", "", spelled)
     yield from cases_of("tool_look", "./look of notation", "--from=edn", notations())

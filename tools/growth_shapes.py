@@ -221,7 +221,6 @@ def messages(kind):
     """Returns the messages of that kind with n parts besides their headers, by name."""
     found = {
         "a payload in chunks": lambda n: message(kind, content=chunks(n)),
-        "a long payload": lambda n: message(kind, content=byte_string(bytes(8 * n))),
         "a protected header in chunks": lambda n: head(6, TAGS[kind]) + array([
             indefinite(2, b"".join(byte_string(bytes([byte])) for byte in pairs(zeros(integers(n))))),
             b"\xa0", b"\x40", *([b"\x40"] if kind in ("sign1", "mac0", "mac") else []),
