@@ -170,14 +170,15 @@ def keyed():
     def ring(make):
         return lambda n: f"ring i:{make(n).hex()} none {shapes.NOW} {POLICY} {signed(few).hex()}"
 
-    for shape, make in shapes.key_sets().items():
+    # A ring stops at the keys that fit, so these don't.
+    for shape, make in having(shapes.key_sets(), "type alone", "identifiers").items():
         yield Case("test_verify", "a ring of these keys", shape, ring(make), make)
     yield from cases_of("test_verify", "keys_from_slice", "keys {}", shapes.key_sets())
     labels = {f"labels: {name}": (lambda n, of=of: shapes.es256(0, shapes.zeros(of(n)))) for name, of in shapes.LABELS.items()}
-    labels["key_ops"] = lambda n: shapes.es256(0, [b"\x04" + shapes.array([*shapes.shuffled(shapes.texts(n)), b"\x02"])])
+    operations = {"key_ops": lambda n: shapes.es256(0, [b"\x04" + shapes.array([*shapes.shuffled(shapes.texts(n)), b"\x02"])])}
     yield from cases_of("test_verify", "fits", "fits {} sign a10126 a0 64", labels)
     yield from cases_of("test_keys_and_claims", "thumbprint_input", "CoseKey::thumbprint_input {}", labels)
-    yield from cases_of("growth", "coset_key_fits", "key_fits 10 0", labels)
+    yield from cases_of("growth", "coset_key_fits", "key_fits 10 0", labels | operations)
     made = {name: (lambda n, make=make: shapes.pairs([make(n)])) for name, make in shapes.confirmations().items()}
     yield from cases_of("test_verify", "confirmation", "confirm sign {}", made)
     yield from cases_of("test_verify", "confirmation in an encrypted token", "confirm enc {}", made)

@@ -256,9 +256,9 @@ def keys():
 
 
 def es256(number, more=()):
-    """Returns a key for ES256 with an identifier of its own."""
+    """Returns a key for ES256 with an identifier of its own. Other members precede those of its type."""
     point = [b"\x21" + byte_string(b"\x02" * 32), b"\x22" + byte_string(b"\x03" * 32)]
-    return pairs([b"\x01\x02", b"\x02" + byte_string(b"%06d" % number), b"\x03\x26", b"\x20\x01", *point, *more])
+    return pairs([b"\x01\x02", b"\x02" + byte_string(b"%06d" % number), b"\x03\x26", *more, b"\x20\x01", *point])
 
 
 def key_sets():
