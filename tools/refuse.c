@@ -58,7 +58,7 @@ static FILE *opened(FILE **file, const char *variable, const char *mode) {
     return *file;
 }
 
-static void begin(void) {
+static __attribute__((noinline)) void call_begins(void) {
     static FILE *plan;
     is_counting = 0;
     first = 1, last = 0;
@@ -68,14 +68,14 @@ static void begin(void) {
     is_counting = 1;
 }
 
-static void end(void) {
+static __attribute__((noinline)) void call_ends(void) {
     static FILE *counts;
     if (!is_counting) return;
     is_counting = 0;
     if (opened(&counts, "REFUSE_COUNT", "w") != NULL) fprintf(counts, "%lu\n", requests);
 }
 
-__attribute__((destructor)) static void at_exit(void) { end(); }
+__attribute__((destructor)) static void at_exit(void) { call_ends(); }
 
 static int is_refused(void) {
     if (!is_counting) return 0;
@@ -86,9 +86,9 @@ static int is_refused(void) {
 }
 
 static void *our_malloc(size_t size) {
-    if (size == END) end();
+    if (size == END) call_ends();
     if (size == BEGIN) {
-        begin();
+        call_begins();
         return give(size);
     }
     return is_refused() ? NULL : give(size);
@@ -118,7 +118,7 @@ static ssize_t our_read(int file, void *buffer, size_t size) {
     const char *mark = was_read || file != 0 ? NULL : getenv("REFUSE_MARK");
     if (mark != NULL && strcmp(mark, "read") == 0) {
         was_read = 1;
-        begin();
+        call_begins();
     }
     return syscall(SYS_READ, file, buffer, size);
 }
