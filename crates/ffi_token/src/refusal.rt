@@ -35,14 +35,10 @@ fn apart_at(index: usize, error: LayerError<Waiting>) -> Apart
     ensures { result ≡ apart_at index error }
 {
     let refused = match error {
-        LayerError::Keys {
-            key_id,
-            error: Waiting::Layer(layer),
-        } => return Apart::Layer(index, key_id, layer),
-        LayerError::Keys {
-            error: Waiting::OutOfMemory,
-            ..
-        } => LayerError::Message(CoseError::OutOfMemory),
+        LayerError::Keys { key_id, error } => match error {
+            Waiting::Layer(layer) => return Apart::Layer(index, key_id, layer),
+            Waiting::OutOfMemory => LayerError::Message(CoseError::OutOfMemory),
+        },
         LayerError::Message(error) => LayerError::Message(error),
         LayerError::Headers => LayerError::Headers,
         LayerError::Algorithm(number) => LayerError::Algorithm(number),
