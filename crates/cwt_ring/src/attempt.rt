@@ -12,8 +12,9 @@ use crate::nonce::Nonce;
 use coset::{CoseKey, CoseKeySet};
 use cwt_keys::Sealed;
 
-/// The most keys that a ring tries for a layer. Each try costs a use of the ciphers, and the sender
-/// chooses how many keys fit: without a key identifier, each key for the algorithm may.
+/// The most keys that a ring tries for a layer, or for each signature of a `COSE_Sign`. Each try
+/// costs a use of the ciphers, and the sender chooses how many keys fit: without a key identifier,
+/// each key for the algorithm may.
 pub const MAX_KEYS: usize = 16;
 
 /// An issuer of tokens: its name and its keys.

@@ -1,5 +1,5 @@
 //! Keys for web tokens (RFC 8392): which key fits a layer of a token, and a ring of keys that tries
-//! each key that fits.
+//! the keys that fit, at most 16.
 //!
 //! A [`KeyRing`] has the keys of several issuers. It names the issuer whose key accepted a layer.
 //! [`fits`] decides by the key and the layer alone. It follows RFC 9052, section 7, and the

@@ -70,10 +70,11 @@ pub trait Ciphers {
 /// issuers and of their keys. It returns the name of the issuer of the first key that the ciphers
 /// accept. So no two issuers may share a key.
 ///
-/// A layer without a key identifier may be of any key for its algorithm. The sender chooses that, so
-/// the ring tries at most 16 keys for a layer ([`MAX_KEYS`](crate::MAX_KEYS)). If they are refused,
-/// and more keys fit, the error is `TooManyKeys`. So keep at most 16 keys with one algorithm and one
-/// identifier, or with one algorithm if tokens name no keys.
+/// A layer without a key identifier may be of any key for its algorithm. The sender chooses that.
+/// So the ring tries at most 16 keys for a layer, or for each signature of a `COSE_Sign`
+/// ([`MAX_KEYS`](crate::MAX_KEYS)). If they are refused, and more keys fit, the error is
+/// `TooManyKeys`. So keep at most 16 keys with one algorithm and one identifier, or with one
+/// algorithm if tokens name no keys.
 #[derive(Drop)]
 pub struct KeyRing<'a, C> {
     /// The issuers.

@@ -71,7 +71,8 @@ module _ {A : Type 0} (same : A → A → Bool) (has : A → Bool) (alike : (m x
     where
       go : (b : Bool) → same m x ≡ b → list_any (λ n. same n x && not (has n)) ms ≡ list_any (λ n. same n x) ms && not (has x)
           → (same m x && not (has m)) || list_any (λ n. same n x && not (has n)) ms ≡ (same m x || list_any (λ n. same n x) ms) && not (has x)
-      go false e rest = subst (λ s. (s && not (has m)) || list_any (λ n. same n x && not (has n)) ms ≡ (s || list_any (λ n. same n x) ms) && not (has x)) (sym e) rest
+      go false e rest =
+          subst (λ s. (s && not (has m)) || list_any (λ n. same n x && not (has n)) ms ≡ (s || list_any (λ n. same n x) ms) && not (has x)) (sym e) rest
       go true e rest =
           subst (λ s. (s && not (has m)) || list_any (λ n. same n x && not (has n)) ms ≡ (s || list_any (λ n. same n x) ms) && not (has x)) (sym e)
           (ap (λ h. not h || list_any (λ n. same n x && not (has n)) ms) (alike m x e)
@@ -111,7 +112,8 @@ itself n =
 among : (i : ℤ) (ns : List ℤ) → list_any (λ n. int_eq i n) ns ≡ true → list_any (λ m. same_label m (assigned i)) (map assigned ns) ≡ true
 among i [] e = absurd (true≢false (sym e))
 among i (n ∷ ns) e =
-    either-true (int_eq i n) (list_any (λ k. int_eq i k) ns) (same_label (assigned n) (assigned i) || list_any (λ m. same_label m (assigned i)) (map assigned ns))
+    either-true (int_eq i n) (list_any (λ k. int_eq i k) ns)
+    (same_label (assigned n) (assigned i) || list_any (λ m. same_label m (assigned i)) (map assigned ns))
     (λ h. or-left (same_label (assigned n) (assigned i)) (list_any (λ m. same_label m (assigned i)) (map assigned ns))
     (subst (λ k. same_label (assigned n) (assigned k) ≡ true) (sym ((Decides-int_eq i n).0 h)) (itself n)))
     (λ h. or-right (same_label (assigned n) (assigned i)) (list_any (λ m. same_label m (assigned i)) (map assigned ns)) (among i ns h)) e

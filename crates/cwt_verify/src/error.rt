@@ -27,9 +27,10 @@ pub enum LayerError<E> {
     /// header lists critical labels (RFC 9052, section 3.1).
     Critical,
     /// There isn't exactly one recipient, or it isn't one that is `direct` and names its key. RFC
-    /// 9052, section 8.5.1, forbids other modes next to `direct`, and advises that the key is named.
-    /// Such a recipient has a protected header of zero length, no encrypted key, and no recipients
-    /// inside. Its unprotected header has a key identifier, and lists no critical labels.
+    /// 9052, section 8.5.1, forbids other modes next to `direct`, and advises that the key is
+    /// named. Such a recipient has a protected header of zero length, no encrypted key, and no
+    /// recipients inside. Its unprotected header has a key identifier, and lists no critical
+    /// labels.
     Recipients,
     /// The layer has no payload, or no ciphertext.
     NoPayload,
@@ -85,7 +86,8 @@ pub enum TokenError<E> {
     /// The content of the innermost layer isn't a claims set, or an allocation failed.
     Claims(CoseError),
     /// A header of a layer, or of its accepted part, has a claim that isn't in the payload with the
-    /// same value, or its claims aren't a map. RFC 9597 asks only that a claim in both has one value.
+    /// same value, or its claims aren't a map. RFC 9597 asks only that a claim in both has one
+    /// value.
     HeaderClaims,
     /// The claims name another issuer than the one whose key authenticated the token, or that
     /// issuer has no name (RFC 8725, section 3.8).
@@ -96,8 +98,8 @@ pub enum TokenError<E> {
     Expired,
     /// The token isn't valid yet: `now` plus the leeway is before `nbf` (RFC 8392, section 3.1.5).
     NotYetValid,
-    /// The policy refuses future tokens, and `now` plus the leeway is before `iat` (RFC 8392, section
-    /// 3.1.6).
+    /// The policy refuses future tokens, and `now` plus the leeway is before `iat` (RFC 8392,
+    /// section 3.1.6).
     IssuedInFuture,
     /// The policy has a greatest age, and `now` isn't before `iat` plus that age and the leeway. Or
     /// the token has no `iat` (RFC 8392, section 3.1.6).

@@ -26,7 +26,8 @@ const CWT_CLAIMS: i64 = 15;
 /// # Errors
 /// `OutOfMemory` if an allocation fails.
 fn agrees(alloc: Global, header: &Header, pairs: &[(Value, Value)]) -> Result<bool>
-    ensures answer { IfOk result (λ b. b ≡ agrees (value_pairs pairs.now) (header_view header.now)) }
+    ensures answer { IfOk result (λ b. b
+        ≡ agrees (value_pairs pairs.now) (header_view header.now)) }
     ensures memory { IfErr result (λ e. e ≡ OutOfMemory) }
 {
     let Some(value) = header.get(&Label::Int(CWT_CLAIMS)) else {
@@ -48,7 +49,8 @@ fn both_agree(
     unprotected: &Header,
     pairs: &[(Value, Value)],
 ) -> Result<bool>
-    ensures answer { IfOk result (λ b. b ≡ (agrees (value_pairs pairs.now) (header_view protected.now)
+    ensures answer { IfOk result (λ b. b
+        ≡ (agrees (value_pairs pairs.now) (header_view protected.now)
         && agrees (value_pairs pairs.now) (header_view unprotected.now))) }
     ensures memory { IfErr result (λ e. e ≡ OutOfMemory) }
 {
@@ -64,7 +66,8 @@ fn both_agree(
 /// # Errors
 /// `OutOfMemory` if an allocation fails.
 fn part_agrees(alloc: Global, part: &Part, pairs: &[(Value, Value)]) -> Result<bool>
-    ensures answer { IfOk result (λ b. b ≡ part_agrees (value_pairs pairs.now) (part_view part.now)) }
+    ensures answer { IfOk result (λ b. b
+        ≡ part_agrees (value_pairs pairs.now) (part_view part.now)) }
     ensures memory { IfErr result (λ e. e ≡ OutOfMemory) }
 {
     match part {

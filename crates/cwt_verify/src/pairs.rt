@@ -56,7 +56,7 @@ fn encodings(alloc: Global, pairs: &[(Value, Value)]) -> Result<BTreeSet<Vec<u8>
 }
 
 /// Returns true if each of the pairs in `some` is one of `pairs`. More than 16 are compared by sets
-/// of their encodings, so the time grows with n log n.
+/// of their encodings, so the time grows as n log n.
 ///
 /// # Errors
 /// `OutOfMemory` if an allocation fails. This happens only for more than 16 pairs in `some`.

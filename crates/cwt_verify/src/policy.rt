@@ -247,7 +247,8 @@ impl Policy<'_> {
     /// Returns true if each critical label of the header is understood.
     ///
     /// It looks for each label that may be understood in both lists of the sender, and not for each
-    /// label of one list in the other. So the time grows with the header's length.
+    /// label of one list in the other. So the time grows with the header's length, times the number
+    /// of the caller's labels.
     fn understands_all(&self, header: &Header) -> bool
         ensures { result ≡ list_all (is_understood (policy_view self.now) (header_view header.now))
             (fields_in (header_view header.now)).crit }

@@ -61,9 +61,9 @@ fn is_typed(types: &[&str], layers: &[VerifiedLayer<'_>]) -> bool
 /// 8392, section 6).
 ///
 /// The signatures of a `COSE_Sign` are tried in order, until the policy admits one and the keys
-/// accept it. A list of recipients must have exactly one, which is `direct` (RFC 9052, section 8.5.1)
-/// and names its key. Any other way to obtain a key is refused with `Recipients`: key wrap, key
-/// transport and key agreement.
+/// accept it. A list of recipients must have exactly one, which is `direct` (RFC 9052, section
+/// 8.5.1) and names its key. Any other way to obtain a key is refused with `Recipients`: key wrap,
+/// key transport and key agreement.
 ///
 /// The content of a layer is its payload, or the plaintext that the keys return. If the content
 /// begins with a tag, it is another layer, and otherwise the claims. A token has at most four

@@ -121,10 +121,19 @@ abbrev pub token_status : Result ℕ refusals.Refusal → ℤ
 token_status (Ok n) = pos 0
 token_status (Err r) = pos (token_number r)
 
+-- The length of the texts of a layer that waits. If none waits, it is 0.
+abbrev pub texts_length : LayerError LayerView → ℕ
+texts_length (at.Keys id v) = v.len
+texts_length e = 0
+
+abbrev pub waiting_length : TokenError LayerView → ℕ
+waiting_length (token.Layer index e) = texts_length e
+waiting_length e = 0
+
 -- The length of a result: of the token, of a layer's texts, or the length needed. For any other result it is 0.
 abbrev pub token_length : Result ℕ refusals.Refusal → ℕ
 token_length (Ok n) = n
-token_length (Err (Token (token.Layer index (at.Keys id v)))) = v.len
+token_length (Err (Token e)) = waiting_length e
 token_length (Err (Answer (answers.Short n))) = n
 token_length (Err r) = 0
 

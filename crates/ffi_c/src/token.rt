@@ -9,7 +9,7 @@ ghost use Rattle.ffi_token.specs.Rules.{policy_in, rules_view};
 ghost use Rattle.ffi_token.specs.Texts.{texts_view};
 ghost use Rattle.ffi_token.specs.Tokens.{ReturnsToken};
 ghost use Rattle.ffi_c.specs.Replies.{IsMisuse};
-ghost use Rattle.ffi_c.specs.Tokens.{RepliesFit, RepliesToken, age_of, are_seconds, authentication_of, claims_number, error_number, fit_length, fit_status, form_of, layer_at, layer_number, layer_of, no_layer, number_or_0, parts_of, rules_in, token_length, token_number, token_status, untagged_of};
+ghost use Rattle.ffi_c.specs.Tokens.{RepliesFit, RepliesToken, age_of, are_seconds, authentication_of, claims_number, error_number, fit_length, fit_status, form_of, layer_at, layer_number, layer_of, no_layer, number_or_0, parts_of, rules_in, texts_length, token_length, token_number, token_status, untagged_of, waiting_length};
 
 use crate::lengths::{within, within_layers, within_numbers, within_texts};
 use crate::numbers::{COSET_ENCRYPT0, COSET_MAC0, COSET_SIGN1};
@@ -350,6 +350,26 @@ fn layer_of(answer: &Result<usize, Refusal>) -> Layer
     }
 }
 
+/// Returns the length of the texts of a layer that waits. If none waits, it is 0.
+fn waiting_length(error: &TokenError<LayerView>) -> usize
+    ensures { result ≡ waiting_length error.now }
+{
+    match error {
+        TokenError::Layer(_, error) => texts_length(error),
+        _ => 0,
+    }
+}
+
+/// Returns the length of the texts of this layer, if it waits, or 0.
+fn texts_length(error: &LayerError<LayerView>) -> usize
+    ensures { result ≡ texts_length error.now }
+{
+    match error {
+        LayerError::Keys { error: view, .. } => view.len,
+        _ => 0,
+    }
+}
+
 /// Returns the length of a result: of the token, of a layer's texts, or the length needed. For any
 /// other result it is 0.
 fn token_length(answer: &Result<usize, Refusal>) -> usize
@@ -357,7 +377,7 @@ fn token_length(answer: &Result<usize, Refusal>) -> usize
 {
     match answer {
         Ok(len) => *len,
-        Err(Refusal::Token(TokenError::Layer(_, LayerError::Keys { error: view, .. }))) => view.len,
+        Err(Refusal::Token(error)) => waiting_length(error),
         Err(Refusal::Answer(ffi_query::Refusal::Short(len))) => *len,
         Err(_) => 0,
     }

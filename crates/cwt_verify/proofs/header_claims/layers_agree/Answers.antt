@@ -11,13 +11,15 @@ pub loop-layer-preserved : goal.loop-layer-preserved
 loop-layer-preserved c =
     let test = λ (x : VerifiedLayer). layer_agrees (value_pairs c.args.pairs.now) (verified_view x) in
     c.loop-layer.invariant
-    ∙ goes_on test c.args.layers.now c.loop-layer.layer-index c.layer-item.result c.loop-layer-test.true c.layer-item.is (sym c.in_ok-layer_agrees.ensures.answer ∙ c.if-not-branch.false)
+    ∙ goes_on test c.args.layers.now c.loop-layer.layer-index c.layer-item.result c.loop-layer-test.true c.layer-item.is
+    (sym c.in_ok-layer_agrees.ensures.answer ∙ c.if-not-branch.false)
 
 pub returns-then-not-branch-clause-answer : goal.returns-then-not-branch-clause-answer
 returns-then-not-branch-clause-answer c =
     let all = c.args.layers.now in
     let test = λ (x : VerifiedLayer). layer_agrees (value_pairs c.args.pairs.now) (verified_view x) in
-    let found = fails_at test all c.loop-layer.layer-index c.layer-item.result c.loop-layer-test.true c.layer-item.is (sym c.in_ok-layer_agrees.ensures.answer ∙ c.if-not-branch.true) in
+    let found = fails_at test all c.loop-layer.layer-index c.layer-item.result c.loop-layer-test.true c.layer-item.is
+    (sym c.in_ok-layer_agrees.ensures.answer ∙ c.if-not-branch.true) in
     sym (all-map (layer_agrees (value_pairs c.args.pairs.now)) verified_view all ∙ (c.loop-layer.invariant ∙ found))
 
 pub returns-clause-answer : goal.returns-clause-answer

@@ -31,5 +31,6 @@ returns g c = λ policy.
     let x = seal_view c.new-sealed.result in
     let carried : m.payload ≡ Some b = ap (option_map (λ (v : Vec ℕ Global). v.items)) (sym c.take.ensures.value ∙ c.in-Some.is) in
     let asked = same_parts Mac0 m.protected m.unprotected None None x _ _ m.tag t c.new-sealed.ensures c.deref-2.ensures.value c.deref-3.ensures.value refl in
-    mac_refused k policy m b t x c.named_key.result c.in-Err-verify.error carried (subst (λ q. IsStructure (mac0_structure m [] q) t) c.deref.ensures.value c.in-Ok.ensures)
+    mac_refused k policy m b t x c.named_key.result c.in-Err-verify.error carried
+    (subst (λ q. IsStructure (mac0_structure m [] q) t) c.deref.ensures.value c.in-Ok.ensures)
     asked c.named_key.ensures c.in-Err-verify.ensures.refused

@@ -16,5 +16,6 @@ returns-then-some-le-MAX_ONE_BY_ONE-clause-answer c =
 
 pub returns-clause-answer : goal.returns-clause-answer
 returns-clause-answer c =
-    subset_tells c.shortest_is_encoding.ensures c.one_item.ensures (unique-shortest c.one_shortest.ensures c.shortest_is_in_range.ensures) c.in_ok-wanted.wanted c.in_ok-known.known
+    subset_tells c.shortest_is_encoding.ensures c.one_item.ensures (unique-shortest c.one_shortest.ensures c.shortest_is_in_range.ensures)
+    c.in_ok-wanted.wanted c.in_ok-known.known
     c.args.some.now c.args.pairs.now c.is_subset.result c.in_ok-wanted.ensures.encoded c.in_ok-known.ensures.encoded c.is_subset.ensures
