@@ -422,7 +422,8 @@ typedef struct coset_token_policy {
   size_t required_len;
   const coset_text *audiences; /* the caller's names, one of which aud must be; none: a token with aud is refused */
   size_t audiences_len;
-  const coset_text *types; /* the types, one of which typ must be; none: typ isn't looked at, also if it is critical */
+  const coset_text *types; /* the types, one of which typ must be; none: typ isn't looked at, and a critical typ is
+                              refused, unless critical has 16 */
   size_t types_len;
 } coset_token_policy;
 
