@@ -334,7 +334,7 @@ def notations():
         "a sequence": lambda n: ("[], " * n + "[]").encode(),
         "embedded items 60 levels deep": lambda n: ("<<[" * 60 + "1, " * n + "1" + "]>>" * 60).encode(),
         "arrays 200 levels deep": lambda n: (("[" + "1, " * (n // 200)) * 200 + "1" + "]" * 200).encode(),
-        "a long number": lambda n: f"[{'9' * n}]".encode(),
+        "long numbers": lambda n: f"[{', '.join(['9' * 90] * (n // 10))}]".encode(),
         "base64 in quotes": lambda n: f"[b64'{'AAAA' * n}']".encode(),
         "a string without an end": lambda n: ('["' + "a" * n).encode(),
     }
