@@ -174,7 +174,7 @@ def keyed():
     for shape, make in having(shapes.key_sets(), "type alone", "identifiers").items():
         yield Case("test_verify", "a ring of these keys", shape, ring(make), make)
     yield from cases_of("test_verify", "keys_from_slice", "keys {}", shapes.key_sets())
-    labels = {f"labels: {name}": (lambda n, of=of: shapes.es256(0, shapes.zeros(of(n)))) for name, of in shapes.LABELS.items()}
+    labels = {f"labels: {name}": (lambda n, of=of: shapes.es256(0, shapes.zeros(of(n)))) for name, of in shapes.LABELS.items() if "twice" not in name}
     operations = {"key_ops": lambda n: shapes.es256(0, [b"\x04" + shapes.array([*shapes.shuffled(shapes.texts(n)), b"\x02"])])}
     yield from cases_of("test_verify", "fits", "fits {} sign a10126 a0 64", labels)
     yield from cases_of("test_keys_and_claims", "thumbprint_input", "CoseKey::thumbprint_input {}", labels)
@@ -334,7 +334,7 @@ def notations():
         "a sequence": lambda n: ("[], " * n + "[]").encode(),
         "embedded items 60 levels deep": lambda n: ("<<[" * 60 + "1, " * n + "1" + "]>>" * 60).encode(),
         "arrays 200 levels deep": lambda n: (("[" + "1, " * (n // 200)) * 200 + "1" + "]" * 200).encode(),
-        "a long number": lambda n: f"[{'9' * n}]".encode(),
+        "long numbers": lambda n: f"[{', '.join(['9' * 90] * (n // 10))}]".encode(),
         "base64 in quotes": lambda n: f"[b64'{'AAAA' * n}']".encode(),
         "a string without an end": lambda n: ('["' + "a" * n).encode(),
     }

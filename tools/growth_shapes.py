@@ -305,10 +305,10 @@ def claim_sets():
 
 def confirmations():
     """Returns the claims cnf with n parts, by name."""
-    found = {f"a key, {name}": (lambda n, make=make: confirmed_by([b"\x01" + make(n)])) for name, make in keys().items()}
-    inner = {name: messages("encrypt0")[name] for name in ("labels in both headers", "a payload in chunks")}
-    found |= {f"an encrypted key, {name}": (lambda n, make=make: confirmed_by([b"\x02" + make(n)[1:]])) for name, make in inner.items()}
+    found = {f"a key, {name}": (lambda n, make=make: confirmed_by([b"\x01" + make(n)])) for name, make in keys().items() if "chunks" not in name}
+    inner = messages("encrypt0")["labels in both headers"]
     return found | {
+        "an encrypted key, labels in both headers": lambda n: confirmed_by([b"\x02" + inner(n)[1:]]),
         "members, integers": lambda n: confirmed_by([b"\x03\x41k", *zeros(shuffled(integers(n)))]),
         "members, texts": lambda n: confirmed_by([b"\x03\x41k", *zeros(shuffled(texts(n)))]),
         "recipients of an encrypted key": lambda n: confirmed_by([b"\x02" + message("encrypt", last=array([recipient()] * n), tagged=False)]),
