@@ -23,6 +23,8 @@ NIL = ("simple", 22, 22)
 SIZE = 48
 ACCEPTED = r"ok (\S+) aud (.*) others (\S+) iss (.*) layers (.*?)(?: calls(.*))? asked (\d+)(?: (\S+))?"
 REFUSAL = r"(?:Layer\((\d+), )?(\w+)(?:\((.*?)\))?\)?;.*?(?: calls(.*))? asked (\d+)(?: (\S+))?"
+# A refusal of the keys, with the bytes of the layer's key identifier.
+BY_THE_KEYS = r"Keys \{ key_id: \[(.*?)\], error: (.*?) \}\);"
 
 
 def text(content):
@@ -210,7 +212,7 @@ def refused(index, name, told, layers):
 def result_of(answer, layers):
     """Returns the status and the result of a row."""
     accepted = re.fullmatch(ACCEPTED, answer)
-    told = accepted or re.fullmatch(REFUSAL, answer)
+    told = accepted or re.fullmatch(REFUSAL, re.sub(BY_THE_KEYS, r"Keys(\2));", answer))
     count, texts, made = *told.groups()[-2:], told.groups()[-3]
     facts = listed(layer.facts() for layer in layers) if made is None else listed(made.split())
     asked = [count, texts or "-", facts]
@@ -219,7 +221,8 @@ def result_of(answer, layers):
         result.asked = asked
         return OK, result
     status, numbers = refused(*told.groups()[:3], layers)
-    named = layers[-1].texts[0] if layers else None
+    named = re.search(BY_THE_KEYS, answer)
+    named = bytes(map(int, re.findall(r"\d+", named[1]))) if named else layers[-1].texts[0] if layers else None
     return status, Refused(numbers, asked, named if status in BY_KEYS else b"")
 
 
@@ -303,7 +306,7 @@ def rings(row, answer):
     issuers = [word.rpartition(":") for word in sets.split(",")]
     spelled_sets = listed(f"{text(name.encode() or None)}:{keys}" for name, _, keys in issuers)
     data, form = bytes.fromhex(spelled), int(words[0].split(",")[2])
-    outermost = layers_of(data, form, [], 1) if answer.startswith("Layer(0, Keys(") else []
+    outermost = layers_of(data, form, [], 1) if answer.startswith("Layer(0, Keys {") else []
     status, result = result_of(answer, outermost)
     yield ("ring", 0, data, [now, *words, spelled_sets, said], status, result)
 
