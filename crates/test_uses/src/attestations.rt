@@ -153,18 +153,20 @@ fn tokens_that_are_refused(rt: HostRuntime) -> Result<(), Fail> {
     assert!(rt; matches!(two, Err(NotAttested::NotFresh)));
     let keys = keys_for(MACED.1, PSA);
     let other_structure = let_in(alloc, &keys, token, NONCE)?;
-    let refused = other_structure.err().ok_or("let in")?;
-    assert_eq!(rt;
-        format!(in alloc; "{refused:?}")?.as_str(),
-        "Refused(Layer(0, Keys { key_id: [], error: No }))"
+    assert!(rt;
+        matches!(
+            other_structure,
+            Err(NotAttested::Refused(TokenError::Layer(0, _)))
+        )
     );
     let (by_another, structure) = BY_ANOTHER_ALGORITHM;
     let keys = keys_for(structure, PSA);
     let other_algorithm = let_in(alloc, &keys, by_another, NONCE)?;
-    let refused = other_algorithm.err().ok_or("let in")?;
-    assert_eq!(rt;
-        format!(in alloc; "{refused:?}")?.as_str(),
-        "Refused(Layer(0, Algorithm(Some(-35))))"
+    assert!(rt;
+        matches!(
+            other_algorithm,
+            Err(NotAttested::Refused(TokenError::Layer(0, _)))
+        )
     );
     Ok(())
 }
