@@ -2,10 +2,12 @@
 use Rattle.std.proofs.Common.{◌≡◌, ◌↔◌, ◌⊎◌, ◌∙◌, ◌++◌, ◌&&◌, ◌||◌, ℕ, Bool, true, false, true≢false, List, [], ◌∷◌, Ordering, Less, Equal, Greater, Vec, ap, inl, inr, refl, subst, sym}
 use Rattle.std.specs.Bool.{IsTrue}
 use Rattle.std.specs.BTreeSet.{BTreeSet, IsSubset, insert_key}
+use Rattle.std.specs.Cmp.{both_ways}
 use Rattle.std.specs.Cmp.Lexicographic.{slice_cmp}
 use Rattle.std.specs.Global.{Global}
 use Rattle.std.specs.List.{list_all, list_any}
 use Rattle.std.specs.Ordering.{is_eq, match_ordering, nat_cmp}
+use Rattle.std.proofs.lemmas.Bool.{and_from, and_parts, or_left, or_right}
 use Rattle.std.proofs.lemmas.List.{append_cancel_left}
 use Rattle.std.proofs.lemmas.Map.Lookups.{exact_bytes}
 use Rattle.std.proofs.lemmas.Map.Text.{is_eq-slice_cmp}
@@ -109,20 +111,12 @@ one-encoded ps p s n t a e is = record { known = λ q h. known-of q (either-put 
 
 -- ---- texts of a set
 
-or-left : (a b : Bool) → a ≡ true → a || b ≡ true
-or-left true b e = refl
-or-left false b e = absurd (true≢false (sym e))
-
-or-right : (a b : Bool) → b ≡ true → a || b ≡ true
-or-right true b e = refl
-or-right false b e = e
-
 pub contained : (ts : List (Vec ℕ Global)) (k : Vec ℕ Global) → IsOneOf ts k.items → list_any (λ x. is_eq (text_cmp k x)) ts ≡ true
 contained [] k h = absurd h
 contained (x ∷ xs) k (inl h) =
-    or-left (is_eq (text_cmp k x)) (list_any (λ y. is_eq (text_cmp k y)) xs)
+    or_left (is_eq (text_cmp k x)) (list_any (λ y. is_eq (text_cmp k y)) xs)
     (is_eq-slice_cmp k.items x.items ∙ (bytes_eq-Decides k.items x.items).1 (sym h))
-contained (x ∷ xs) k (inr h) = or-right (is_eq (text_cmp k x)) (list_any (λ y. is_eq (text_cmp k y)) xs) (contained xs k h)
+contained (x ∷ xs) k (inr h) = or_right (is_eq (text_cmp k x)) (list_any (λ y. is_eq (text_cmp k y)) xs) (contained xs k h)
 
 pub is-one : (ts : List (Vec ℕ Global)) (k : Vec ℕ Global) → list_any (λ x. is_eq (text_cmp k x)) ts ≡ true → IsOneOf ts k.items
 is-one [] k e = absurd (true≢false (sym e))
@@ -150,17 +144,9 @@ in-larger s t q larger h =
 abbrev is_pair : Value × Value → Value × Value → Bool
 is_pair p x = item_eq (value_item x.0) (value_item p.0) && item_eq (value_item x.1) (value_item p.1)
 
-both : (a b : Bool) → a ≡ true → b ≡ true → a && b ≡ true
-both true b e h = h
-both false b e h = absurd (true≢false (sym e))
-
-both-of : (a b : Bool) → a && b ≡ true → (a ≡ true) × (b ≡ true)
-both-of true b e = (refl, e)
-both-of false b e = absurd (true≢false (sym e))
-
 same-as : (p x : Value × Value) (q : List ℕ) → is_pair p x ≡ true → IsEncoded p q → IsEncoded x q
 same-as p x q e h =
-    let es = both-of (item_eq (value_item x.0) (value_item p.0)) (item_eq (value_item x.1) (value_item p.1)) e in (
+    let es = and_parts (item_eq (value_item x.0) (value_item p.0)) (item_eq (value_item x.1) (value_item p.1)) e in (
       h.0,
       h.1,
       h.2,
@@ -205,13 +191,13 @@ module _ (encodes : Encodes) (one_item : OneItem) (one_shortest : OneShortest) w
       let rest : g.1 ≡ h.1 = append_cancel_left g.0 g.1 h.1 (sym g.2 ∙ (h.2 ∙ ap (λ b. b ++ h.1) (sym keys.1))) in
       let values = one_item (value_item x.1) (value_item p.1) g.1 h.1 [] [] (encodes (value_item x.1) g.1 g.4) (encodes (value_item p.1) h.1 h.4)
       (ap (λ b. b ++ []) rest) in
-      both (item_eq (value_item x.0) (value_item p.0)) (item_eq (value_item x.1) (value_item p.1))
+      and_from (item_eq (value_item x.0) (value_item p.0)) (item_eq (value_item x.1) (value_item p.1))
       ((item_eq-decides (value_item x.0) (value_item p.0)).1 keys.0) ((item_eq-decides (value_item x.1) (value_item p.1)).1 values.0)
 
   is-found : (ps : List (Value × Value)) (p : Value × Value) (q : List ℕ) → IsEncoded p q → IsOfOne ps q → list_any (is_pair p) ps ≡ true
   is-found [] p q e h = absurd h
-  is-found (x ∷ xs) p q e (inl h) = or-left (is_pair p x) (list_any (is_pair p) xs) (same-pair p x q e h)
-  is-found (x ∷ xs) p q e (inr h) = or-right (is_pair p x) (list_any (is_pair p) xs) (is-found xs p q e h)
+  is-found (x ∷ xs) p q e (inl h) = or_left (is_pair p x) (list_any (is_pair p) xs) (same-pair p x q e h)
+  is-found (x ∷ xs) p q e (inr h) = or_right (is_pair p x) (list_any (is_pair p) xs) (is-found xs p q e h)
 
   found-there : (ts : List (Vec ℕ Global)) (ps : List (Value × Value)) (q : List ℕ) → AreThere ts ps → IsOfOne ps q → IsOneOf ts q
   found-there ts [] q h i = absurd i
@@ -222,23 +208,18 @@ module _ (encodes : Encodes) (one_item : OneItem) (one_shortest : OneShortest) w
       → list_all (λ p. list_any (is_pair p) ys) xs ≡ true
   all-found s t [] ys larger b h = refl
   all-found s t (x ∷ xs) ys larger b h =
-      both (list_any (is_pair x) ys) (list_all (λ p. list_any (is_pair p) ys) xs)
+      and_from (list_any (is_pair x) ys) (list_all (λ p. list_any (is_pair p) ys) xs)
       (is-found ys x h.0.0 h.0.1 (b.known h.0.0 (in-larger s t h.0.0 larger h.0.2))) (all-found s t xs ys larger b h.1)
 
   among-all : (xs ys : List (Value × Value)) (q : List ℕ) → list_all (λ p. list_any (is_pair p) ys) xs ≡ true → IsOfOne xs q → IsOfOne ys q
   among-all [] ys q e h = absurd h
-  among-all (x ∷ xs) ys q e (inl h) = is-of-one ys x q (both-of (list_any (is_pair x) ys) (list_all (λ p. list_any (is_pair p) ys) xs) e).0 h
-  among-all (x ∷ xs) ys q e (inr h) = among-all xs ys q (both-of (list_any (is_pair x) ys) (list_all (λ p. list_any (is_pair p) ys) xs) e).1 h
+  among-all (x ∷ xs) ys q e (inl h) = is-of-one ys x q (and_parts (list_any (is_pair x) ys) (list_all (λ p. list_any (is_pair p) ys) xs) e).0 h
+  among-all (x ∷ xs) ys q e (inr h) = among-all xs ys q (and_parts (list_any (is_pair x) ys) (list_all (λ p. list_any (is_pair p) ys) xs) e).1 h
 
   all-subset : (s t : BTreeSet (Vec ℕ Global)) (xs ys : List (Value × Value)) → AreEncoded xs s → AreEncoded ys t
       → list_all (λ p. list_any (is_pair p) ys) xs ≡ true → IsSubset text_cmp s t
   all-subset s t xs ys a b e = λ k h.
       contained t.keys k (found-there t.keys ys k.items b.there (among-all xs ys k.items e (a.known k.items (is-one s.keys k h))))
-
-  from-both : (a b : Bool) → (a ≡ true → b ≡ true) → (b ≡ true → a ≡ true) → a ≡ b
-  from-both true b f g = sym (f refl)
-  from-both false true f g = g refl
-  from-both false false f g = refl
 
   one-by-one : (xs ys : List (Value × Value)) → all_pairs (has_pair (value_pairs ys)) (value_pairs xs) ≡ list_all (λ p. list_any (is_pair p) ys) xs
   one-by-one xs ys =
@@ -249,6 +230,6 @@ module _ (encodes : Encodes) (one_item : OneItem) (one_shortest : OneShortest) w
   pub subset_tells : (s t : BTreeSet (Vec ℕ Global)) (xs ys : List (Value × Value)) (r : Bool) → AreEncoded xs s → AreEncoded ys t
       → (IsTrue r ↔ IsSubset text_cmp s t) → r ≡ all_pairs (has_pair (value_pairs ys)) (value_pairs xs)
   subset_tells s t xs ys r a b told =
-      from-both r (list_all (λ p. list_any (is_pair p) ys) xs) (λ e. all-found s t xs ys (told.0 e) b a.there)
+      both_ways r (list_all (λ p. list_any (is_pair p) ys) xs) (λ e. all-found s t xs ys (told.0 e) b a.there)
       (λ e. told.1 (all-subset s t xs ys a b e))
       ∙ sym (one-by-one xs ys)

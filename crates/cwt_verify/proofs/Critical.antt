@@ -1,8 +1,10 @@
 -- Critical labels. If all of them have a meaning, it is enough to look for the labels that have one.
-use Rattle.std.proofs.Common.{◌≡◌, ◌∙◌, ◌&&◌, ◌||◌, ◌++◌, ◌==◌, length, ℤ, pos, Bool, true, false, true≢false, not, List, [], ◌∷◌, map, ap, refl, subst, sym}
+use Rattle.std.proofs.Common.{◌≡◌, ◌∙◌, ◌&&◌, ◌||◌, ◌++◌, ◌==◌, length, ℤ, pos, Bool, true, false, true≢false, not, List, [], ◌∷◌, map, ap, refl, subst, sym, ⊎_elim}
 use Rattle.std.specs.Cmp.{tied_then}
 use Rattle.std.specs.List.{list_all, list_any}
 use Rattle.std.specs.Ordering.{int_eq, is_eq, nat_cmp}
+use Rattle.std.proofs.Math.Bool.{and-or_distrib_right, or-false}
+use Rattle.std.proofs.lemmas.Bool.{and_parts, or_cases, or_left, or_right}
 use Rattle.std.proofs.lemmas.Bool.Decides.{Decides-int_eq}
 use Rattle.std.proofs.lemmas.List.Folds.{list_any-append}
 use Rattle.coset.specs.Claims.{same_label}
@@ -19,33 +21,6 @@ or-swap true b c d = refl
 or-swap false true true d = refl
 or-swap false true false d = refl
 or-swap false false c d = refl
-
-and-or : (a b n : Bool) → (a || b) && n ≡ (a && n) || (b && n)
-and-or true true true = refl
-and-or true true false = refl
-and-or true false true = refl
-and-or true false false = refl
-and-or false b n = refl
-
-or-left : (a b : Bool) → a ≡ true → a || b ≡ true
-or-left true b e = refl
-or-left false b e = absurd (true≢false (sym e))
-
-or-right : (a b : Bool) → b ≡ true → a || b ≡ true
-or-right true b e = refl
-or-right false b e = e
-
-or-false : (a : Bool) → a || false ≡ a
-or-false true = refl
-or-false false = refl
-
-either-true : (a b c : Bool) → (a ≡ true → c ≡ true) → (b ≡ true → c ≡ true) → a || b ≡ true → c ≡ true
-either-true true b c f g e = f refl
-either-true false b c f g e = g e
-
-and-left : (a b : Bool) → a && b ≡ true → a ≡ true
-and-left true b e = refl
-and-left false b e = absurd (true≢false (sym e))
 
 together : (m h l b s : Bool) → (m ≡ true → s ≡ true) → (m && h) && (l && not b) ≡ (m && l) && not ((s && not h) || b)
 together false h l b s k = refl
@@ -90,7 +65,7 @@ module _ {A : Type 0} (same : A → A → Bool) (has : A → Bool) (alike : (m x
   all-there meant ms found (x ∷ xs) =
       let missing : A → Bool = λ m. list_any (same m) xs && not (has m) in
       let parts : list_any (λ m. (same m x || list_any (same m) xs) && not (has m)) ms ≡ (list_any (λ m. same m x) ms && not (has x)) || list_any missing ms =
-      (λ i. list_any (λ m. and-or (same m x) (list_any (same m) xs) (not (has m)) i) ms)
+      (λ i. list_any (λ m. and-or_distrib_right (same m x) (list_any (same m) xs) (not (has m)) i) ms)
       ∙ (any-or (λ m. same m x && not (has m)) missing ms ∙ ap (λ b. b || list_any missing ms) (missing-head x ms)) in
       ap (λ b. (meant x && has x) && b) (all-there meant ms found xs)
       ∙ (together (meant x) (has x) (list_all meant xs) (list_any missing ms) (list_any (λ m. same m x) ms) (found x)
@@ -98,11 +73,11 @@ module _ {A : Type 0} (same : A → A → Bool) (has : A → Bool) (alike : (m x
 
 -- ---- labels
 
-same-number : (m x : RegisteredLabelView) → same_label m x ≡ true → as_label m ≡ as_label x
+pub same-number : (m x : RegisteredLabelView) → same_label m x ≡ true → as_label m ≡ as_label x
 same-number m x e =
     cose_labels_laws.same_is (as_label m) (as_label x)
-    (and-left (is_eq (label_cmp (as_label m) (as_label x))) (is_eq (nat_cmp (private_rank m) (private_rank x)))
-    (tied_then (label_cmp (as_label m) (as_label x)) (nat_cmp (private_rank m) (private_rank x)) ∙ e))
+    (and_parts (is_eq (label_cmp (as_label m) (as_label x))) (is_eq (nat_cmp (private_rank m) (private_rank x)))
+    (tied_then (label_cmp (as_label m) (as_label x)) (nat_cmp (private_rank m) (private_rank x)) ∙ e)).0
 
 itself : (n : ℤ) → same_label (assigned n) (assigned n) ≡ true
 itself n =
@@ -112,11 +87,11 @@ itself n =
 among : (i : ℤ) (ns : List ℤ) → list_any (λ n. int_eq i n) ns ≡ true → list_any (λ m. same_label m (assigned i)) (map assigned ns) ≡ true
 among i [] e = absurd (true≢false (sym e))
 among i (n ∷ ns) e =
-    either-true (int_eq i n) (list_any (λ k. int_eq i k) ns)
-    (same_label (assigned n) (assigned i) || list_any (λ m. same_label m (assigned i)) (map assigned ns))
-    (λ h. or-left (same_label (assigned n) (assigned i)) (list_any (λ m. same_label m (assigned i)) (map assigned ns))
+    ⊎_elim
+    (λ h. or_left (same_label (assigned n) (assigned i)) (list_any (λ m. same_label m (assigned i)) (map assigned ns))
     (subst (λ k. same_label (assigned n) (assigned k) ≡ true) (sym ((Decides-int_eq i n).0 h)) (itself n)))
-    (λ h. or-right (same_label (assigned n) (assigned i)) (list_any (λ m. same_label m (assigned i)) (map assigned ns)) (among i ns h)) e
+    (λ h. or_right (same_label (assigned n) (assigned i)) (list_any (λ m. same_label m (assigned i)) (map assigned ns)) (among i ns h))
+    (or_cases (int_eq i n) (list_any (λ k. int_eq i k) ns) e)
 
 own-found : (l : RegisteredLabelView) → is_known l || is_type l ≡ true → list_any (λ m. same_label m l) own_labels ≡ true
 own-found (assigned i) e =
@@ -131,10 +106,11 @@ found : (p : PolicyView) (l : RegisteredLabelView) → has_meaning p l ≡ true 
 found p l e =
     let all = list_any (λ m. same_label m l) in
     list_any-append (λ m. same_label m l) own_labels p.critical
-    ∙ either-true (knows p l) (is_one_of p.critical l) (all own_labels || all p.critical)
-    (λ h. or-left (all own_labels) (all p.critical) (own-found l (either-true (is_known l) (is_type l && not (length p.types == 0)) (is_known l || is_type l)
-    (or-left (is_known l) (is_type l)) (λ g. or-right (is_known l) (is_type l) (and-left (is_type l) (not (length p.types == 0)) g)) h)))
-    (or-right (all own_labels) (all p.critical)) e
+    ∙ ⊎_elim
+    (λ h. or_left (all own_labels) (all p.critical) (own-found l (⊎_elim
+    (or_left (is_known l) (is_type l)) (λ g. or_right (is_known l) (is_type l) (and_parts (is_type l) (not (length p.types == 0)) g).0)
+    (or_cases (is_known l) (is_type l && not (length p.types == 0)) h))))
+    (or_right (all own_labels) (all p.critical)) (or_cases (knows p l) (is_one_of p.critical l) e)
 
 -- Each critical label is understood exactly if each has a meaning, and none that has one is missing.
 pub judged : (p : PolicyView) (h : HeaderView)

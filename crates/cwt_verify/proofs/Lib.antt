@@ -1,12 +1,12 @@
 mod Agreeing
 mod Among
-mod Critical
+pub mod Critical
 mod Directing
 mod Innermost
 mod Judging
 mod Labels
 mod Missing
-mod Opened
+pub mod Opened
 mod PairTests
 mod Reading
 mod Receiving

@@ -138,13 +138,21 @@ is_understood p h l = has_meaning p l && has_label h (as_label l)
 abbrev pub own_labels : List RegisteredLabelView
 own_labels = map assigned (known_labels ++ pos 16 ∷ [])
 
+-- Returns true if the header lists no critical label.
+abbrev pub lists_none : HeaderView → Bool
+lists_none h = length (fields_in h).crit == 0
+
+-- Returns true if the header lists the label `m` as critical.
+abbrev pub is_listed : HeaderView → RegisteredLabelView → Bool
+is_listed h m = list_any (λ l. claims.same_label m l) (fields_in h).crit
+
 -- Returns true if the header lists the label `m` as critical, and doesn't have it.
 abbrev pub is_missing : HeaderView → RegisteredLabelView → Bool
-is_missing h m = list_any (λ l. claims.same_label m l) (fields_in h).crit && not (has_label h (as_label m))
+is_missing h m = is_listed h m && not (has_label h (as_label m))
 
 -- Returns true if each critical label of the protected header `h` is understood, and the unprotected header lists none.
 abbrev pub understands : PolicyView → HeaderView → HeaderView → Bool
-understands p h unprotected = list_all (is_understood p h) (fields_in h).crit && length (fields_in unprotected).crit == 0
+understands p h unprotected = list_all (is_understood p h) (fields_in h).crit && lists_none unprotected
 
 -- ---- layers that authenticate the sender
 

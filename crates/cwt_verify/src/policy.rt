@@ -6,7 +6,7 @@ ghost use Rattle.coset.specs.Headers.{fields_in};
 ghost use Rattle.coset.specs.LabelViews.{algorithm_view};
 ghost use Rattle.coset.specs.LabelData.{as_label};
 ghost use Rattle.coset.specs.Views.{critical_view, header_view};
-ghost use Rattle.cwt_verify.specs.Policy.{allows, authenticates, has_meaning, is_known, is_missing, is_named, is_type, is_understood, knows, named_number, number_of, own_labels, policy_view, strict, understands};
+ghost use Rattle.cwt_verify.specs.Policy.{allows, authenticates, has_meaning, is_known, is_listed, is_missing, is_named, is_type, is_understood, knows, lists_none, named_number, number_of, own_labels, policy_view, strict, understands};
 
 use crate::headers::{Critical, has_label};
 use coset::iana::{Algorithm, CwtClaimName, EnumI64, HeaderParameter};
@@ -170,11 +170,25 @@ fn is_type(label: &Critical) -> bool
     }
 }
 
+/// Returns true if the header lists no critical label.
+fn lists_none(header: &Header) -> bool
+    ensures { result ≡ lists_none (header_view header.now) }
+{
+    header.crit.is_empty()
+}
+
+/// Returns true if the header lists this label as critical.
+fn is_listed(header: &Header, label: &Critical) -> bool
+    ensures { result ≡ is_listed (header_view header.now) (critical_view label.now) }
+{
+    header.crit.iter().any(|listed| label == listed)
+}
+
 /// Returns true if the header lists this label as critical, and doesn't have it.
 fn is_missing(header: &Header, label: &Critical) -> bool
     ensures { result ≡ is_missing (header_view header.now) (critical_view label.now) }
 {
-    header.crit.iter().any(|listed| label == listed) && !has_label(header, label)
+    is_listed(header, label) && !has_label(header, label)
 }
 
 /// Returns true if the header lists a critical label that it doesn't have, out of those that this
@@ -244,6 +258,14 @@ impl Policy<'_> {
         lacks_own(header) || self.critical.iter().any(|label| is_missing(header, label))
     }
 
+    /// Returns true if the caller or this crate understands each critical label of the header.
+    fn finds_meanings(&self, header: &Header) -> bool
+        ensures { result ≡ list_all (has_meaning (policy_view self.now))
+            (fields_in (header_view header.now)).crit }
+    {
+        header.crit.iter().all(|label| self.has_meaning(label))
+    }
+
     /// Returns true if each critical label of the header is understood.
     ///
     /// It looks for each label that may be understood in both lists of the sender, and not for each
@@ -253,7 +275,7 @@ impl Policy<'_> {
         ensures { result ≡ list_all (is_understood (policy_view self.now) (header_view header.now))
             (fields_in (header_view header.now)).crit }
     {
-        header.crit.iter().all(|label| self.has_meaning(label)) && !self.finds_missing(header)
+        self.finds_meanings(header) && !self.finds_missing(header)
     }
 
     /// Returns true if each critical label of the protected header `header` is understood, and the
@@ -262,6 +284,6 @@ impl Policy<'_> {
         ensures { result ≡ understands (policy_view self.now) (header_view header.now)
             (header_view unprotected.now) }
     {
-        self.understands_all(header) && unprotected.crit.is_empty()
+        self.understands_all(header) && lists_none(unprotected)
     }
 }

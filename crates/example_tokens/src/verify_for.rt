@@ -24,13 +24,14 @@ pub fn verify_for<'k, K: Keys>(
 ) -> Result<VerifiedToken<'k>, TokenError<K::Error>>
     ensures { VerifiesToken (K.view keys.now) (policy_for audience.now) now token.now result }
 {
+    let audiences = [audience];
     let policy = Policy {
         algorithms: &[
             Algorithm::ES256,
             Algorithm::HMAC_256_256,
             Algorithm::AES_CCM_16_64_128,
         ],
-        audience: Audience::OneOf(&[audience]),
+        audience: Audience::OneOf(&audiences),
         leeway: 60,
         ..Policy::strict()
     };

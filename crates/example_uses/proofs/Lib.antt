@@ -16,4 +16,5 @@ pub mod SharedKeys
 pub mod Signing
 pub mod Spellings
 pub mod Tried
+pub mod Understood
 pub mod Unwrapping

@@ -1,5 +1,5 @@
 -- Facts in a header: a certificate, the algorithm, and the key.
-use Rattle.std.specs.Prelude.{◌==◌, ◌&&◌, if◌then◌else◌, ℕ, List, length, Bool, false, Option, Some, None}
+use Rattle.std.specs.Prelude.{◌==◌, ◌&&◌, not, if◌then◌else◌, ℕ, List, length, Bool, false, Option, Some, None}
 use Rattle.std.specs.Cmp.Lexicographic.{pointwise}
 use Rattle.std.specs.List.{list_all, list_any}
 use Rattle.coset_value.specs.Item.{Item, bytes, array, item}
@@ -17,9 +17,21 @@ is_there_and test (Some x) = test x
 abbrev pub is_one_of : List RegisteredLabelView → RegisteredLabelView → Bool
 is_one_of labels l = list_any (λ m. same_label m l) labels
 
+-- The header has a parameter with this label that isn't a field.
+abbrev pub has_parameter : HeaderView → RegisteredLabelView → Bool
+has_parameter h l = list_any (λ e. label.same_label e.0 (as_label l)) (fields_in h).rest
+
 -- The label is one of these, and a parameter of the header that isn't a field.
 abbrev pub is_met : List RegisteredLabelView → HeaderView → RegisteredLabelView → Bool
-is_met labels h l = is_one_of labels l && list_any (λ e. label.same_label e.0 (as_label l)) (fields_in h).rest
+is_met labels h l = is_one_of labels l && has_parameter h l
+
+-- The header lists the label `m` as critical.
+abbrev pub is_listed : HeaderView → RegisteredLabelView → Bool
+is_listed h m = list_any (λ l. same_label m l) (fields_in h).crit
+
+-- The header lists the label `m` as critical, and has no such parameter.
+abbrev pub is_missing : HeaderView → RegisteredLabelView → Bool
+is_missing h m = is_listed h m && not (has_parameter h m)
 
 -- Each critical label is one of these and in the protected header `h`, and the unprotected header `u` lists none (RFC 8152,
 -- section 3.1).

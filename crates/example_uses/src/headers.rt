@@ -1,7 +1,7 @@
 //! Facts in a header: critical labels, certificates, the algorithm, and the key.
 
 ghost use Rattle.std.specs.Prelude.{◌≡◌, map, option_map};
-ghost use Rattle.std.specs.List.{list_all};
+ghost use Rattle.std.specs.List.{list_all, list_any};
 ghost use Rattle.std.specs.Map.{lookup};
 ghost use Rattle.std.specs.Option.{option_and_then};
 ghost use Rattle.coset_value.specs.Parts.{as_bytes};
@@ -13,7 +13,7 @@ ghost use Rattle.coset_label.specs.LabelData.{as_label, assigned, number, same_l
 ghost use Rattle.coset_label.specs.Views.{entry_view};
 ghost use Rattle.coset_core.specs.Headers.{fields_in};
 ghost use Rattle.coset_core.specs.Views.{critical_view, header_view, protected_view};
-ghost use Rattle.example_uses.specs.HeaderParts.{has_algorithm, is_met, is_one_of, is_understood, leaf, names_key, one_names_key};
+ghost use Rattle.example_uses.specs.HeaderParts.{has_algorithm, has_parameter, is_listed, is_met, is_missing, is_one_of, is_understood, leaf, names_key, one_names_key};
 
 use coset::cbor::value::Value;
 use coset::iana::{Algorithm, EnumI64, HeaderParameter};
@@ -44,12 +44,53 @@ fn is_labelled(pair: &(Label, Value), label: &Critical) -> bool
     }
 }
 
-/// Returns true if the label is one of these, and a parameter that isn't a field of the header.
-fn is_met(header: &Header, known: &[Critical], label: &Critical) -> bool
-    ensures { result ≡ is_met (map critical_view known.now) (header_view header.now)
-        (critical_view label.now) }
+/// Returns true if the header has a parameter with this label that isn't a field.
+fn has_parameter(header: &Header, label: &Critical) -> bool
+    ensures { result ≡ has_parameter (header_view header.now) (critical_view label.now) }
 {
-    is_known(known, label) && header.rest.iter().any(|pair| is_labelled(pair, label))
+    header.rest.iter().any(|pair| is_labelled(pair, label))
+}
+
+/// Returns true if the header lists this label as critical.
+fn is_listed(header: &Header, label: &Critical) -> bool
+    ensures { result ≡ is_listed (header_view header.now) (critical_view label.now) }
+{
+    header.crit.iter().any(|listed| label == listed)
+}
+
+/// Returns true if the header lists this label as critical, and has no such parameter.
+fn is_missing(header: &Header, label: &Critical) -> bool
+    ensures { result ≡ is_missing (header_view header.now) (critical_view label.now) }
+{
+    is_listed(header, label) && !has_parameter(header, label)
+}
+
+/// Returns true if each critical label of the header is one of these.
+fn are_known(header: &Header, known: &[Critical]) -> bool
+    ensures { result ≡ list_all (is_one_of (map critical_view known.now))
+        (fields_in (header_view header.now)).crit }
+{
+    header.crit.iter().all(|label| is_known(known, label))
+}
+
+/// Returns true if one of these labels is critical, and the header has no such parameter.
+fn finds_missing(header: &Header, known: &[Critical]) -> bool
+    ensures { result ≡ list_any (is_missing (header_view header.now))
+        (map critical_view known.now) }
+{
+    known.iter().any(|label| is_missing(header, label))
+}
+
+/// Returns true if each critical label of the header is one of these, and a parameter that isn't a
+/// field.
+///
+/// It looks for each of these labels in the header, and not for each critical one. So the time
+/// grows with the header's length, times the number of these labels.
+fn are_met(header: &Header, known: &[Critical]) -> bool
+    ensures { result ≡ list_all (is_met (map critical_view known.now) (header_view header.now))
+        (fields_in (header_view header.now)).crit }
+{
+    are_known(header, known) && !finds_missing(header, known)
 }
 
 /// Returns true if each label in `crit` is one of these and a parameter of the protected header,
@@ -61,9 +102,7 @@ pub fn is_understood(protected: &ProtectedHeader, unprotected: &Header, known: &
     ensures { result ≡ is_understood (map critical_view known.now)
         (protected_view protected.now).header (header_view unprotected.now) }
 {
-    let header = &protected.header;
-    let are_met = header.crit.iter().all(|label| is_met(header, known, label));
-    are_met && unprotected.crit.is_empty()
+    are_met(&protected.header, known) && unprotected.crit.is_empty()
 }
 
 /// Returns the value of a parameter that isn't a field of the header.
