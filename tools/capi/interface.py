@@ -16,7 +16,6 @@ HEAD = """# The interface of the shared library: what a program that is linked w
 
 # The lines that have the version or its number, in the files of programs.
 VERSIONED = (("c/include/coset.h", '#define COSET_VERSION "{version}"\n#define COSET_VERSION_NUMBER {number}'),
-             ("c/wrappers/rust/coset.rs", "const VERSION_NUMBER: u32 = {number};"),
              ("c/wrappers/python/coset/__init__.py", "_VERSION_NUMBER = {number}"),
              ("c/wrappers/js/coset.mjs", "const VERSION_NUMBER = {number};"),
              ("c/wrappers/go/coset/coset.go", "const versionNumber = {number}"))
