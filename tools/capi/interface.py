@@ -21,6 +21,8 @@ VERSIONED = (("c/include/coset.h", '#define COSET_VERSION "{version}"\n#define C
              ("c/wrappers/go/coset/coset.go", "const versionNumber = {number}"))
 # The files whose versions are older ones, or those of tests.
 FIXED = ("CHANGELOG.md", "tools/capi/trying.py")
+# The packages of Cargo that have the version.
+PACKAGES = ("Cargo.toml", "rust/cwt/Cargo.toml")
 # The folders that have nothing of the repository's own.
 BUILT = (".git", "out", "target")
 
@@ -149,8 +151,10 @@ def compare(check):
     for path, lines_of in VERSIONED:
         wanted = lines_of.format(version=version(), number=f"0x{number():08x}")
         check(f"\n{wanted}\n" in f"\n{read(path)}", f"{path} doesn't have the version of VERSION: {wanted}")
-    packages = {in_cargo(it) for it in (version(), following())}
-    check(of_packages() in packages, f"Cargo.toml has the version {of_packages()}, which is none of {', '.join(sorted(packages))}")
+    known = sorted(in_cargo(it) for it in (version(), following()))
+    check(of_packages() in known, f"Cargo.toml has the version {of_packages()}, which is none of {', '.join(known)}")
+    for path in PACKAGES:
+        check(f'\nversion = "{of_packages()}"\n' in read(path), f"{path} doesn't have the version {of_packages()} of Cargo.toml")
     check(f'"{soname()}"' in read("c/wrappers/python/coset/__init__.py"), f"the Python wrapper doesn't load {soname()}")
     check(f"`{soname()}`" in read("docs/C.md"), f"docs/C.md doesn't name {soname()}")
     check(len(set(there)) == len(there), "coset.h declares something twice")
