@@ -154,7 +154,7 @@ def text_of(path):
 # ---- the Rust package
 
 # The pages that say what makes the Rust package, and their words for its size, in one line.
-ON_EXTRACTOR = ("README.md", "SECURITY.md", "docs/PROVED.md", "rust/lib.rs")
+ON_EXTRACTOR = ("README.md", "SECURITY.md", "docs/PROVED.md", "rust/README.md")
 SIZE = re.compile(r"(a program of at most )([\d,]+)( lines)")
 
 
