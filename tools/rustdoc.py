@@ -10,7 +10,7 @@ INTERNAL = {"StructuralPartialEq", "Freeze", "TrivialClone", "UnsafeUnpin"}
 
 class Surface:
     """The public items of a crate, by their paths. `lines` has a signature for each key, and `must_use` the keys that have that
-    attribute."""
+    attribute. An item with several paths is described under the shortest."""
 
     def __init__(self, path, root=""):
         with open(path, encoding="utf-8") as file:
@@ -140,7 +140,9 @@ class Surface:
     def item(self, name, it):
         kind, inner = next(iter(it["inner"].items()))
         bound = {"": name}
-        if kind in ("struct", "enum", "trait"):
+        if name != self.names[it["id"]]:
+            self.add(f"{'fn' if kind == 'function' else kind} {name}", f"as {self.names[it['id']]}", it)
+        elif kind in ("struct", "enum", "trait"):
             hidden = " { .. }" if self.is_partly_hidden(kind, inner, it) else ""
             parents = self.bounds(inner["bounds"], bound) if kind == "trait" else ""
             self.add(f"{kind} {name}", (self.parameters(inner["generics"], bound) + parents + hidden).strip(), it)
