@@ -87,7 +87,7 @@ mod tests {
     use coset::CborSerializable;
     use coset::cbor::value::Float;
 
-    /// Checks that both crates write the same bytes, and that each reads what the other writes.
+    /// Checks that both crates write the same bytes, and read each other's.
     #[track_caller]
     fn agree(value: Value) {
         let ours = value.clone().to_vec().expect("coset writes it");
