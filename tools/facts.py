@@ -19,7 +19,7 @@ PROGRAM = re.compile(r"^In \[[^\]\n]*\]\(\.\./(crates/\w+/src/main\.rt)\):\n\n``
 
 def pages():
     """Returns the paths of all pages."""
-    found = [*sorted(it for it in os.listdir(HERE) if it.endswith(".md")), *files("docs")]
+    found = [*sorted(it for it in os.listdir(HERE) if it.endswith(".md")), *files("docs"), *(it for it in files("rust") if it.endswith(".md"))]
     return [*found, *(f"crates/{it}/README.md" for it in sorted(os.listdir(f"{HERE}/crates")) if os.path.exists(f"{HERE}/crates/{it}/README.md"))]
 CONTRACT = re.compile(r"^In \[[^\]\n]*\]\(\.\./(crates/\w+/src/\w+\.rt)\), with its contract:\n\n```rust\n(.*?)^```", re.M | re.S)
 
