@@ -22,7 +22,7 @@ VERSIONED = (("c/include/coset.h", '#define COSET_VERSION "{version}"\n#define C
 # The files whose versions are older ones, or those of tests.
 FIXED = ("CHANGELOG.md", "tools/capi/trying.py")
 # The packages of Cargo that have the version.
-PACKAGES = ("Cargo.toml", "rust/cwt/Cargo.toml")
+PACKAGES = ("Cargo.toml", "rust/ciborium/Cargo.toml", "rust/cwt/Cargo.toml")
 # The folders that have nothing of the repository's own.
 BUILT = (".git", "out", "target")
 
