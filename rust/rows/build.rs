@@ -6,7 +6,25 @@ mod extractor;
 
 use extractor::{CWT, Group, LIBRARY, extract};
 
+/// The programs and the crates below them, lowest first.
 const PROGRAMS: &[&str] = &[
+    "tool_fault",
+    "tool_explain",
+    "tool_spelled",
+    "tool_notation",
+    "tool_view",
+    "tool_look",
+    "tool_seals",
+    "example_types",
+    "example_uses",
+    "example_tokens",
+    "example_seen",
+    "example_hello",
+    "example_print",
+    "example_subject",
+    "example_files",
+    "example_signature",
+    "example_cwt",
     "test_lines",
     "coset_vectors",
     "test_cbor",
@@ -15,9 +33,11 @@ const PROGRAMS: &[&str] = &[
     "test_keys_and_claims",
     "test_verify",
     "test_seen",
-    "example_types",
-    "example_tokens",
-    "example_seen",
+    "test_notation",
+    "test_spelled",
+    "test_seals",
+    "test_uses",
+    "test_message_uses",
 ];
 
 fn main() {

@@ -1,12 +1,24 @@
 //! `coset_show KIND`: decodes hexadecimal standard input, and prints its shortest encoding.
-#![forbid(unsafe_code)]
+//!
+//! The entry is C's `main`. Before Rust's, its runtime opens a closed standard input or output for reading nothing and for taking
+//! everything, and the program couldn't say that it fails.
+#![deny(unsafe_code)]
+#![cfg_attr(not(test), no_main)]
+#![cfg_attr(test, allow(dead_code))]
 
-#[path = "../programs.rs"]
+extern crate alloc;
+
+#[path = "../programs/mod.rs"]
 #[allow(dead_code, unused_imports, unused_macros)]
 mod programs;
 
 include!(concat!(env!("OUT_DIR"), "/show.rs"));
 
-fn main() -> std::process::ExitCode {
-    coset_show::main(programs::HostRuntime::default())
+/// Runs the program, and returns its status.
+#[cfg(not(test))]
+#[allow(unsafe_code)]
+#[unsafe(no_mangle)]
+extern "C" fn main() -> std::ffi::c_int {
+    let rt = programs::HostRuntime::of_process(0);
+    coset_show::program(rt).0.into()
 }
