@@ -115,24 +115,24 @@
 #![no_std]
 #![forbid(unsafe_code)]
 
-extern crate alloc;
-
-/// The proved crates, each a module. Packages that are extracted over this one name them.
-#[doc(hidden)]
-pub mod __proved {
-    include!(env!("COSET_CWT"));
-}
-
-pub use __proved::cose_thumbprint::{ThumbprintError, thumbprint_input};
-pub use __proved::cwt_confirm::{
+#[doc(inline)]
+pub use coset::__proved::cose_thumbprint::{ThumbprintError, thumbprint_input};
+#[doc(inline)]
+pub use coset::__proved::cwt_confirm::{
     Confirmation, ConfirmationError, EncryptedKey, NonceError, confirmation, nonces,
 };
-pub use __proved::cwt_gate::{GateError, judge};
-pub use __proved::cwt_keys::{Form, KeyKind, Keys, Row, Sealed, is_for, row_for, single_form};
-pub use __proved::cwt_ring::{
+#[doc(inline)]
+pub use coset::__proved::cwt_gate::{GateError, judge};
+#[doc(inline)]
+pub use coset::__proved::cwt_keys::{
+    Form, KeyKind, Keys, Row, Sealed, is_for, row_for, single_form,
+};
+#[doc(inline)]
+pub use coset::__proved::cwt_ring::{
     Ciphers, Issuer, KeyError, KeyRing, MAX_KEYS, Nonce, fits, keys_from_slice,
 };
-pub use __proved::cwt_verify::{
+#[doc(inline)]
+pub use coset::__proved::cwt_verify::{
     Audience, Authentication, LayerError, Part, Policy, TokenError, VerifiedLayer, VerifiedToken,
     verify_token,
 };

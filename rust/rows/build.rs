@@ -42,18 +42,15 @@ const PROGRAMS: &[&str] = &[
 
 fn main() {
     extractor::build("../..", |crates, out| {
-        let library = Group {
+        let names = &[LIBRARY, CWT].concat();
+        let below = Group {
             home: "::coset::__proved",
-            names: LIBRARY,
-        };
-        let cwt = Group {
-            home: "::coset_cwt::__proved",
-            names: CWT,
+            names,
         };
         let programs = Group {
             home: "crate",
             names: PROGRAMS,
         };
-        extract(crates, &[library, cwt], programs, &out.join("rows.rs"))
+        extract(crates, &[below], programs, &out.join("rows.rs"))
     });
 }
