@@ -2,8 +2,8 @@
 //!
 //! A token is one message of COSE or several, nested, around a set of claims. [`verify_token`]
 //! returns the claims if the keys accept each message and the token meets a [`Policy`]. It checks
-//! what RFC 8392, RFC 8725 and RFC 9052 ask of a verifier: algorithms, critical labels, issuer,
-//! audience, times and types. It doesn't check for replay.
+//! algorithms, keys, critical labels, issuer, audience, times and types. It doesn't check for
+//! replay.
 //!
 //! # Example
 //!
@@ -90,9 +90,9 @@
 //!
 //! - This crate has no ciphers. Implement [`Ciphers`] by a cryptographic library. The folder
 //!   `rust/ring` of the repository does it by the crate `ring`, to be copied.
-//! - A [`KeyRing`] tries the keys that fit a message, at most [`MAX_KEYS`]. A key fits ([`fits`]) if
-//!   its `alg`, type, curve, lengths and operations are right for the message. So your ciphers get
-//!   only such keys.
+//! - A [`KeyRing`] tries the keys that fit a message, at most [`MAX_KEYS`]. A key fits if its
+//!   `alg`, type, curve, lengths and operations are right for the message ([`fits`]). So your
+//!   ciphers get only such keys.
 //! - For keys that aren't in a set, such as those of a hardware module, implement [`Keys`]. Its
 //!   comment lists what you then check yourself.
 //! - If a token has the claim `cnf`, its sender must prove to possess a key. [`confirmation`] reads
@@ -108,9 +108,9 @@
 //!
 //! # What is proved
 //!
-//! The sources are Rust with contracts, and each contract is proved. A program makes this package
-//! from them, and rustc compiles it. Neither is proved, but the result is tested with the rows of
-//! the proved library. See [`coset`].
+//! Proved are the Rattle sources and their x86-64 build, as the page of [`coset`] says. This
+//! package is made from the same text by a program and by rustc. Neither step is proved. Tests show
+//! that it answers the same.
 
 #![no_std]
 #![forbid(unsafe_code)]
