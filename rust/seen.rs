@@ -50,3 +50,19 @@ impl fmt::Display for StructureError {
 }
 
 impl error::Error for StructureError {}
+
+#[cfg(test)]
+mod tests {
+    use super::{Kind, StructureError, see};
+    use std::string::ToString;
+
+    #[test]
+    fn errors_have_texts() {
+        let detached = see(Kind::Sign1, b"\x84\x43\xa1\x01\x26\xa0\xf6\x41\x07").unwrap();
+        let none = detached.put_structure(&[], None, &mut []);
+        assert_eq!(none, Err(StructureError::NoContent));
+        assert_eq!(none.unwrap_err().to_string(), "no content");
+        let short = detached.put_structure(&[], Some(b"x"), &mut [0; 18]);
+        assert_eq!(short.unwrap_err().to_string(), "19 bytes are needed");
+    }
+}
