@@ -68,8 +68,11 @@ fn protected(bytes: &[u8]) {
         return;
     };
     let string = copied(&header).cbor_bstr().expect("it becomes a string");
-    let again = ProtectedHeader::from_cbor_bstr(string).expect("the string is read");
-    assert!(again.header == header.header);
+    match ProtectedHeader::from_cbor_bstr(string) {
+        Ok(again) => assert!(again.header == header.header),
+        // The string is a layer more.
+        Err(error) => assert!(format!("{error:?}").contains("RecursionLimitExceeded")),
+    }
 }
 
 fn key(bytes: &[u8]) {
