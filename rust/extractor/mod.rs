@@ -1,5 +1,6 @@
 //! Extracts Rust from the proved sources: what is left of them without contracts. Build scripts include these modules.
 
+mod conditions;
 mod rewrite;
 mod signatures;
 mod tokens;
