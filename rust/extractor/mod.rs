@@ -1,6 +1,7 @@
 //! Extracts Rust from the proved sources: what is left of them without contracts. Build scripts include these modules.
 
 mod conditions;
+mod frames;
 mod rewrite;
 mod signatures;
 mod tokens;

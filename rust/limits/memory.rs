@@ -34,8 +34,7 @@ fn row(line: &str) -> Option<Row> {
     // Tags of a value are boxes, and the operations of a key are a set: these request memory of
     // the same size before they allocate.
     let is_set = kind.starts_with("key");
-    let is_boxed = format!("{:?}", Value::from_slice(&bytes)).contains("Tag(");
-    let counted = if is_set || is_boxed {
+    let counted = if is_set || Value::from_slice(&bytes).is_ok_and(|item| has_tag(&item)) {
         Counted::New
     } else {
         Counted::All
@@ -46,6 +45,19 @@ fn row(line: &str) -> Option<Row> {
         bytes,
         counted,
     })
+}
+
+/// True if a tag is in the item, or in one that a byte string of it encodes.
+fn has_tag(item: &Value) -> bool {
+    match item {
+        Value::Tag(..) => true,
+        Value::Bytes(bytes) => Value::from_slice(bytes).is_ok_and(|item| has_tag(&item)),
+        Value::Array(items) => items.iter().any(has_tag),
+        Value::Map(pairs) => pairs
+            .iter()
+            .any(|(key, value)| has_tag(key) || has_tag(value)),
+        _ => false,
+    }
 }
 
 fn unhex(digits: &str) -> Option<Vec<u8>> {
