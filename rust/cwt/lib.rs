@@ -77,7 +77,7 @@
 //! assert_eq!(token.issuer, Some("coap://as.example.com"));
 //! assert_eq!(token.claims.subject.as_deref(), Some("erikw"));
 //! # let mut changed = TOKEN.to_vec();
-//! # changed[40] ^= 1;
+//! # changed[TOKEN.len() - 1] ^= 1;
 //! # assert!(verify_token(&policy, &ring, &changed, 1_443_944_944).is_err());
 //! # Ok(())
 //! # }
