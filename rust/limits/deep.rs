@@ -9,6 +9,8 @@ use std::thread;
 
 /// The stack that is enough, in kB: that of a thread of std, or half of it if optimized.
 const STACK: usize = if cfg!(debug_assertions) { 2_048 } else { 1_024 };
+/// `Debug` needs more if it isn't optimized.
+const STACK_OF_DEBUG: usize = if cfg!(debug_assertions) { 4_096 } else { 1_024 };
 
 /// Appends the head of an item (RFC 8949, section 3).
 fn head(major_type: u8, n: usize, out: &mut Vec<u8>) {
@@ -104,9 +106,9 @@ const NESTS: [Nest; 4] = [
     },
 ];
 
-/// Calls with so little stack. If it isn't enough, the program ends.
-fn within(call: impl FnOnce() + Send + 'static) {
-    let thread = thread::Builder::new().stack_size(STACK * 1024);
+/// Calls with so many kB of stack. If they aren't enough, the program ends.
+fn within(stack: usize, call: impl FnOnce() + Send + 'static) {
+    let thread = thread::Builder::new().stack_size(stack * 1024);
     thread
         .spawn(call)
         .expect("a thread")
@@ -118,7 +120,7 @@ fn within(call: impl FnOnce() + Send + 'static) {
 fn deepest_messages() {
     for nest in NESTS {
         let bytes = nest.message(b"");
-        within(move || {
+        within(STACK, move || {
             let message = CoseSign1::from_slice(&bytes).expect("a message");
             assert!(message.clone() == message);
             assert!(message.tbs_data(b"").len() > bytes.len() - 10);
@@ -133,7 +135,7 @@ fn deepest_messages() {
 fn deepest_messages_as_text() {
     for nest in NESTS {
         let bytes = nest.message(b"");
-        within(move || {
+        within(STACK_OF_DEBUG, move || {
             let message = CoseSign1::from_slice(&bytes).expect("a message");
             assert!(format!("{message:?}").len() > bytes.len());
         });
@@ -146,7 +148,7 @@ fn deepest_messages_that_are_refused() {
     let twice = b"\xa2\x18\x46\x00\x18\x46\x00";
     for nest in NESTS {
         let bytes = nest.message(twice);
-        within(move || {
+        within(STACK, move || {
             let error = CoseSign1::from_slice(&bytes).expect_err("a label twice");
             assert!(matches!(error, CoseError::DuplicateMapKey));
         });
@@ -157,7 +159,7 @@ fn deepest_messages_that_are_refused() {
 fn deepest_recipients() {
     for nest in NESTS {
         let bytes = nest.recipients();
-        within(move || {
+        within(STACK, move || {
             let recipient = CoseRecipient::from_slice(&bytes).expect("a recipient");
             assert!(recipient.clone() == recipient);
             assert!(recipient.to_vec().expect("its bytes") == bytes);
@@ -169,7 +171,7 @@ fn deepest_recipients() {
 fn deepest_values() {
     for front in [&b"\x81"[..], b"\xa1\x00", b"\xc6"] {
         let bytes = [front.repeat(255), vec![0x80]].concat();
-        within(move || {
+        within(STACK, move || {
             let value = Value::from_slice(&bytes).expect("256 levels");
             assert!(value.clone() == value);
             assert!(format!("{value:?}").len() > bytes.len());
