@@ -1,7 +1,9 @@
-//! What `tools/fuzz --rust` lets libFuzzer attack: every type reads the bytes. What was read is written, read again, cloned,
-//! compared and formatted. Messages make their structures, and call their closures.
+//! What `tools/fuzz --rust` lets libFuzzer attack: every type reads the bytes. What was read is
+//! written, read again, cloned, compared and formatted. Messages make their structures, and call
+//! their closures.
 //!
-//! The first byte of an input chooses the type, and the second whether the message is under its tag. The rest are its bytes.
+//! The first byte of an input chooses the type, and the second whether the message is under its
+//! tag. The rest are its bytes.
 #![deny(unsafe_code)]
 
 mod messages;

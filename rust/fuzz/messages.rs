@@ -27,7 +27,7 @@ pub fn attack(kind: u8, is_tagged: bool, bytes: &[u8]) {
     }
 }
 
-/// Reads a message and gives it to `calls`. A message under its tag is read without it by `from_any_slice` only.
+/// Reads a message, under its tag or without it, and gives it to `calls`.
 fn read<T>(is_tagged: bool, bytes: &[u8], calls: impl FnOnce(T))
 where
     T: CborSerializable + TaggedCborSerializable + AsCborValue + Clone + PartialEq + Debug,

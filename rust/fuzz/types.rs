@@ -35,7 +35,8 @@ pub fn attack(kind: u8, bytes: &[u8]) {
     }
 }
 
-/// Returns the value that the bytes encode. It is written and read again, which must give an equal value and the same bytes.
+/// Returns the value that the bytes encode. It is written and read again, which must give an equal
+/// value and the same bytes.
 pub fn read_back<T: CborSerializable + AsCborValue + Clone + PartialEq + Debug>(
     bytes: &[u8],
 ) -> Option<T> {

@@ -42,7 +42,9 @@ impl<T> Context<T> for Option<T> {
 }
 
 macro_rules! bail {
-    ($($part:tt)*) => { return Err($crate::programs::anyhow::Error::msg(format_args!($($part)*)).into()) };
+    ($($part:tt)*) => {
+        return Err($crate::programs::anyhow::Error::msg(format_args!($($part)*)).into())
+    };
 }
 
 macro_rules! ensure {

@@ -1,4 +1,4 @@
-//! The kit's `std::io`, as far as programs use it. Its error can be made from that of an allocation.
+//! The kit's `std::io`, as far as programs use it. Its error can be made from an allocation's.
 
 use super::{AllocError, AllocFailed, Print};
 use std::cell::RefCell;
@@ -247,7 +247,8 @@ pub fn writer<R: Print>(rt: &R) -> Stdout {
     rt.writer()
 }
 
-/// The files of the process. `std`'s own ones take a closed file for an empty input, or for an output that takes everything.
+/// The files of the process. `std`'s own ones take a closed input for an empty one, and a closed
+/// output for one that takes everything.
 pub mod process {
     use super::{Rc, RefCell, Stdin, Stdout};
     use std::fs::File;

@@ -1,5 +1,5 @@
-//! The kit's std for programs and their tests: a runtime over the process, or over bytes in memory. Then crates of the kit, as
-//! far as programs use them.
+//! The kit's std for programs and their tests: a runtime over the process, or over bytes in memory.
+//! Then crates of the kit, as far as programs use them.
 //!
 //! `rust/rows` and `rust/show` have this module. It is no part of what users build.
 
@@ -26,7 +26,7 @@ pub mod prelude {
     };
 }
 
-/// A program's arguments, its standard input, output and error, and the folder in which it finds files.
+/// A program's arguments, its standard input, output and error, and the folder of its files.
 pub struct HostRuntime {
     args: io::Result<Vec<String>>,
     stdin: Stdin,
@@ -286,16 +286,26 @@ pub(crate) use try_vec;
 
 /// Writes to standard output or standard error.
 macro_rules! print {
-    ($rt:expr; $($part:tt)*) => { $crate::programs::io::put(&mut $rt.stdout(), format_args!($($part)*), "") };
+    ($rt:expr; $($part:tt)*) => {
+        $crate::programs::io::put(&mut $rt.stdout(), format_args!($($part)*), "")
+    };
 }
 macro_rules! println {
-    ($rt:expr) => { $crate::programs::io::put(&mut $rt.stdout(), format_args!(""), "\n") };
-    ($rt:expr; $($part:tt)*) => { $crate::programs::io::put(&mut $rt.stdout(), format_args!($($part)*), "\n") };
+    ($rt:expr) => {
+        $crate::programs::io::put(&mut $rt.stdout(), format_args!(""), "\n")
+    };
+    ($rt:expr; $($part:tt)*) => {
+        $crate::programs::io::put(&mut $rt.stdout(), format_args!($($part)*), "\n")
+    };
 }
 macro_rules! eprint {
-    ($rt:expr; $($part:tt)*) => { $crate::programs::io::put(&mut $rt.stderr(), format_args!($($part)*), "") };
+    ($rt:expr; $($part:tt)*) => {
+        $crate::programs::io::put(&mut $rt.stderr(), format_args!($($part)*), "")
+    };
 }
 macro_rules! eprintln {
-    ($rt:expr; $($part:tt)*) => { $crate::programs::io::put(&mut $rt.stderr(), format_args!($($part)*), "\n") };
+    ($rt:expr; $($part:tt)*) => {
+        $crate::programs::io::put(&mut $rt.stderr(), format_args!($($part)*), "\n")
+    };
 }
 pub(crate) use {eprint, eprintln, print, println};

@@ -1,5 +1,5 @@
-//! The kit's crates `ucd_category` and `ucd_derived`, as far as programs use them: by what Rust's std knows of Unicode, whose
-//! version may be older. A character that it doesn't know is unassigned.
+//! The kit's crates `ucd_category` and `ucd_derived`, as far as programs use them: by what Rust's
+//! std knows of Unicode. Its version may be older, and newer characters are then unassigned.
 
 pub mod ucd_category {
     /// The categories that programs name, and `Other` for all others.
@@ -16,8 +16,8 @@ pub mod ucd_category {
     }
 
     impl GeneralCategory {
-        /// Returns the category. A format character, a surrogate and one for private use count as unassigned, because std
-        /// escapes all of them alike.
+        /// Returns the category. A format character, a surrogate and one for private use count as
+        /// unassigned, because std escapes all of them alike.
         pub fn for_char(c: char) -> GeneralCategory {
             match c {
                 '\u{2028}' => GeneralCategory::LineSeparator,
@@ -37,8 +37,8 @@ pub mod ucd_category {
 }
 
 pub mod ucd_derived {
-    /// Returns true for the characters of Default_Ignorable_Code_Point that have a category of letters or marks, or are
-    /// separators. Those that std escapes are unassigned here.
+    /// Returns true for the characters of Default_Ignorable_Code_Point that std doesn't escape. The
+    /// others are unassigned here.
     pub fn is_default_ignorable_code_point(c: char) -> bool {
         matches!(
             c,

@@ -1,7 +1,7 @@
 //! `coset_show KIND`: decodes hexadecimal standard input, and prints its shortest encoding.
 //!
-//! The entry is C's `main`. Before Rust's, its runtime opens a closed standard input or output for reading nothing and for taking
-//! everything, and the program couldn't say that it fails.
+//! The entry is C's `main`. Rust's runtime would open a closed standard input or output as a file
+//! that is empty or takes everything, and the program couldn't say that it fails.
 #![deny(unsafe_code)]
 #![cfg_attr(not(test), no_main)]
 #![cfg_attr(test, allow(dead_code))]

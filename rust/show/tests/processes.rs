@@ -1,5 +1,5 @@
-//! The built program, run as a process: what it writes, and its status, for rows of each kind, for arguments that name no kind, and
-//! if its input or output fails.
+//! The built program, run as a process: what it writes, and its status. It gets rows of each kind,
+//! arguments that name no kind, and inputs and outputs that fail.
 #![cfg(unix)]
 
 use std::collections::BTreeMap;
