@@ -11,7 +11,7 @@ from capi import interface  # noqa: E402
 from sources import HERE, files, read  # noqa: E402
 
 # What a copy for tools/release doesn't need.
-LEFT_OUT = (".git", "out", "specs", "proofs", "must-fail", "data", "stdin", "stdout")
+LEFT_OUT = (*interface.BUILT, "specs", "proofs", "must-fail", "data", "stdin", "stdout")
 
 
 def ran(*command):
@@ -30,11 +30,16 @@ def rewrite(path, change):
 # ---- tools/release
 
 
+def spelled(version):
+    """Returns a pattern for a version, in any of the ways in which numbers are written."""
+    first, *rest = interface.numbers(version).split(".")
+    parts, number = "".join(rf"[-.+_~](?:rattle[-.+_~])?{it}" for it in rest), interface.number(version)
+    return rf"\b{first}{parts}\b|0x[0_]*{'_?'.join(f'{number:x}')}\b|\b{number}\b"
+
+
 def old_places(folder):
-    """Yields the files of a copy that have this repository's version, in any of the ways in which numbers are written."""
-    first, *rest = interface.numbers().split(".")
-    spelled = "".join(rf"[-.+_~](?:rattle[-.+_~])?{it}" for it in rest)
-    old = re.compile(rf"\b{first}{spelled}\b|0x[0_]*{'_?'.join(f'{interface.number():x}')}\b|\b{interface.number()}\b")
+    """Yields the files of a copy that have this repository's version, or that of its packages."""
+    old = re.compile("|".join(map(spelled, (interface.version(), interface.of_packages()))))
     for path in files(folder):
         name = os.path.relpath(f"{HERE}/{path}", folder)
         with open(f"{HERE}/{path}", encoding="utf-8", errors="replace") as file:
@@ -43,13 +48,29 @@ def old_places(folder):
             yield f"{name} still has {found[0]}"
 
 
+def linked(folder, command):
+    """Yields what is wrong with tools/release on a copy with a link: it says so in a line, and writes nothing."""
+    before = read(folder, "VERSION")
+    for to in ("nothing", "../VERSION", "."):
+        os.symlink(to, f"{folder}/docs/link")
+        status, told = ran(*command)
+        if status != 2 or told != "tools/release: docs/link is a link, or no file: nothing is written\n":
+            yield f"tools/release with a link to {to}: status {status}, {told}"
+        os.remove(f"{folder}/docs/link")
+    if read(folder, "VERSION") != before:
+        yield "tools/release with a link writes"
+
+
 def released():
-    """Yields what is wrong with tools/release: on a copy of this repository, it makes the version after this one."""
-    new = interface.following()
+    """Yields what is wrong with tools/release: on a copy of this repository, it makes a later version.
+
+    It is later than that of Cargo's packages too, which may be the next one."""
+    new = interface.following(interface.following())
     with tempfile.TemporaryDirectory() as folder:
         shutil.copytree(HERE, folder, dirs_exist_ok=True, ignore=shutil.ignore_patterns(*LEFT_OUT))
         if "\n## Next\n" not in read("CHANGELOG.md"):
             rewrite(f"{folder}/CHANGELOG.md", lambda text: text.replace("\n## ", "\n## Next\n\n- New.\n\n## ", 1))
+        yield from linked(folder, [f"{folder}/tools/release", new])
         for command in (["release", new], ["c", "--names"]):
             status, told = ran(f"{folder}/tools/{command[0]}", *command[1:])
             if status:

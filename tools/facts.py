@@ -1,5 +1,5 @@
 """Checks of tools/pages that need nothing built: links and paths, programs, the places of promises, the kit's version, the texts
-of edits."""
+of edits, the size of the extractor."""
 import os
 import re
 import sys
@@ -13,13 +13,13 @@ HERE = common.HERE
 WORD = re.compile(r"[A-Za-z_]\w*")
 LINK = re.compile(r"\]\(([^)#\s]*)(?:#([^)]*))?\)")
 # A path in backquotes, or in the text of a page: one that begins with a folder of the repository.
-PATH = re.compile(r"(?<![\w/.])((?:crates|tools|c|docs|edits|coset_\w+|cwt_\w+|ffi_\w+|tool_\w+|test_\w+|example_\w+)/[\w./*-]+)")
+PATH = re.compile(r"(?<![\w/.])((?:crates|tools|c|docs|edits|rust|coset_\w+|cwt_\w+|ffi_\w+|tool_\w+|test_\w+|example_\w+)/[\w./*-]+)")
 PROGRAM = re.compile(r"^In \[[^\]\n]*\]\(\.\./(crates/\w+/src/main\.rt)\):\n\n```rust\n(.*?)^```", re.M | re.S)
 
 
 def pages():
     """Returns the paths of all pages."""
-    found = [*sorted(it for it in os.listdir(HERE) if it.endswith(".md")), *files("docs")]
+    found = [*sorted(it for it in os.listdir(HERE) if it.endswith(".md")), *files("docs"), *(it for it in files("rust") if it.endswith(".md"))]
     return [*found, *(f"crates/{it}/README.md" for it in sorted(os.listdir(f"{HERE}/crates")) if os.path.exists(f"{HERE}/crates/{it}/README.md"))]
 CONTRACT = re.compile(r"^In \[[^\]\n]*\]\(\.\./(crates/\w+/src/\w+\.rt)\), with its contract:\n\n```rust\n(.*?)^```", re.M | re.S)
 
@@ -151,8 +151,34 @@ def text_of(path):
     return read(path) if os.path.exists(f"{HERE}/{path}") else None
 
 
-def wrong():
-    """Yields what is wrong by these checks."""
+# ---- the Rust package
+
+# The pages that say what makes the Rust package, and their words for its size, in one line.
+ON_EXTRACTOR = ("README.md", "SECURITY.md", "docs/PROVED.md", "rust/README.md")
+SIZE = re.compile(r"(a program of at most )([\d,]+)( lines)")
+
+
+def extractor_size():
+    """Returns the number of lines of the program that makes the Rust package, rounded up to hundreds. Its tests are in a folder."""
+    names = sorted(it for it in os.listdir(f"{HERE}/rust/extractor") if it.endswith(".rs"))
+    lines = sum(read("rust", "extractor", it).count("\n") for it in names)
+    return f"{-(-lines // 100) * 100:,}"
+
+
+def missized(is_written):
+    """Yields the pages that don't say how long the extractor is. If `is_written` is true, it first writes the number."""
+    for page in ON_EXTRACTOR:
+        if is_written:
+            text = SIZE.sub(rf"\g<1>{extractor_size()}\3", read(page))
+            with open(f"{HERE}/{page}", "w", encoding="utf-8") as file:
+                file.write(text)
+        told = {it[1] for it in SIZE.findall(read(page))}
+        if told != {extractor_size()}:
+            yield f"{page}: the extractor has at most {extractor_size()} lines; the page says {', '.join(sorted(told)) or 'nothing'}"
+
+
+def wrong(is_written):
+    """Yields what is wrong by these checks. If `is_written` is true, they write what they can."""
     for page in pages():
         if not read(page).strip():
             yield f"{page} is empty"
@@ -161,3 +187,4 @@ def wrong():
     yield from misplaced()
     yield from other_kit()
     yield from unfit()
+    yield from missized(is_written)

@@ -15,8 +15,10 @@ def read(*path):
 
 
 def files(*path):
-    """Yields the files of a folder of the repository, at any depth. There are none if the folder doesn't exist."""
-    for folder, _, names in os.walk(os.path.join(HERE, *path)):
+    """Yields the files of a folder of the repository, at any depth. What cargo built is left out. There are none if the folder doesn't
+    exist."""
+    for folder, folders, names in os.walk(os.path.join(HERE, *path)):
+        folders[:] = [it for it in folders if it != "target"]
         for name in sorted(names):
             yield os.path.relpath(os.path.join(folder, name), HERE)
 

@@ -1,7 +1,6 @@
-"""The calls for web tokens that are made from Rust and Python alone.
+"""The calls for web tokens that are made from Python alone.
 
-- `accepted` of c/wrappers/rust/accept.rs and c/wrappers/python/accept.py accepts the token of RFC 8392, appendix A.3, with the keys
-  of appendix A.2.
+- `accepted` of c/wrappers/python/accept.py accepts the token of RFC 8392, appendix A.3, with the keys of appendix A.2.
 - `ring` and `keys` are for the rows of test_verify: which keys of a ring are tried, and which keys of a set can be read.
 - `token` gets an answer of the wrong type: a plaintext for a signature or a MAC, or none for a ciphertext.
 - The calls of openssl.py are made with the ciphers of coset.crypto."""

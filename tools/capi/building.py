@@ -1,4 +1,4 @@
-"""Builds the library, proved or not, and the programs in C and Rust that call it."""
+"""Builds the library, proved or not, and the programs in C that call it."""
 import os
 import re
 import shutil

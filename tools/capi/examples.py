@@ -8,13 +8,10 @@ from capi.vectors import key_of_row, named, token
 from cbor import decode, encode
 from sources import read
 
-# A verifier or an issuer, with everything after it. Its imports are others in a file of this repository than on the page.
-FUNCTION = r"^(?:coset_status|pub fn) (?:verified|issued|accepted)\([^)]*\)[^;\n]*\n[\s\S]*"
-SHOWN = ("c/verify.c", "rust/verify.rs", "rust/accept.rs", "rust/issue.rs")
 # What each verifier says of itself, because its payload may be that of a web token.
 UNCHECKED = "Nothing else is checked, such as `exp`, `aud` or `iss`: for a web token call"
-# The other files that the page shows, each from a line that begins with this word.
-WHOLE = {"c/accept.c": "#include", "c/issue.c": "#include",
+# The files that the page shows, each from the line on that begins with this pattern.
+SHOWN = {"c/verify.c": r"coset_status verified\([^)]*\)[^;\n]*\n", "c/accept.c": "#include", "c/issue.c": "#include",
          "python/verify.py": "import", "python/accept.py": "import", "python/issue.py": "import",
          "js/verify.mjs": "import", "js/accept.mjs": "import", "js/issue.mjs": "import",
          "go/calls/verify.go": "package", "go/calls/accept.go": "package", "go/calls/issue.go": "package"}
@@ -24,9 +21,9 @@ def compare_page(check):
     """Checks that the page shows the verifiers, the issuers and the programs for web tokens as they are, most with their imports.
     Each verifier says what it leaves unchecked."""
     page = read("docs", "C.md")
-    for path in (*SHOWN, *WHOLE):
+    for path, start in SHOWN.items():
         text = read("c", "wrappers", *path.split("/"))
-        parts = re.findall(rf"^{WHOLE[path]}\b[\s\S]*" if path in WHOLE else FUNCTION, text, re.M)
+        parts = re.findall(rf"^{start}[\s\S]*", text, re.M)
         check(len(parts) == 1 and parts[0].strip() in page, f"docs/C.md doesn't show what c/wrappers/{path} has")
         words = " ".join(re.sub(r"^\s*(?://+|\*)", "", text, flags=re.M).split())
         is_verifier = path.rpartition("/")[2].startswith("verify.")

@@ -3,7 +3,6 @@
     include/*.h                 the headers
     LIBDIR                      libcoset.a and libcoset.so, coset.pc for pkg-config, and the files of CMake
     share/coset/python          the source of a package for pip, without the library: `pip install PREFIX/share/coset/python`
-    share/coset/rust            a crate for Cargo: coset-rattle = { path = "PREFIX/share/coset/rust" }
     share/coset/go              a package for Go, by cgo and pkg-config
     share/coset/js              a package for npm, if the tools for its module are there (tools/capi/wasm.py)
     share/doc/coset             docs/C.md and the license
@@ -43,7 +42,7 @@ def words(prefix, libdir, quick):
 def texts(found):
     """Returns each text that is installed, by its path from the prefix. `found` are the words to fill in."""
     fill = lambda path: filled(read(f"c/packaging/{path}"), found)
-    lib, python, rust = found["LIBDIR"], "share/coset/python", "share/coset/rust"
+    lib, python = found["LIBDIR"], "share/coset/python"
     made = {f"include/{it}": read(f"c/include/{it}") for it in sorted(os.listdir(f"{HERE}/c/include")) if it.endswith(".h")}
     made[f"{lib}/pkgconfig/coset.pc"] = fill("coset.pc.in")
     for name in ("coset-config.cmake", "coset-config-version.cmake"):
@@ -54,8 +53,6 @@ def texts(found):
         made[f"{python}/coset/{name}.py"] = read(f"c/wrappers/python/coset/{name}.py")
         made[f"{python}/coset/{name}.pyi"] = read(f"c/packaging/python/coset/{name}.pyi")
     made |= {f"{python}/coset/py.typed": "", f"{python}/LICENSE": read("LICENSE")}
-    made |= {f"{rust}/{name}": fill(f"rust/{name}") for name in ("Cargo.toml", "build.rs")}
-    made |= {f"{rust}/src/lib.rs": read("c/wrappers/rust/coset.rs"), f"{rust}/LICENSE": read("LICENSE")}
     made |= {f"share/coset/go/{name}": read(f"c/wrappers/go/coset/{name}") for name in ("coset.go", "go.mod")}
     made["share/coset/go/LICENSE"] = read("LICENSE")
     return made | {"share/doc/coset/C.md": read("docs/C.md"), "share/doc/coset/LICENSE": read("LICENSE")}

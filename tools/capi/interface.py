@@ -16,12 +16,15 @@ HEAD = """# The interface of the shared library: what a program that is linked w
 
 # The lines that have the version or its number, in the files of programs.
 VERSIONED = (("c/include/coset.h", '#define COSET_VERSION "{version}"\n#define COSET_VERSION_NUMBER {number}'),
-             ("c/wrappers/rust/coset.rs", "const VERSION_NUMBER: u32 = {number};"),
              ("c/wrappers/python/coset/__init__.py", "_VERSION_NUMBER = {number}"),
              ("c/wrappers/js/coset.mjs", "const VERSION_NUMBER = {number};"),
              ("c/wrappers/go/coset/coset.go", "const versionNumber = {number}"))
 # The files whose versions are older ones, or those of tests.
 FIXED = ("CHANGELOG.md", "tools/capi/trying.py")
+# The packages of Cargo that have the version.
+PACKAGES = ("Cargo.toml", "rust/ciborium/Cargo.toml", "rust/cwt/Cargo.toml")
+# The folders that have nothing of the repository's own.
+BUILT = (".git", "out", "target")
 
 
 def version():
@@ -38,10 +41,20 @@ def number(of=None):
     return int.from_bytes(bytes(map(int, numbers(of).split("."))), "big")
 
 
-def following():
-    """Returns the version after the library's own."""
-    head, _, last = version().rpartition(".")
+def following(of=None):
+    """Returns the version after this one. It is the library's own if `of` is None."""
+    head, _, last = (of or version()).rpartition(".")
     return f"{head}.{int(last) + 1}"
+
+
+def in_cargo(of):
+    """Returns a version as Cargo's packages have it."""
+    return of.replace("-", "+", 1)
+
+
+def of_packages():
+    """Returns the version of Cargo's packages, as the one at the root has it."""
+    return re.search(r'^version = "(.*)"$', read("Cargo.toml"), re.M)[1]
 
 
 def is_older(one, other):
@@ -138,6 +151,10 @@ def compare(check):
     for path, lines_of in VERSIONED:
         wanted = lines_of.format(version=version(), number=f"0x{number():08x}")
         check(f"\n{wanted}\n" in f"\n{read(path)}", f"{path} doesn't have the version of VERSION: {wanted}")
+    known = sorted(in_cargo(it) for it in (version(), following()))
+    check(of_packages() in known, f"Cargo.toml has the version {of_packages()}, which is none of {', '.join(known)}")
+    for path in PACKAGES:
+        check(f'\nversion = "{of_packages()}"\n' in read(path), f"{path} doesn't have the version {of_packages()} of Cargo.toml")
     check(f'"{soname()}"' in read("c/wrappers/python/coset/__init__.py"), f"the Python wrapper doesn't load {soname()}")
     check(f"`{soname()}`" in read("docs/C.md"), f"docs/C.md doesn't name {soname()}")
     check(len(set(there)) == len(there), "coset.h declares something twice")

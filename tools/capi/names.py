@@ -17,13 +17,7 @@ WORDS = {"uint32_t": "u32", "int32_t": "i32", "int64_t": "i64", "size_t": "usize
 # The types among them that the next argument, a length, belongs to.
 SLICES = ("[u8]", "[i64]", "[Opened]", "[Pair]", "[Text<'_>]")
 PROTOTYPE = r"(COSET_CALL\(([\d, ]+)\)\s*)?coset_status (coset_\w+)\(([^)]*)\);"
-# The types of the Rust wrapper as C writes them.
-POINTERS = {"*const u8": "const uint8_t *", "*mut u8": "uint8_t *", "*mut usize": "size_t *", "*mut i64": "int64_t *",
-            "*const i64": "const int64_t *", "*const Opened": "const coset_opened *", "*const Rules": "const coset_rules *",
-            "*mut Layer": "coset_layer *", "*mut View": "coset_sign1_view *", "*mut Message": "coset_message_view *",
-            "*const Pair": "const coset_pair *", "*const Text": "const coset_text *",
-            "*mut Spans": "coset_message_spans_view *", "*mut Span": "coset_span *"}
-# The structs by their names in the sources and in the Rust wrapper, in C, and in the Python wrapper if that has them.
+# The structs by their names in the sources, in C, and in the Python wrapper if that has them.
 STRUCTS = (("View", "coset_sign1_view", None), ("Message", "coset_message_view", None), ("Span", "coset_span", "_Span"),
            ("Pair", "coset_pair", "_Pair"), ("Spans", "coset_message_spans_view", "_Spans"), ("Rules", "coset_rules", "_Rules"),
            ("Opened", "coset_opened", "_Opened"), ("Layer", "coset_layer", "_Layer"))
@@ -93,7 +87,7 @@ def is_never_null(argument):
 
 
 def compare_functions(sources, check):
-    """Compares the header's functions with the exports and with the Rust wrapper."""
+    """Compares the header's functions with the exports."""
     for name, arguments, needed in prototypes():
         never_null = [place for place, it in enumerate(arguments.split(","), 1) if is_never_null(it.strip())]
         said = list(map(int, needed.split(", ")))
@@ -102,11 +96,6 @@ def compare_functions(sources, check):
     exported = {name: [a for a in arguments if a != "Global"] for _, name, arguments in exports()}
     check(len(declared) == sources.count("#[unsafe(no_mangle)]"), "a function isn't declared, or not exported")
     check(declared == exported, f"the header's functions aren't those of the source: {declared} {exported}")
-    back = POINTERS | {rust: c for c, rust in WORDS.items() if "*" not in c}
-    for name, arguments in re.findall(r"pub fn (coset_\w+)\(([^)]*)\) -> i32;", read("c", "wrappers", "rust", "coset.rs")):
-        types = [a.split(":")[1].strip() for a in arguments.split(",")]
-        check(c_arguments(", ".join(f"{back[t]} x" for t in types)) == declared.pop(name, None), f"the Rust wrapper's {name}")
-    check(not declared, f"the Rust wrapper has no {', '.join(declared)}")
 
 
 def compare_marks(check):
@@ -189,14 +178,12 @@ def compare_go(check):
 def compare_structs(sources, check):
     """Compares the fields of the header's structs with those of the sources and of the wrappers."""
     sources += read("crates", "ffi_token", "src", "opened.rt") + read("crates", "ffi_query", "src", "elements.rt")
-    rust = read("c", "wrappers", "rust", "coset.rs").partition("mod c {")[2]
     python = read("c", "wrappers", "python", "coset", "__init__.py")
     types = {"int64": "i64", "uint32": "u32", "uint64": "u64", "size_t": "usize"}
     for struct, in_c, in_python in STRUCTS:
         fields = [(name, {**WORDS, "uint64_t": "u64"}[type_]) for type_, name in
                   re.findall(r"(\w+) (\w+);", re.search(rf"typedef struct {in_c} \{{(.*?)\}}", header(), re.S)[1])]
-        there = {"source": fields_in(r"pub (\w+): (\w+),", rf"struct {struct} \{{", sources),
-                 "Rust wrapper": fields_in(r"pub (\w+): (\w+),", rf"struct {struct} \{{", rust)}
+        there = {"source": fields_in(r"pub (\w+): (\w+),", rf"struct {struct} \{{", sources)}
         if in_python:
             before = rf"class {in_python}\(.*?_fields_ = \["
             there["Python wrapper"] = fields_in(r'\("(\w+)", ctypes\.c_(\w+)\)', before, python)
@@ -207,21 +194,16 @@ def compare_structs(sources, check):
             check(fields == found, f"the {name}'s {struct}: {found} and not {fields}")
 
 
-# Errors of Rust that have words of their own.
-OWN_WORDS = {"Memory", "Misuse", "NotKeySet"}
-
 
 def compare_texts(check):
-    """Compares the texts of errors in Rust and in Python with those of the library."""
+    """Compares the texts of errors in Python with those of the library."""
     told = dict(re.findall(r'case (?:COSET_)?(\w+): return "(.*?)";', read("c", "wrappers", "c", "text.c")))
     told = {"".join(it.title() for it in name.split("_")): text for name, text in told.items()}
     told["Refused"], told["TooManyKeys"] = told.pop("18"), told.pop("35")  # of coset_verify.h
-    rust = dict(re.findall(r'Error::(\w+) => "(.*)",', read("c", "wrappers", "rust", "coset.rs")))
     python = re.search(r"^_FAULTS = \{(.*?)^\}", read("c", "wrappers", "python", "coset", "__init__.py"), re.M | re.S)[1]
     python = {NAMES[int(number)]: text for number, text in re.findall(r'(\d+): "(.*)",', python)}
-    for language, texts in ("Rust", {name: rust[name] for name in rust.keys() - OWN_WORDS}), ("Python", python):
-        unlike = {name for name, text in texts.items() if told.get(name) != text}
-        check(texts and not unlike, f"the texts in {language} aren't those of text.c: {unlike}")
+    unlike = {name for name, text in python.items() if told.get(name) != text}
+    check(python and not unlike, f"the texts in Python aren't those of text.c: {unlike}")
 
 
 def compare(check):

@@ -8,7 +8,7 @@ import subprocess
 import sys
 import tempfile
 
-from capi import hints, install, interface, rust
+from capi import hints, install, interface
 from sources import read
 
 # The folder of the libraries, as Debian names it.
@@ -29,10 +29,10 @@ def has(tool):
     return shutil.which(tool) if tool != "pip" else not run(sys.executable, "-c", "import pip")
 
 
-def write_try(prefix, folder, path, more=None):
-    """Writes a file of c/packaging/try into the folder. `more` are further words to fill in."""
-    found = {**install.words(prefix, LIBDIR, True), **(more or {})}
-    install.place(folder, path, install.write(install.filled(read(f"c/packaging/try/{path}"), found)))
+def write_try(prefix, folder, path):
+    """Writes a file of c/packaging/try into the folder."""
+    text = install.filled(read(f"c/packaging/try/{path}"), install.words(prefix, LIBDIR, True))
+    install.place(folder, path, install.write(text))
 
 
 # ---- a program in each way. Each function returns the outputs of its programs
@@ -166,30 +166,7 @@ def wanted_about():
     return "\n".join([version, "COSE and CBOR web tokens, read and made (RFC 8152, RFC 8392)", "Apache-2.0 >=3.9", " ".join(names)])
 
 
-def by_cargo(prefix, folder, token):
-    told = []
-    for cargo in rust.each("cargo"):
-        # Before this version there is no later edition than that of the crate.
-        edition = "2024" if rust.version(cargo) >= (1, 85) else "2021"
-        write_try(prefix, folder, "Cargo.toml", {"EDITION": edition})
-        target, path = f"{folder}/target{len(told)}", f"{os.path.dirname(cargo)}:{os.environ['PATH']}"
-        where = {**os.environ, "PATH": path, "RUSTFLAGS": "-D warnings", "CARGO_TARGET_DIR": target}
-        build = [cargo, "build", "--offline", "--quiet"]
-        failed = run(*build, "--no-default-features", cwd=folder, env=where) + run(*build, cwd=folder, env=where)
-        told.append(failed or run(f"{target}/debug/try", token))
-        for named in ("lib", "", f"{folder}/target0"):
-            got = run(*build, cwd=folder, env={**where, "COSET_LIB_DIR": named})
-            told += [] if "there is no libcoset.a" in got else [f"a crate with the library in {named}: {got}"]
-        for numbers, is_earlier in versions().items():
-            at = of_version(f"{prefix}/{LIBDIR}", target, numbers)
-            got = run(*build, cwd=folder, env={**where, "COSET_LIB_DIR": at})
-            told += [] if is_earlier == ("earlier version than this crate" in got) == bool(got) else [f"a crate with {numbers}: {got}"]
-        # An older cargo doesn't read the file of a later one.
-        os.remove(f"{folder}/Cargo.lock")
-    return told
-
-
-WAYS = {"pkg-config": by_pkg_config, "cmake": by_cmake, "pip": by_pip, "cargo": by_cargo}
+WAYS = {"pkg-config": by_pkg_config, "cmake": by_cmake, "pip": by_pip}
 
 
 # ---- the installation itself
@@ -254,7 +231,7 @@ def tried(library, quick, token, payload, check):
         check(not hints.unlike(), f"the type hints of {', '.join(hints.unlike())} aren't those of the wrapper")
         try_symbols(prefix, check)
         try_requests(folder, check)
-        for path in ("try.c", "try.py", "about.py", "CMakeLists.txt", "src/main.rs"):
+        for path in ("try.c", "try.py", "about.py", "CMakeLists.txt"):
             write_try(prefix, folder, path)
         there = [tool for tool in WAYS if has(tool)]
         for tool in there:

@@ -12,7 +12,7 @@ import sys
 import tempfile
 
 from capi import (accepting, attack, calling, depths, examples, golang, hostile, install, interface, items, limits, memory, messages,
-                  misuses, openers, openssl, rows, rust, shapes, targets, tokens, trying, wasm)
+                  misuses, openers, openssl, rows, shapes, targets, tokens, trying, wasm)
 from capi.building import HERE, WRAPPERS, archive, build, build_callers, own_heap, run
 from capi.vectors import token
 from cbor import decode
@@ -99,8 +99,7 @@ def of_library(given, folder, objects, wrong):
     payload = decode(data)[0][2][1][2][1]
     told = [report, *trying.tried(folder, given.quick, data, payload, check)]
     refused = limits.refusals(own_heap(folder, objects, check), data, check)
-    versions = rust.without_std(folder, data, payload, check)
-    return [*told, f"over a heap of the program's own {refused}", *(f"also by Rust {it}" for it in versions)]
+    return [*told, f"over a heap of the program's own {refused}"]
 
 
 def with_memory(given, folder, lines, wanted, wrong):
@@ -147,32 +146,24 @@ def python_tests(library, wrong):
     return told
 
 
-def by_wrappers(given, folder, calls, wrong):
-    """Makes the calls from Rust and Python. Returns the numbers of calls."""
-    compiled, python = [f"{folder}/calls_rust"], [sys.executable, f"{WRAPPERS}/python/calls.py"]
+def by_python(given, folder, calls, wrong):
+    """Makes the calls from Python. Returns the numbers of calls."""
+    python = [sys.executable, f"{WRAPPERS}/python/calls.py"]
     library = {"env": {**os.environ, "COSET_LIBRARY": f"{folder}/libcoset.so", "PYTHONDONTWRITEBYTECODE": "1", "PYTHONOPTIMIZE": ""}}
-    programs = {"Rust": (compiled, {})} if shutil.which("rustc") else {}
-    programs["Python"] = (python, library)
     calls = [*calls, *accepting.calls()]
-    for name, (command, more) in programs.items():
-        calling.from_wrapper(name, command, calls, wrong.check, **more)
-        hostile.damage(name, command, f"{folder}/calls_c", wrong.check, **more)
+    calling.from_wrapper("Python", python, calls, wrong.check, **library)
+    hostile.damage("Python", python, f"{folder}/calls_c", wrong.check, **library)
     memory.wiped(folder, wrong.check)
-    tested = []
-    if "Rust" in programs:
-        rust.with_earlier_library(*compiled, calls, wrong.check)
-        tested.append(rust.tested(folder, wrong.check))
-    tested += [*([] if "Rust" in programs else ["there is no rustc"]), *python_tests(library, wrong)]
+    told = [f"from Python {len(calls)}", *python_tests(library, wrong)]
     if importlib.util.find_spec("cryptography"):
-        tested.append(f"with coset.crypto {accepting.by_ciphers(python, wrong.check, **library)}")
-    calling.texts(given.quick, [([f"{folder}/calls_c"], {}), *programs.values()], wrong.check)
-    return [*(f"from {name} {len(calls)}" for name in programs), *tested]
+        told.append(f"with coset.crypto {accepting.by_ciphers(python, wrong.check, **library)}")
+    calling.texts(given.quick, [([f"{folder}/calls_c"], {}), (python, library)], wrong.check)
+    return told
 
 
 def called(given, folder, objects, wrong):
     """Makes all calls. Returns the first faults, and a line with the numbers of calls."""
     build_callers(folder, objects)
-    rust.build_calls(folder)
     calls, every = every_call(wrong.check)
     lines, wanted = calling.from_c(f"{folder}/calls_c", every, wrong.check)
     calling.lengths(f"{folder}/calls_c", wrong.check)
@@ -183,7 +174,7 @@ def called(given, folder, objects, wrong):
     told += openssl.tried(folder, objects, wrong.check)
     told += of_library(given, folder, objects, wrong)
     told += with_memory(given, folder, lines, wanted, wrong)
-    told += by_wrappers(given, folder, calls, wrong)
+    told += by_python(given, folder, calls, wrong)
     told += wasm.tried(given, f"{folder}/calls_c", calls, wrong)
     told += golang.tried(given, folder, calls, wrong)
     return [*(text[:1000] for text in wrong[:20]), ", ".join([*told, f"wrong {len(wrong)}"])]

@@ -1,0 +1,189 @@
+//! Extracts Rust from the proved sources: what is left of them without contracts. Build scripts include these modules.
+
+mod conditions;
+mod frames;
+mod rewrite;
+mod signatures;
+mod tokens;
+
+use rewrite::File;
+use std::collections::BTreeSet;
+use std::path::{Path, PathBuf};
+use std::{env, fs, process};
+
+/// The crates of the package coset, lowest first.
+pub const LIBRARY: &[&str] = &[
+    "coset_value",
+    "coset_cbor",
+    "coset_iana",
+    "coset_codec",
+    "coset_label",
+    "coset_core",
+    "coset_sign",
+    "coset_msg",
+    "coset_recipient",
+    "coset_key",
+    "coset_claims",
+    "coset",
+    "coset_seen",
+];
+
+/// The crates of the package coset-cwt, lowest first.
+pub const CWT: &[&str] = &[
+    "cwt_gate",
+    "cwt_keys",
+    "cwt_ring",
+    "cwt_verify",
+    "cwt_confirm",
+    "cose_thumbprint",
+];
+
+/// Crates that are extracted together, lowest first, and the path of the Rust module that has them.
+#[derive(Clone, Copy)]
+pub struct Group<'a> {
+    pub home: &'a str,
+    pub names: &'a [&'a str],
+}
+
+/// The sources of a folder, in order.
+fn sources(folder: &Path, found: &mut Vec<PathBuf>) -> Result<(), String> {
+    let at = |e: std::io::Error| format!("{}: {e}", folder.display());
+    let entries = fs::read_dir(folder).map_err(at)?;
+    let mut paths = entries
+        .map(|e| Ok(e.map_err(at)?.path()))
+        .collect::<Result<Vec<_>, String>>()?;
+    paths.sort();
+    for path in paths {
+        if path.is_dir() {
+            sources(&path, found)?;
+        } else if path.extension().is_some_and(|it| it == "rt") {
+            found.push(path);
+        }
+    }
+    Ok(())
+}
+
+/// The crates whose signatures are the Rust crate's: those below its facade.
+fn is_library(name: &str) -> bool {
+    name.starts_with("coset_") && LIBRARY.contains(&name) && name != "coset_seen"
+}
+
+/// A source: its crate, its path, its path in the crate's `src`, and its text.
+struct Source<'a> {
+    name: &'a str,
+    path: PathBuf,
+    inner: PathBuf,
+    text: String,
+}
+
+/// Reads the sources of these crates.
+fn read<'a>(crates: &Path, names: &[&'a str]) -> Result<Vec<Source<'a>>, String> {
+    let mut texts = Vec::new();
+    for name in names {
+        let base = crates.join(name).join("src");
+        let mut found = Vec::new();
+        sources(&base, &mut found)?;
+        for path in found {
+            let text = fs::read_to_string(&path).map_err(|e| format!("{}: {e}", path.display()))?;
+            let inner = path
+                .strip_prefix(&base)
+                .expect("a path below it")
+                .to_path_buf();
+            texts.push(Source {
+                name,
+                path,
+                inner,
+                text,
+            });
+        }
+    }
+    Ok(texts)
+}
+
+/// Extracts the crates of `own`, which are built on those of `below`, from the folder `crates`. Writes their modules into the
+/// folder of `out`'s name, and into `out` the declarations of the modules. An error begins with the file and the line.
+pub fn extract(crates: &Path, below: &[Group], own: Group, out: &Path) -> Result<(), String> {
+    let library = below.first().unwrap_or(&own).home;
+    let mut prelude =
+        format!("#[allow(unused_imports)]\nuse {library}::kit::{{self, prelude::*}};\n");
+    if own.home == "crate" {
+        prelude += "#[allow(unused_imports)]\nuse crate::programs::{self, prelude::*};\n";
+    }
+    let mut homes = Vec::new();
+    for group in below.iter().chain([&own]) {
+        homes.extend(
+            group
+                .names
+                .iter()
+                .map(|name| (name.to_string(), format!("{}::{name}", group.home))),
+        );
+    }
+    let names: Vec<&str> = below
+        .iter()
+        .chain([&own])
+        .flat_map(|group| group.names)
+        .copied()
+        .collect();
+    let texts = read(crates, &names)?;
+    let refused =
+        |source: &Source, (line, what)| format!("{}:{line}: {what}", source.path.display());
+    let mut files = Vec::new();
+    let mut calls = BTreeSet::new();
+    for source in &texts {
+        let file = File::new(&source.text, source.name, &homes).map_err(|e| refused(source, e))?;
+        if is_library(source.name) {
+            calls.append(&mut file.wrapped());
+        }
+        if own.names.contains(&source.name) {
+            files.push((source, file));
+        }
+    }
+    let folder = out.with_extension("");
+    let failed = |e: std::io::Error| format!("{}: {e}", folder.display());
+    for (source, file) in files {
+        let rust = file
+            .rewrite(&calls, is_library(source.name), &prelude)
+            .map_err(|e| refused(source, e))?;
+        let is_root = matches!(source.inner.to_str(), Some("lib.rt" | "main.rt"));
+        let inner = if is_root {
+            PathBuf::from("mod.rs")
+        } else {
+            source.inner.with_extension("rs")
+        };
+        let target = folder.join(source.name).join(inner);
+        fs::create_dir_all(target.parent().expect("a folder")).map_err(failed)?;
+        fs::write(target, rust).map_err(failed)?;
+    }
+    let module = |name: &&str| {
+        let path = folder.join(name).join("mod.rs");
+        format!("#[allow(unused_imports, unused_variables)]\n#[path = {path:?}]\npub mod {name};\n")
+    };
+    fs::write(out, own.names.iter().map(module).collect::<String>()).map_err(failed)
+}
+
+/// Writes the documentation of the facade, which is that of the Rust crate.
+pub fn write_facade(crates: &Path, out: &Path) -> Result<(), String> {
+    let path = crates.join("coset/src/lib.rt");
+    let text = fs::read_to_string(&path).map_err(|e| format!("{}: {e}", path.display()))?;
+    let lines = text.lines().map_while(|line| line.strip_prefix("//!"));
+    let documentation: String = lines
+        .flat_map(|line| [line.strip_prefix(' ').unwrap_or(line), "\n"])
+        .collect();
+    fs::write(out, documentation).map_err(|e| format!("{}: {e}", out.display()))
+}
+
+/// Runs a build script: hands OUT_DIR to `extracts`. `root` is the repository, relative to the package.
+pub fn build(root: &str, extracts: impl Fn(&Path, &Path) -> Result<(), String>) {
+    let out = env::var_os("OUT_DIR").expect("cargo sets it");
+    let crates = Path::new(root).join("crates");
+    println!("cargo::rerun-if-changed={}", crates.display());
+    println!(
+        "cargo::rerun-if-changed={}",
+        Path::new(root).join("rust/extractor").display()
+    );
+    println!("cargo::rerun-if-changed=build.rs");
+    if let Err(refusal) = extracts(&crates, Path::new(&out)) {
+        println!("cargo::error={refusal}");
+        process::exit(1);
+    }
+}
