@@ -94,19 +94,22 @@ pub const METHODS: &[(&str, &str)] = &[
 ];
 
 /// Methods and associated functions of std that stay. Those of the sources stay, too.
-pub const KEPT_METHODS: &str = "all and any as_bytes as_deref as_mut_slice as_ref as_slice as_str \
-    binary_search_by_key bytes capacity chain chars checked_add checked_div checked_mul checked_rem \
-    checked_shl checked_sub clear cmp contains copied copy_from_slice destroy_empty encode_utf8 \
-    ends_with enumerate eq eq_ignore_ascii_case err filter find first floor from from_be_bytes get \
-    get_mut into into_iter is_ascii_alphabetic is_ascii_alphanumeric is_ascii_digit \
-    is_ascii_hexdigit is_ascii_lowercase is_empty is_eq is_err is_finite is_le is_none is_ok is_some \
-    is_sorted_by is_subset iter iter_mut kind last len lines map map_err max min next nth ok ok_or \
-    or_else overflowing_sub pad parse pop position push_reserved reader retain rev reverse \
-    rsplit_once saturating_add saturating_mul saturating_sub set skip_while sort_unstable split \
-    split_at split_at_mut split_first split_first_chunk split_last split_once starts_with stdin \
-    stdout strip_prefix strip_suffix swap take take_while then then_some to_be_bytes to_digit trim \
-    truncate try_from unsigned_abs unwrap unwrap_or unwrap_or_else windows wrapping_add \
-    replace count wrapping_mul wrapping_sub write_str zip open add";
+pub const KEPT_METHODS: &str = "\
+    abs_diff add all and any args as_bytes as_deref as_mut_slice as_ref as_slice as_str \
+    binary_search_by_key bytes capacity chain chars checked_add checked_div checked_mul \
+    checked_rem checked_shl checked_sub clear cmp contains context copied copy_from_slice count \
+    destroy_empty encode_utf8 ends_with enumerate eq_ignore_ascii_case err filter find first \
+    first_mut floor for_char from from_be_bytes from_utf8 get get_mut into into_iter \
+    is_ascii_alphabetic is_ascii_alphanumeric is_ascii_digit is_ascii_hexdigit \
+    is_ascii_lowercase is_control is_empty is_eq is_err is_finite is_le is_nan is_none is_ok \
+    is_some is_sorted_by is_subset is_whitespace iter iter_mut kind last last_mut len lines map \
+    map_err max min next nth ok ok_or open or_else overflowing_sub pad parse pop position \
+    push_reserved read_to_string reader replace retain rev reverse rsplit_once saturating_add \
+    saturating_mul saturating_sub set skip_while sort_unstable split split_at split_at_checked \
+    split_at_mut split_first split_first_chunk split_last split_once starts_with stdin stdout \
+    strip_prefix strip_suffix take take_while then then_some to_be_bytes to_digit trim \
+    trim_start truncate try_from unsigned_abs unwrap unwrap_or unwrap_or_else var windows \
+    wrapping_add wrapping_sub from_u32 write_str writer zip";
 
 /// Methods of the sources' traits whose names std has for other types. Their receivers are type
 /// parameters or the sources' own types, which have no method of std of that name.

@@ -14,8 +14,14 @@ fn run(out: &Path, programs: &[&str]) -> Result<(), String> {
     let names = &[LIBRARY, CWT].concat();
     let home = "crate::__proved";
     extract(crates, &[], Group { home, names }, &out.join("coset.rs"))?;
-    let library = Group { home: "::coset::__proved", names };
-    let programs = Group { home: "crate", names: programs };
+    let library = Group {
+        home: "::coset::__proved",
+        names,
+    };
+    let programs = Group {
+        home: "crate",
+        names: programs,
+    };
     extract(crates, &[library], programs, &out.join("programs.rs"))
 }
 
