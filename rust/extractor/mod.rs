@@ -1,7 +1,9 @@
 //! Extracts Rust from the proved sources: what is left of them without contracts. Build scripts include these modules.
 
+mod conditions;
 mod docs;
 pub mod file;
+mod frames;
 mod rewrite;
 mod signatures;
 pub mod tables;
@@ -50,7 +52,7 @@ pub struct Group<'a> {
 }
 
 /// The sources of a folder, in order.
-fn sources(folder: &Path, found: &mut Vec<PathBuf>) -> Result<(), String> {
+pub fn sources(folder: &Path, found: &mut Vec<PathBuf>) -> Result<(), String> {
     let at = |e: std::io::Error| format!("{}: {e}", folder.display());
     let entries = fs::read_dir(folder).map_err(at)?;
     let mut paths = entries
@@ -80,6 +82,15 @@ struct Source<'a> {
     text: String,
 }
 
+/// The path of a source's Rust, below its crate's folder.
+pub fn rust_path(base: &Path, path: &Path) -> PathBuf {
+    let inner = path.strip_prefix(base).expect("a path below it");
+    match inner.to_str() {
+        Some("lib.rt" | "main.rt") => PathBuf::from("mod.rs"),
+        _ => inner.with_extension("rs"),
+    }
+}
+
 /// Reads the sources of these crates.
 fn read<'a>(crates: &Path, names: &[&'a str]) -> Result<Vec<Source<'a>>, String> {
     let mut texts = Vec::new();
@@ -89,13 +100,7 @@ fn read<'a>(crates: &Path, names: &[&'a str]) -> Result<Vec<Source<'a>>, String>
         sources(&base, &mut found)?;
         for path in found {
             let text = fs::read_to_string(&path).map_err(|e| format!("{}: {e}", path.display()))?;
-            let inner = path.strip_prefix(&base).expect("a path below it");
-            let is_root = matches!(inner.to_str(), Some("lib.rt" | "main.rt"));
-            let inner = if is_root {
-                PathBuf::from("mod.rs")
-            } else {
-                inner.with_extension("rs")
-            };
+            let inner = rust_path(&base, &path);
             texts.push(Source {
                 name,
                 path,
@@ -129,6 +134,7 @@ fn known(groups: &[&Group], sources: &[(Source, File)]) -> Known {
     Known {
         homes: homes.collect(),
         functions: functions.collect(),
+        is_package: groups.iter().any(|group| group.home.starts_with("crate::")),
     }
 }
 

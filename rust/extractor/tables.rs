@@ -109,7 +109,7 @@ pub const KEPT_METHODS: &str = "\
     split_at_mut split_first split_first_chunk split_last split_once starts_with stdin stdout \
     strip_prefix strip_suffix take take_while then then_some to_be_bytes to_digit trim \
     trim_start truncate try_from unsigned_abs unwrap unwrap_or unwrap_or_else var windows \
-    wrapping_add wrapping_sub from_u32 write_str writer zip";
+    wrapping_add wrapping_sub from_u32 is_some_and write_str writer zip";
 
 /// Methods of the sources' traits whose names std has for other types. Their receivers are type
 /// parameters or the sources' own types, which have no method of std of that name.
@@ -120,8 +120,7 @@ pub const KEPT_ATTRIBUTES: &[&str] = &[
 ];
 pub const DROPPED_ATTRIBUTES: &[&str] = &["cycle", "tactic"];
 
-/// Macros, and the macro that stands for each. A caller from Rust has proved nothing: `prove!`
-/// panics if its condition is false.
+/// Macros, and the macro that stands for each.
 pub const MACROS: &[(&str, &str)] = &[
     ("assert", "assert"),
     ("assert_eq", "assert_eq"),
@@ -130,7 +129,6 @@ pub const MACROS: &[(&str, &str)] = &[
     ("format_args", "format_args"),
     ("matches", "matches"),
     ("panic", "panic"),
-    ("prove", "assert"),
     ("unreachable", "unreachable"),
     ("write", "write"),
     ("writeln", "writeln"),
