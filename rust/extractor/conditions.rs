@@ -1,6 +1,6 @@
 //! What the program says if a caller breaks a condition: the text of coset 0.4.2.
 
-use super::rewrite::File;
+use super::file::File;
 use super::tokens::Kind;
 
 /// Conditions of `prove!`, and the text of the panic. The text of any other is the condition.
@@ -33,7 +33,7 @@ const FIELDS: &[(&str, &str)] = &[
     ("payload", "payload missing"),
 ];
 
-impl File<'_> {
+impl File {
     /// Turns `prove!` into `assert!`, and what can't be reached in a proved program into a panic.
     pub fn conditions(&mut self) {
         for at in self.words() {

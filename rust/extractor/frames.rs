@@ -1,6 +1,6 @@
 //! Attributes that keep stack frames small if nothing is optimized.
 
-use super::rewrite::File;
+use super::file::File;
 
 /// Functions that read a header within another, as deep as the input nests them.
 const NESTED: &[&str] = &[
@@ -9,7 +9,7 @@ const NESTED: &[&str] = &[
     "fill_single_signature",
 ];
 
-impl File<'_> {
+impl File {
     /// Without optimization a frame has a place for each variable of each function that is inlined,
     /// so `inline(always)` holds for optimized code alone. The functions of `NESTED` are inlined in
     /// other code: two frames for a level of the input are smaller than five.

@@ -1,12 +1,16 @@
 //! Extracts Rust from the proved sources: what is left of them without contracts. Build scripts include these modules.
 
 mod conditions;
+mod docs;
+pub mod file;
 mod frames;
 mod rewrite;
 mod signatures;
+pub mod tables;
 mod tokens;
 
-use rewrite::File;
+use file::File;
+use rewrite::Known;
 use std::collections::BTreeSet;
 use std::path::{Path, PathBuf};
 use std::{env, fs, process};
@@ -38,6 +42,8 @@ pub const CWT: &[&str] = &[
     "cose_thumbprint",
 ];
 
+const UNUSED: &str = "#[allow(unused_imports)]\n";
+
 /// Crates that are extracted together, lowest first, and the path of the Rust module that has them.
 #[derive(Clone, Copy)]
 pub struct Group<'a> {
@@ -46,7 +52,7 @@ pub struct Group<'a> {
 }
 
 /// The sources of a folder, in order.
-fn sources(folder: &Path, found: &mut Vec<PathBuf>) -> Result<(), String> {
+pub fn sources(folder: &Path, found: &mut Vec<PathBuf>) -> Result<(), String> {
     let at = |e: std::io::Error| format!("{}: {e}", folder.display());
     let entries = fs::read_dir(folder).map_err(at)?;
     let mut paths = entries
@@ -68,12 +74,21 @@ fn is_library(name: &str) -> bool {
     name.starts_with("coset_") && LIBRARY.contains(&name) && name != "coset_seen"
 }
 
-/// A source: its crate, its path, its path in the crate's `src`, and its text.
+/// A source: its crate, its path, that of its Rust below the crate's folder, and its text.
 struct Source<'a> {
     name: &'a str,
     path: PathBuf,
     inner: PathBuf,
     text: String,
+}
+
+/// The path of a source's Rust, below its crate's folder.
+pub fn rust_path(base: &Path, path: &Path) -> PathBuf {
+    let inner = path.strip_prefix(base).expect("a path below it");
+    match inner.to_str() {
+        Some("lib.rt" | "main.rt") => PathBuf::from("mod.rs"),
+        _ => inner.with_extension("rs"),
+    }
 }
 
 /// Reads the sources of these crates.
@@ -85,10 +100,7 @@ fn read<'a>(crates: &Path, names: &[&'a str]) -> Result<Vec<Source<'a>>, String>
         sources(&base, &mut found)?;
         for path in found {
             let text = fs::read_to_string(&path).map_err(|e| format!("{}: {e}", path.display()))?;
-            let inner = path
-                .strip_prefix(&base)
-                .expect("a path below it")
-                .to_path_buf();
+            let inner = rust_path(&base, &path);
             texts.push(Source {
                 name,
                 path,
@@ -100,57 +112,78 @@ fn read<'a>(crates: &Path, names: &[&'a str]) -> Result<Vec<Source<'a>>, String>
     Ok(texts)
 }
 
-/// Extracts the crates of `own`, which are built on those of `below`, from the folder `crates`. Writes their modules into the
-/// folder of `out`'s name, and into `out` the declarations of the modules. An error begins with the file and the line.
+/// The words of the facade: among them are the names of the functions that it exports.
+fn exported(sources: &[Source]) -> BTreeSet<String> {
+    let of_facade = sources.iter().filter(|source| source.name == "coset");
+    let texts = of_facade.flat_map(|source| source.text.lines());
+    let code = texts.filter(|line| !line.trim_start().starts_with("//"));
+    code.flat_map(|line| line.split(|c: char| !c.is_alphanumeric() && c != '_'))
+        .map(String::from)
+        .collect()
+}
+
+/// Where Rust finds the crates of these groups, and the functions that they define.
+fn known(groups: &[&Group], sources: &[(Source, File)]) -> Known {
+    let homes = groups.iter().flat_map(|group| {
+        group
+            .names
+            .iter()
+            .map(|name| (name.to_string(), format!("{}::{name}", group.home)))
+    });
+    let functions = sources.iter().flat_map(|(_, file)| file.functions());
+    Known {
+        homes: homes.collect(),
+        functions: functions.collect(),
+        is_package: groups.iter().any(|group| group.home.starts_with("crate::")),
+    }
+}
+
+/// Extracts the crates of `own`, which are built on those of `below`, from the folder `crates`.
+/// Writes their modules into the folder of `out`'s name, and into `out` the declarations of the
+/// modules. An error begins with the file and the line.
 pub fn extract(crates: &Path, below: &[Group], own: Group, out: &Path) -> Result<(), String> {
-    let library = below.first().unwrap_or(&own).home;
-    let mut prelude =
-        format!("#[allow(unused_imports)]\nuse {library}::kit::{{self, prelude::*}};\n");
-    if own.home == "crate" {
-        prelude += "#[allow(unused_imports)]\nuse crate::programs::{self, prelude::*};\n";
-    }
-    let mut homes = Vec::new();
-    for group in below.iter().chain([&own]) {
-        homes.extend(
-            group
-                .names
-                .iter()
-                .map(|name| (name.to_string(), format!("{}::{name}", group.home))),
-        );
-    }
-    let names: Vec<&str> = below
+    let groups: Vec<&Group> = below.iter().chain([&own]).collect();
+    let names: Vec<&str> = groups
         .iter()
-        .chain([&own])
         .flat_map(|group| group.names)
         .copied()
         .collect();
-    let texts = read(crates, &names)?;
+    let sources = read(crates, &names)?;
+    let exported = exported(&sources);
     let refused =
         |source: &Source, (line, what)| format!("{}:{line}: {what}", source.path.display());
     let mut files = Vec::new();
     let mut calls = BTreeSet::new();
-    for source in &texts {
-        let file = File::new(&source.text, source.name, &homes).map_err(|e| refused(source, e))?;
+    for source in sources {
+        let file = File::new(&source.text).map_err(|e| refused(&source, e))?;
         if is_library(source.name) {
-            calls.append(&mut file.wrapped());
+            file.changed(&exported, &mut calls);
         }
-        if own.names.contains(&source.name) {
-            files.push((source, file));
-        }
+        files.push((source, file));
+    }
+    let known = known(&groups, &files);
+    let library = groups[0].home;
+    let mut prelude = format!("{UNUSED}use {library}::kit::{{self, prelude::*}};\n");
+    if own.home == "crate" {
+        prelude += &format!("{UNUSED}use crate::programs::{{self, prelude::*}};\n");
     }
     let folder = out.with_extension("");
     let failed = |e: std::io::Error| format!("{}: {e}", folder.display());
-    for (source, file) in files {
-        let rust = file
-            .rewrite(&calls, is_library(source.name), &prelude)
-            .map_err(|e| refused(source, e))?;
-        let is_root = matches!(source.inner.to_str(), Some("lib.rt" | "main.rt"));
-        let inner = if is_root {
-            PathBuf::from("mod.rs")
-        } else {
-            source.inner.with_extension("rs")
-        };
-        let target = folder.join(source.name).join(inner);
+    for (source, mut file) in files {
+        if !own.names.contains(&source.name) {
+            continue;
+        }
+        let is_library = is_library(source.name);
+        let rust = (|| {
+            if is_library {
+                file.write_beside(&exported)?;
+                file.must_use()?;
+            }
+            file.rename(&calls, is_library, &exported);
+            file.rewrite(source.name, &known, &prelude)
+        })();
+        let rust = rust.map_err(|e| refused(&source, e))?;
+        let target = folder.join(source.name).join(source.inner);
         fs::create_dir_all(target.parent().expect("a folder")).map_err(failed)?;
         fs::write(target, rust).map_err(failed)?;
     }
@@ -159,17 +192,6 @@ pub fn extract(crates: &Path, below: &[Group], own: Group, out: &Path) -> Result
         format!("#[allow(unused_imports, unused_variables)]\n#[path = {path:?}]\npub mod {name};\n")
     };
     fs::write(out, own.names.iter().map(module).collect::<String>()).map_err(failed)
-}
-
-/// Writes the documentation of the facade, which is that of the Rust crate.
-pub fn write_facade(crates: &Path, out: &Path) -> Result<(), String> {
-    let path = crates.join("coset/src/lib.rt");
-    let text = fs::read_to_string(&path).map_err(|e| format!("{}: {e}", path.display()))?;
-    let lines = text.lines().map_while(|line| line.strip_prefix("//!"));
-    let documentation: String = lines
-        .flat_map(|line| [line.strip_prefix(' ').unwrap_or(line), "\n"])
-        .collect();
-    fs::write(out, documentation).map_err(|e| format!("{}: {e}", out.display()))
 }
 
 /// Runs a build script: hands OUT_DIR to `extracts`. `root` is the repository, relative to the package.
