@@ -26,6 +26,7 @@ class Case(NamedTuple):
     shape: str
     told: Callable[[int], str]
     make: Callable[[int], bytes]
+    is_usual: bool = True
 
 
 def cases_of(program, reader, told, made):
@@ -217,8 +218,8 @@ def messages_of_c():
     """Yields the cases of the calls of C that read messages and headers."""
     headers = {name: (lambda n, make=make: shapes.pairs(make(n))) for name, make in shapes.headers().items()}
     yield from cases_of("growth", "coset_check of headers", "check 9 0", headers)
-    for call in ("write", "structure_of", "make"):
-        kind = 9 if call == "write" else number_of("sign1")
+    for call in ("write", "structure_of", "recipient_structure_of", "make"):
+        kind = KINDS["header"] if call == "write" else number_of("sign1")
         yield from cases_of("growth", f"coset_{call} of headers", f"{call} {kind} 0", chosen(headers, *SOME))
     sign1 = {f"protected header, {name}": in_sign1(name) for name in shapes.headers()}
     sign1 |= {f"unprotected header, {name}": in_sign1(name, place="unprotected") for name in SOME}
@@ -246,11 +247,11 @@ def lists_of_c():
             some = {shape: make for shape, make in made.items() if "of empty ones" in shape}
             for call in ("count", "member", "member_span", *(["structure", "message"] if name == "sign" else [])):
                 yield from cases_of("growth", f"coset_{call} of {name}, the last", lambda n, call=call, kind=kind: f"{call} {kind} {n - 1}", some)
-    nested = {"recipients, 100 levels deep": lambda n: shapes.recipient(inner=shapes.nested_recipients(n))}
+    nested = {"recipients, 120 levels deep": lambda n: shapes.recipient(inner=shapes.nested_recipients(n))}
     nested |= {name: (lambda n, make=make: shapes.recipient(shapes.pairs(make(n)))) for name, make in having(shapes.headers(), "s in random").items()}
     for call in ("check", "count", "recipient_structure", "write", "countersigned"):
         yield from cases_of("growth", f"coset_{call} of recipient", f"{call} {KINDS['recipient']} 7",
-                            nested if call != "count" else chosen(nested, "recipients, 100 levels deep"))
+                            nested if call != "count" else chosen(nested, "recipients, 120 levels deep"))
 
 
 def maps_of_c():
@@ -266,7 +267,8 @@ def maps_of_c():
     some = {name: having(made[name], "s in random order") for name in ("key", "claims", "value")}
     for name, of in some.items():
         last = lambda n, extra=(6 if name == "claims" else 0): n - 1 + extra
-        for call in ("label", "label_int", "label_span", "text_label", "label_at", "value_at", "pair_spans", "put", "put_all"):
+        for call in ("label", "label_int", "label_span", "text_label", "label_at", "value_at", "pair_spans", "put", "put_int", "put_bytes", "put_text",
+                     "put_text_label", "put_all"):
             at = call.endswith(("_at", "_spans"))
             shapes_of = {shape: make for shape, make in of.items() if not (at and "value:" in shape)}
             told = lambda n, call=call, kind=KINDS[name], at=at: f"{call} {kind} {last(n) if at else -1}"
@@ -295,7 +297,7 @@ def runs():
     signature = lambda n: shapes.signature(shapes.pairs(shapes.zeros(shapes.shuffled(shapes.integers(n)))))
     yield from cases_of("coset_show", "./run countersignature", "countersignature", {"labels: integers in random order": signature})
     made = {"key": having(shapes.keys(), "s in random order"), "claims": having(shapes.claim_sets(), "s in random order", "aud of names"),
-            "keyset": having(shapes.key_sets(), "for ES256", "100 labels"), "kdf": having(shapes.contexts(), "labels", "private"),
+            "keyset": having(shapes.key_sets(), "for ES256", "120 labels"), "kdf": having(shapes.contexts(), "labels", "private"),
             "value": having(shapes.VALUES, "levels", "chunks", "order")}
     for name, made in made.items():
         yield from cases_of("coset_show", f"./run {name}", name, made)
@@ -333,7 +335,7 @@ def notations():
         "comments": lambda n: ("[" + "/ c / " * n + "1]").encode(),
         "a sequence": lambda n: ("[], " * n + "[]").encode(),
         "embedded items 60 levels deep": lambda n: ("<<[" * 60 + "1, " * n + "1" + "]>>" * 60).encode(),
-        "arrays 200 levels deep": lambda n: (("[" + "1, " * (n // 200)) * 200 + "1" + "]" * 200).encode(),
+        "arrays 240 levels deep": lambda n: (("[" + "1, " * (n // 240)) * 240 + "1" + "]" * 240).encode(),
         "long numbers": lambda n: f"[{', '.join(['9' * 90] * (n // 10))}]".encode(),
         "base64 in quotes": lambda n: f"[b64'{'AAAA' * n}']".encode(),
         "a string without an end": lambda n: ('["' + "a" * n).encode(),
@@ -352,7 +354,7 @@ def looks():
     made = {"key": chosen(shapes.keys(), "labels: texts in random order", "key_ops, texts in random order"),
             "keyset": chosen(shapes.key_sets(), "keys for ES256"),
             "claims": chosen(shapes.claim_sets(), "labels: integers in random order", "aud of names"),
-            "mac": chosen(shapes.messages("mac"), "recipients, of empty ones", "recipients, 100 levels deep"),
+            "mac": chosen(shapes.messages("mac"), "recipients, of empty ones", "recipients, 120 levels deep"),
             "sign": chosen(shapes.messages("sign"), "signatures, of empty ones")}
     for kind, of in made.items():
         yield from cases_of("tool_look", f"./look {kind}", kind, of)

@@ -1,6 +1,7 @@
 """The hostile inputs of tools/growth. A shape is a function of a number n, and its bytes grow as n does.
 
-Labels are given by a list of encoded labels, so each list of pairs has one of the orders in `LABELS`."""
+Labels are given by a list of encoded labels, so each list of pairs has one of the orders in `LABELS`. The number n is a multiple
+of 240, so that each part of a shape is twice as long for 2n."""
 import random
 
 from capi.kinds import TAGS
@@ -107,7 +108,7 @@ VALUES = {
     "a text in chunks": lambda n: chunks(n, 3),
     "a long text": lambda n: text("é" * n),
     "arrays of indefinite length": lambda n: indefinite(4, indefinite(4) * n),
-    "tags 200 levels deep, again and again": lambda n: array([b"\xc1" * 200 + b"\x00"] * (n // 100)),
+    "tags 200 levels deep, again and again": lambda n: array([b"\xc1" * 200 + b"\x00"] * (n // 120)),
     "floats and big integers": lambda n: array([b"\xfb\x3f\xf1\x00\x00\x00\x00\x00\x00", b"\x1b" + b"\xff" * 8] * (n // 2)),
 }
 
@@ -198,7 +199,7 @@ def recipient(header=b"\xa0", inner=None):
     return (b"\x84" if inner else b"\x83") + b"\x40" + header + b"\xf6" + (inner or b"")
 
 
-def nested_recipients(n, levels=100):
+def nested_recipients(n, levels=120):
     """Returns recipients inside one another, each beside as many others as make n together."""
     inner = None
     for _ in range(levels):
@@ -209,12 +210,12 @@ def nested_recipients(n, levels=100):
 def lists(kind):
     """Returns the lists of n signatures or recipients, by name."""
     one = signature if kind == "sign" else recipient
-    header = pairs(zeros(shuffled(integers(100))))
+    header = pairs(zeros(shuffled(integers(120))))
     found = {
         "of empty ones": lambda n: array([one()] * n),
-        "each with 100 labels": lambda n: array([one(header)] * (n // 100)),
+        "each with 120 labels": lambda n: array([one(header)] * (n // 120)),
     }
-    return found if kind == "sign" else found | {"100 levels deep": nested_recipients}
+    return found if kind == "sign" else found | {"120 levels deep": nested_recipients}
 
 
 def messages(kind):
@@ -263,12 +264,12 @@ def es256(number, more=()):
 
 def key_sets():
     """Returns the sets with n keys or parts, by name."""
-    header = zeros(shuffled(integers(100)))
+    header = zeros(shuffled(integers(120)))
     return {
         "keys with their type alone": lambda n: array([b"\xa1\x01\x04"] * n),
         "keys with identifiers": lambda n: array([key([b"\x02" + byte_string(b"%06d" % i)]) for i in range(n)]),
         "keys for ES256": lambda n: array([es256(i) for i in range(n // 8)]),
-        "keys with 100 labels": lambda n: array([key(header)] * (n // 100)),
+        "keys with 120 labels": lambda n: array([key(header)] * (n // 120)),
         "keys that can't be read": lambda n: array([b"\xa1\x01\x04", b"\xa0"] * (n // 2)),
         "one key with many labels": lambda n: array([key(zeros(shuffled(integers(n))))]),
     }
@@ -312,7 +313,7 @@ def confirmations():
         "members, integers": lambda n: confirmed_by([b"\x03\x41k", *zeros(shuffled(integers(n)))]),
         "members, texts": lambda n: confirmed_by([b"\x03\x41k", *zeros(shuffled(texts(n)))]),
         "recipients of an encrypted key": lambda n: confirmed_by([b"\x02" + message("encrypt", last=array([recipient()] * n), tagged=False)]),
-        "recipients 100 levels deep": lambda n: confirmed_by([b"\x02" + message("encrypt", last=nested_recipients(n), tagged=False)]),
+        "recipients 120 levels deep": lambda n: confirmed_by([b"\x02" + message("encrypt", last=nested_recipients(n), tagged=False)]),
     }
 
 
