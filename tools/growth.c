@@ -14,8 +14,9 @@ static size_t n;
 static uint32_t kind;
 static int64_t number;
 
-__attribute__((noinline)) static void call_begins(void) { __asm__ volatile(""); }
-__attribute__((noinline)) static void call_ends(void) { __asm__ volatile(""); }
+/* Their bodies differ, or the compiler would make one function of both. */
+__attribute__((noinline)) static void call_begins(void) { __asm__ volatile("# begins"); }
+__attribute__((noinline)) static void call_ends(void) { __asm__ volatile("# ends"); }
 
 /* A policy that looks at everything. */
 static const int64_t algorithms[] = {-7, 5, 1}, critical[] = {33, -70000, -70001}, required[] = {1, 2, 3, 4, 5, 6, 7};

@@ -143,7 +143,7 @@ def signature(header=b"\xa0", protected=b""):
     return b"\x83" + byte_string(protected) + header + b"\x41s"
 
 
-def nested_signatures(n, label=7, levels=10):
+def nested_signatures(n, label=7, levels=4):
     """Returns a header whose countersignatures contain one another, each with as many labels as make n together."""
     header = b"\xa0"
     for _ in range(levels):
@@ -151,7 +151,7 @@ def nested_signatures(n, label=7, levels=10):
     return [integer(label) + signature(header)]
 
 
-def nested_protected(n, levels=10):
+def nested_protected(n, levels=4):
     """Returns the same through protected headers, whose content is inside byte strings."""
     content = b""
     for _ in range(levels):
@@ -174,8 +174,8 @@ def headers():
         "header claims": lambda n: [b"\x0f" + pairs(zeros(shuffled(integers(n))))],
         "countersignatures, label 7": lambda n: [b"\x07" + array([signature()] * n)],
         "countersignatures, label 11": lambda n: [b"\x0b" + array([signature(b"\xa1\x04\x41k", b"\xa1\x01\x26")] * n)],
-        "countersignatures 10 levels deep": nested_signatures,
-        "protected headers 10 levels deep": nested_protected,
+        "countersignatures 4 levels deep": nested_signatures,
+        "protected headers 4 levels deep": nested_protected,
         "crit, labels and countersignatures": lambda n: [
             critical(shuffled(integers(n))), *zeros(integers(n)), b"\x0b" + array([signature()] * n)],
     }
