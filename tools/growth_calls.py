@@ -337,7 +337,7 @@ def notations():
         "arrays 240 levels deep": lambda n: (("[" + "1, " * (n // 240)) * 240 + "1" + "]" * 240).encode(),
         "long numbers": lambda n: f"[{', '.join(['9' * 90] * (n // 10))}]".encode(),
         "base64 in quotes": lambda n: f"[b64'{'AAAA' * n}']".encode(),
-        "a string without an end": lambda n: ('["' + "a" * n).encode(),
+        "a string without an end": lambda n: ('["' + "a" * 16 * n).encode(),
     }
 
 
