@@ -159,7 +159,8 @@ def verified():
     some = having(every, *SOME, "header claims: ", "aud of", "both headers")
     yield from cases_of("test_verify", "verify_token with a ring of keys", f"ring i:{ring} #15 {shapes.NOW} {POLICY} {{}}", some)
     yield from cases_of("test_verify", "judge", f"judge yes {shapes.NOW} {{}}", having(every, *SOME, "payload, ", "both headers"))
-    yield from cases_of("growth", "coset_token_open, no layer opened", "token 0 0", having(every, "crit", "both headers", "in random order"))
+    headers = {name: make for name, make in having(every, "crit", "both headers", "in random order").items() if "payload" not in name}
+    yield from cases_of("growth", "coset_token_open, no layer opened", "token 0 0", headers)
     yield from cases_of("growth", "coset_token_open, all layers opened", "token 0 1", every | {"four layers": layered})
 
 
