@@ -82,7 +82,7 @@ def header_claims():
     return found | {
         "header claims: integers in the opposite order": lambda n: with_claims(zeros(shapes.integers(n))),
         "header claims: one of them, again and again": lambda n: with_claims([b"\x01\x61i"] * n, claimed=mixed(n)),
-        "header claims: long values that the payload doesn't have": lambda n: with_claims(value * (n // 40), claimed=mixed(n)),
+        "header claims: long values that the payload doesn't have": lambda n: with_claims(value * (n // 10), claimed=mixed(n)),
         "header claims: deep values": lambda n: with_claims(deep(n)),
         "header claims in the unprotected header": lambda n: with_claims(mixed(n), place=1),
         "header claims, crit and labels": lambda n: with_claims(mixed(n), [shapes.critical([b"\x0f"] * n), *mixed(n)]),
@@ -139,7 +139,7 @@ def tokens():
         "labels, under tag 61, with a MAC": lambda n: head(6, 61) + signed(shapes.zeros(shapes.integers(n)[::-1]), kind="mac0"),
         "a payload in chunks": lambda n: shapes.message("sign1", [shapes.ES256, shapes.TYPE], content=shapes.chunks(n)),
         "a type in chunks": lambda n: signed([b"\x10" + shapes.chunks(n, 3)]),
-        "a long type": lambda n: signed([b"\x10" + shapes.text("application/cwt;" + "a" * n)]),
+        "a long type": lambda n: signed([b"\x10" + shapes.text("application/cwt;" + "a" * 4 * n)]),
         "claims and labels": lambda n: signed(
             shapes.zeros(shapes.shuffled(shapes.texts(n))), content=shapes.claims(shapes.zeros(shapes.shuffled(shapes.integers(n))))),
     }
