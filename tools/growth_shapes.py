@@ -248,7 +248,7 @@ def keys():
     return found | {
         "key_ops, equal ones": lambda n: key([b"\x04" + array([b"\x01"] * n)]),
         "key_ops, integers in turn": lambda n: key([b"\x04" + array([bytes([1 + i % 10]) for i in range(n)])]),
-        "key_ops, texts ascending": lambda n: key([b"\x04" + array(texts(n))]),
+        "key_ops, texts ascending": lambda n: key([b"\x04" + array(texts(2 * n))]),
         "key_ops, texts descending": lambda n: key([b"\x04" + array(texts(n)[::-1])]),
         "key_ops, texts in random order": lambda n: key([b"\x04" + array(shuffled(texts(n)))]),
         "an identifier in chunks": lambda n: key([b"\x02" + chunks(n)]),
