@@ -1,6 +1,7 @@
 """The hostile inputs of tools/growth. A shape is a function of a number n, and its bytes grow as n does.
 
-Labels are given by a list of encoded labels, so each list of pairs has one of the orders in `LABELS`."""
+Labels are given by a list of encoded labels, so each list of pairs has one of the orders in `LABELS`. The number n is a multiple
+of 240, so that each part of a shape is twice as long for 2n."""
 import random
 
 from capi.kinds import TAGS
@@ -107,7 +108,7 @@ VALUES = {
     "a text in chunks": lambda n: chunks(n, 3),
     "a long text": lambda n: text("é" * n),
     "arrays of indefinite length": lambda n: indefinite(4, indefinite(4) * n),
-    "tags 200 levels deep, again and again": lambda n: array([b"\xc1" * 200 + b"\x00"] * (n // 100)),
+    "tags 200 levels deep, again and again": lambda n: array([b"\xc1" * 200 + b"\x00"] * (n // 120)),
     "floats and big integers": lambda n: array([b"\xfb\x3f\xf1\x00\x00\x00\x00\x00\x00", b"\x1b" + b"\xff" * 8] * (n // 2)),
 }
 
@@ -142,7 +143,7 @@ def signature(header=b"\xa0", protected=b""):
     return b"\x83" + byte_string(protected) + header + b"\x41s"
 
 
-def nested_signatures(n, label=7, levels=10):
+def nested_signatures(n, label=7, levels=4):
     """Returns a header whose countersignatures contain one another, each with as many labels as make n together."""
     header = b"\xa0"
     for _ in range(levels):
@@ -150,7 +151,7 @@ def nested_signatures(n, label=7, levels=10):
     return [integer(label) + signature(header)]
 
 
-def nested_protected(n, levels=10):
+def nested_protected(n, levels=4):
     """Returns the same through protected headers, whose content is inside byte strings."""
     content = b""
     for _ in range(levels):
@@ -173,8 +174,8 @@ def headers():
         "header claims": lambda n: [b"\x0f" + pairs(zeros(shuffled(integers(n))))],
         "countersignatures, label 7": lambda n: [b"\x07" + array([signature()] * n)],
         "countersignatures, label 11": lambda n: [b"\x0b" + array([signature(b"\xa1\x04\x41k", b"\xa1\x01\x26")] * n)],
-        "countersignatures 10 levels deep": nested_signatures,
-        "protected headers 10 levels deep": nested_protected,
+        "countersignatures 4 levels deep": nested_signatures,
+        "protected headers 4 levels deep": nested_protected,
         "crit, labels and countersignatures": lambda n: [
             critical(shuffled(integers(n))), *zeros(integers(n)), b"\x0b" + array([signature()] * n)],
     }
@@ -198,7 +199,7 @@ def recipient(header=b"\xa0", inner=None):
     return (b"\x84" if inner else b"\x83") + b"\x40" + header + b"\xf6" + (inner or b"")
 
 
-def nested_recipients(n, levels=100):
+def nested_recipients(n, levels=120):
     """Returns recipients inside one another, each beside as many others as make n together."""
     inner = None
     for _ in range(levels):
@@ -209,12 +210,12 @@ def nested_recipients(n, levels=100):
 def lists(kind):
     """Returns the lists of n signatures or recipients, by name."""
     one = signature if kind == "sign" else recipient
-    header = pairs(zeros(shuffled(integers(100))))
+    header = pairs(zeros(shuffled(integers(120))))
     found = {
         "of empty ones": lambda n: array([one()] * n),
-        "each with 100 labels": lambda n: array([one(header)] * (n // 100)),
+        "each with 120 labels": lambda n: array([one(header)] * (n // 120)),
     }
-    return found if kind == "sign" else found | {"100 levels deep": nested_recipients}
+    return found if kind == "sign" else found | {"120 levels deep": nested_recipients}
 
 
 def messages(kind):
@@ -247,7 +248,7 @@ def keys():
     return found | {
         "key_ops, equal ones": lambda n: key([b"\x04" + array([b"\x01"] * n)]),
         "key_ops, integers in turn": lambda n: key([b"\x04" + array([bytes([1 + i % 10]) for i in range(n)])]),
-        "key_ops, texts ascending": lambda n: key([b"\x04" + array(texts(n))]),
+        "key_ops, texts ascending": lambda n: key([b"\x04" + array(texts(2 * n))]),
         "key_ops, texts descending": lambda n: key([b"\x04" + array(texts(n)[::-1])]),
         "key_ops, texts in random order": lambda n: key([b"\x04" + array(shuffled(texts(n)))]),
         "an identifier in chunks": lambda n: key([b"\x02" + chunks(n)]),
@@ -263,12 +264,12 @@ def es256(number, more=()):
 
 def key_sets():
     """Returns the sets with n keys or parts, by name."""
-    header = zeros(shuffled(integers(100)))
+    header = zeros(shuffled(integers(120)))
     return {
         "keys with their type alone": lambda n: array([b"\xa1\x01\x04"] * n),
         "keys with identifiers": lambda n: array([key([b"\x02" + byte_string(b"%06d" % i)]) for i in range(n)]),
         "keys for ES256": lambda n: array([es256(i) for i in range(n // 8)]),
-        "keys with 100 labels": lambda n: array([key(header)] * (n // 100)),
+        "keys with 120 labels": lambda n: array([key(header)] * (n // 120)),
         "keys that can't be read": lambda n: array([b"\xa1\x01\x04", b"\xa0"] * (n // 2)),
         "one key with many labels": lambda n: array([key(zeros(shuffled(integers(n))))]),
     }
@@ -312,7 +313,7 @@ def confirmations():
         "members, integers": lambda n: confirmed_by([b"\x03\x41k", *zeros(shuffled(integers(n)))]),
         "members, texts": lambda n: confirmed_by([b"\x03\x41k", *zeros(shuffled(texts(n)))]),
         "recipients of an encrypted key": lambda n: confirmed_by([b"\x02" + message("encrypt", last=array([recipient()] * n), tagged=False)]),
-        "recipients 100 levels deep": lambda n: confirmed_by([b"\x02" + message("encrypt", last=nested_recipients(n), tagged=False)]),
+        "recipients 120 levels deep": lambda n: confirmed_by([b"\x02" + message("encrypt", last=nested_recipients(n), tagged=False)]),
     }
 
 

@@ -5,6 +5,7 @@ import shutil
 import subprocess
 import sys
 import tempfile
+import time
 
 import common
 from capi import interface, names
@@ -12,8 +13,8 @@ from capi import interface, names
 HERE = common.HERE
 WRAPPERS = f"{HERE}/c/wrappers"
 FLAGS = ["-std=c11", "-O2", "-Wall", "-Wextra", "-Werror", "-fPIC", f"-I{HERE}/c/include"]
-# The LLVM IR of the proved library.
-OF_PROVED = f"{HERE}/crates/ffi_c/out/module.ll"
+# The LLVM IR of the proved library, and the library over what `rt ci` left.
+OF_PROVED, BUILT_OVER = (f"{HERE}/crates/ffi_c/out/{it}" for it in ("module.ll", "libcoset_c.a"))
 # The tools with which the library is put together.
 TOOLS = ("cc", "ar", "ld", "objcopy")
 # The arguments with which a program calls an export, by type.
@@ -50,14 +51,19 @@ def over(to):
               "--toolchain", f"{kit}/toolchain", "--backend", "llvm", "-o", to]
 
 
-def built_over(folder):
-    """Proves and builds the static library over the libraries of this checkout, and returns its path. Leaves its LLVM IR for
-    `module`."""
-    made = f"{folder}/libcoset_c.a"
-    write_module(made)
-    if not os.path.exists(made):
-        sys.exit("ffi_c isn't built")
-    return made
+def built_over():
+    """Returns the static library over the libraries of this checkout. Proves and builds it if a source is newer, and leaves its
+    LLVM IR for `module`. `rt ci` removes both, so the first step of the gate that needs them makes them."""
+    if not all(common.is_fresh(it, "ffi_c") for it in (OF_PROVED, BUILT_OVER)):
+        begun = time.time()
+        with tempfile.TemporaryDirectory() as folder, common.signs_of_life("proving and building ffi_c"):
+            write_module(f"{folder}/libcoset_c.a")
+            if not os.path.exists(f"{folder}/libcoset_c.a"):
+                sys.exit("ffi_c isn't built")
+            shutil.move(f"{folder}/libcoset_c.a", BUILT_OVER)
+        # A source that changed in the meantime is then newer.
+        os.utime(BUILT_OVER, (begun, begun))
+    return BUILT_OVER
 
 
 def archive(is_quick):
