@@ -26,7 +26,7 @@
 //!
 //! - `None` doesn't mean that the bytes are no such message. If that matters, decode them.
 //! - Lengths must be definite, and both headers plain: [`is_plain_header`]. So there is no `crit`,
-//!   and no counter signature but an abbreviated one.
+//!   and no countersignature but an abbreviated one under the label 9.
 //! - Without its tag, a `COSE_Sign1` is also a `COSE_Mac0`. So you must know the kind.
 //! - [`layout_of`] finds the same parts, whatever the headers are, also of a `COSE_Mac` or
 //!   `COSE_Encrypt`. [`Layout::is_valid`] decodes the headers that aren't plain.

@@ -30,7 +30,7 @@ pub fn attack(kind: u8, bytes: &[u8]) {
         12 => drop(read_back::<ContentType>(bytes)),
         13 => drop(read_back::<KeyType>(bytes)),
         14 => drop(read_back::<KeyOperation>(bytes)),
-        15 => timestamp(bytes),
+        15 => drop(read_back::<Timestamp>(bytes)),
         _ => seen(bytes),
     }
 }
@@ -92,20 +92,6 @@ fn key(bytes: &[u8]) {
         assert_eq!(sorted.to_vec().expect("it is written again"), written);
     }
     let _ = key.to_sec1_octet_string();
-}
-
-/// A NaN isn't equal to itself, so times are compared as bytes.
-fn timestamp(bytes: &[u8]) {
-    let Ok(item) = Value::from_slice(bytes) else {
-        return;
-    };
-    if let Ok(time) = Timestamp::from_cbor_value(item) {
-        let _ = format!("{time:?}");
-        let item = time.clone().to_cbor_value().expect("it becomes an item");
-        let again = Timestamp::from_cbor_value(item.clone()).expect("the item is a time");
-        let again = again.to_cbor_value().and_then(Value::to_vec);
-        assert_eq!(again.ok(), item.to_vec().ok());
-    }
 }
 
 /// A message that is seen has the parts that it has if it is decoded, and the same structure.

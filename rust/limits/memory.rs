@@ -1,5 +1,6 @@
-//! A call that returns a `Result` returns `OutOfMemory` if an allocation fails, whichever it is.
-//! If it allocated in another way, the refused request would end the program, and so the tests.
+//! A call whose error can be `OutOfMemory` returns it if an allocation fails, whichever it is. If it
+//! allocated in another way, the refused request would end the program, and so the tests. Of calls
+//! that return a closure's error, the hidden form `NAME_checked` is tried: `NAME` itself panics.
 
 use crate::refusing::{Counted, granting};
 use coset::__proved::kit::TryClone;
