@@ -2,10 +2,8 @@
 
 #![forbid(unsafe_code)]
 
-#[macro_use]
-pub mod kit;
+pub mod encode;
 pub mod explain;
-pub mod fault;
 pub mod notation;
 pub mod seals;
 pub mod spell;

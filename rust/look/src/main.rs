@@ -3,8 +3,7 @@
 //! A file contains raw bytes, hexadecimal, base64, diagnostic notation, or bytes in another spelling. The options and the kind
 //! before a file say how it is shown. Standard error says how each file was read. The status is 0 if all are of their kinds, and
 //! 1 if one was refused. It is 2 if one couldn't be read, or an argument wasn't understood.
-use look::kit::hex;
-use look::explain::{Kind, push_comment, quoted_name};
+use look::explain::{Kind, comment, quoted_name};
 use look::view::{Asked, END, FRONT, Form, To, UNANSWERED, look, respell};
 use std::io::{self, IsTerminal, Read, Write};
 use std::process::ExitCode;
@@ -58,9 +57,9 @@ impl Arguments {
                 self.asked.now = moment.parse().ok();
                 return self.asked.now.is_some() || moment == "none";
             }
-            ("--external-aad", Some(digits)) => match hex::decode(digits) {
-                Ok(bytes) => self.asked.external_aad = bytes,
-                Err(_) => return false,
+            ("--external-aad", Some(digits)) => match bytes_of(digits) {
+                Some(bytes) => self.asked.external_aad = bytes,
+                None => return false,
             },
             ("--color", Some("always")) => self.asked.is_colored = true,
             ("--color", Some("never")) => self.asked.is_colored = false,
@@ -81,6 +80,16 @@ impl Arguments {
     }
 }
 
+/// Returns the bytes that the digits write in hexadecimal.
+fn bytes_of(digits: &str) -> Option<Vec<u8>> {
+    let digit = |digit: &u8| char::from(*digit).to_digit(16);
+    let byte = |pair: &[u8]| match pair {
+        [high, low] => Some((digit(high)? * 16 + digit(low)?) as u8),
+        _ => None,
+    };
+    digits.as_bytes().chunks(2).map(byte).collect()
+}
+
 /// Shows an input of that name, which is quoted if it has to be, and returns the status.
 fn show(arguments: &Arguments, input: &[u8], name: &str) -> io::Result<u8> {
     let mut out = io::stdout().lock();
@@ -98,9 +107,7 @@ fn show(arguments: &Arguments, input: &[u8], name: &str) -> io::Result<u8> {
     let shown = look(asked, input, name);
     say(&shown.said)?;
     if !name.is_empty() && !matches!(asked.form, Form::Page | Form::Json) {
-        let mut comment = String::new();
-        push_comment(&mut comment, name);
-        writeln!(out, "{comment}")?;
+        writeln!(out, "{}", comment(name))?;
     }
     out.write_all(shown.text.as_bytes())?;
     Ok(shown.status)
@@ -146,7 +153,7 @@ fn answer_all() -> io::Result<u8> {
     let words: Vec<_> = std::env::args_os().skip(1).collect();
     let is_terminal = io::stdout().is_terminal()
         && std::env::var_os("NO_COLOR").is_none_or(|value| value.is_empty());
-    let mut asked = Asked::new();
+    let mut asked = Asked::default();
     asked.is_colored = is_terminal;
     let is_page = words.iter().any(|word| word == "--html");
     if is_page {

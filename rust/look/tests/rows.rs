@@ -1,23 +1,29 @@
-//! Rows of input, each with its answer in the file `rows/NAME.expected`. Empty lines and those that
-//! begin with `#` stay.
+//! Rows of input, each with its answer in the file `rows/NAME.expected`. Headings stay.
 
 use coset_cwt::Form;
 use look::spell::{Unread, Why, content_of_bytes, content_of_text, read_input};
 use look::{notation, seals};
 use std::fs;
 
+fn is_heading(row: &str) -> bool {
+    row.is_empty() || row.starts_with('#')
+}
+
 /// Compares the answers for a file's rows with those that are expected.
-fn check(name: &str, answer: impl Fn(&str) -> String) {
+fn check(name: &str, is_heading: fn(&str) -> bool, answer: fn(&str) -> String) {
     let folder = concat!(env!("CARGO_MANIFEST_DIR"), "/tests/rows");
     let rows = fs::read_to_string(format!("{folder}/{name}")).unwrap();
     let expected = fs::read_to_string(format!("{folder}/{name}.expected")).unwrap();
     assert_eq!(rows.lines().count(), expected.lines().count(), "{name}");
-    let is_kept = |row: &str| row.is_empty() || row.starts_with("# ") || row == "#";
     let wrong: Vec<String> = rows
         .lines()
         .zip(expected.lines())
         .filter_map(|(row, expected)| {
-            let got = if is_kept(row) { row.to_string() } else { answer(row) };
+            let got = if is_heading(row) {
+                row.to_string()
+            } else {
+                answer(row)
+            };
             (got != expected).then(|| format!("{row}: {got}, not {expected}"))
         })
         .collect();
@@ -38,7 +44,10 @@ fn unescaped(row: &str) -> Vec<u8> {
     let (mut bytes, mut left) = (Vec::new(), row.as_bytes());
     while let [first, rest @ ..] = left {
         let (byte, count) = match (first, rest) {
-            (b'\\', [b'x', ..]) => (u8::from_str_radix(&row[row.len() - rest.len() + 1..][..2], 16).unwrap(), 4),
+            (b'\\', [b'x', ..]) => (
+                u8::from_str_radix(&row[row.len() - rest.len() + 1..][..2], 16).unwrap(),
+                4,
+            ),
             (b'\\', [b'n', ..]) => (b'\n', 2),
             (b'\\', [b'r', ..]) => (b'\r', 2),
             (b'\\', [b't', ..]) => (b'\t', 2),
@@ -56,32 +65,45 @@ fn unescaped(row: &str) -> Vec<u8> {
 /// reason and the character there. The content follows if it is known and no CBOR.
 #[test]
 fn spell() {
-    check("spell", |row| {
-        let input = unescaped(row);
-        let (told, content) = match read_input(&input) {
-            Ok(reading) => (
-                format!("{:?} {}", reading.spelling, hex(&reading.bytes)),
-                content_of_bytes(&reading.bytes),
-            ),
-            Err(Unread { spelling, why, line, column, character, .. }) => (
-                format!(
-                    "{line}:{column} {spelling:?} {why:?} {}",
-                    character.map_or("end".into(), |c| format!("U+{:04X}", u32::from(c)))
+    check(
+        "spell",
+        |row| row.starts_with("# "),
+        |row| {
+            let input = unescaped(row);
+            let (told, content) = match read_input(&input) {
+                Ok(reading) => (
+                    format!("{:?} {}", reading.spelling, hex(&reading.bytes)),
+                    content_of_bytes(&reading.bytes),
                 ),
-                content_of_text(&input).filter(|_| why == Why::Digit),
-            ),
-        };
-        content.map_or(told.clone(), |content| format!("{told} {content:?}"))
-    });
+                Err(Unread {
+                    spelling,
+                    why,
+                    line,
+                    column,
+                    character,
+                    ..
+                }) => (
+                    format!(
+                        "{line}:{column} {spelling:?} {why:?} {}",
+                        character.map_or("end".into(), |c| format!("U+{:04X}", u32::from(c)))
+                    ),
+                    content_of_text(&input).filter(|_| why == Why::Digit),
+                ),
+            };
+            content.map_or(told.clone(), |content| format!("{told} {content:?}"))
+        },
+    );
 }
 
 /// Diagnostic notation. The answer is its bytes, or the offset of the fault and what is needed
 /// there.
 #[test]
 fn diagnostic_notation() {
-    check("notation", |row| match notation::bytes_of(row) {
-        Ok(bytes) => hex(&bytes),
-        Err(fault) => format!("error: {}, {}", fault.offset, fault.expected.text()),
+    check("notation", is_heading, |row| {
+        match notation::bytes_of(row) {
+            Ok(bytes) => hex(&bytes),
+            Err(fault) => format!("error: {}, {}", fault.offset, fault.expected.text()),
+        }
     });
 }
 
@@ -89,7 +111,7 @@ fn diagnostic_notation() {
 /// `;` for the end of a line, and spaces for tabs.
 #[test]
 fn signatures_and_keys() {
-    check("seals", |row| {
+    check("seals", is_heading, |row| {
         let words: Vec<&str> = row.split(' ').collect();
         let form = match words[1] {
             "auto" => None,
@@ -101,8 +123,14 @@ fn signatures_and_keys() {
             "encrypt" => Some(Form::Encrypt),
             other => panic!("{other}"),
         };
-        let word = |at: usize| words.get(at).filter(|word| **word != "-").map_or(Vec::new(), |word| unhex(word));
-        seals::described(form, &word(2), &word(3), &word(4))
-            .map_or("no message".into(), |text| text.replace('\t', " ").replace('\n', ";"))
+        let word = |at: usize| {
+            words
+                .get(at)
+                .filter(|word| **word != "-")
+                .map_or(Vec::new(), |word| unhex(word))
+        };
+        seals::described(form, &word(2), &word(3), &word(4)).map_or("no message".into(), |text| {
+            text.replace('\t', " ").replace('\n', ";")
+        })
     });
 }

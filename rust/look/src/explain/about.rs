@@ -1,12 +1,12 @@
 //! The facts that a summary tells, as the walk finds them.
 
+use crate::explain::frame::{Container, Frame, Standing};
+use crate::explain::head::{is_chunked_bytes, tag};
+use crate::explain::moment::{is_early, is_over, moment};
+use crate::explain::role::{Message, Role, title};
 use coset::CoseError;
 use coset::cbor::head::{Head, MajorType};
 use coset::cwt::Timestamp;
-use crate::explain::frame::{Container, Frame, Standing};
-use crate::explain::head::tag;
-use crate::explain::moment::{is_early, is_over, moment};
-use crate::explain::role::{Message, Role, Word, title};
 
 /// The most messages and claims inside that are named.
 const NAMED: usize = 6;
@@ -15,7 +15,7 @@ const NAMED: usize = 6;
 const AUTH_DATA: u64 = 37;
 
 /// The numbers of the parts that have to be checked with a key.
-#[derive(Clone, Copy, Debug)]
+#[derive(Clone, Copy, Debug, Default)]
 pub(crate) struct Seals {
     pub(crate) signatures: usize,
     pub(crate) countersignatures: usize,
@@ -27,6 +27,7 @@ pub(crate) struct Seals {
 }
 
 /// The facts that a summary tells.
+#[derive(Default)]
 pub(crate) struct About {
     /// The tags before the first item that is no tag.
     pub(crate) tags: Vec<u64>,
@@ -61,36 +62,6 @@ pub(crate) struct About {
 }
 
 impl About {
-    /// Returns the facts before the first item.
-    pub(crate) fn new() -> About {
-        About {
-            tags: Vec::new(),
-            item: None,
-            format: None,
-            has_documents: false,
-            inside: Vec::new(),
-            seals: Seals {
-                signatures: 0,
-                countersignatures: 0,
-                macs: 0,
-                ciphertexts: 0,
-                lists: 0,
-                filled_lists: 0,
-            },
-            is_detached: false,
-            is_chunked: false,
-            claims: None,
-            is_of_header: false,
-            expiry: None,
-            start: None,
-            issued: None,
-            others_expired: false,
-            others_early: false,
-            unread: None,
-            others_unread: None,
-        }
-    }
-
     /// Takes the facts of the next item of the frame, which has this role and this head.
     pub(crate) fn see(&mut self, frame: &Frame, role: Role, head: &Head, now: Option<i64>) {
         if self.item.is_some() {
@@ -132,23 +103,21 @@ impl About {
         }
         let count = head.number().unwrap_or(0);
         let format = match (frame.word, head.major_type) {
-            (Word::Documents, MajorType::Array) => {
+            (b"documents", MajorType::Array) => {
                 self.has_documents = true;
                 return;
             }
-            (Word::AuthData, MajorType::Bytes) if AUTH_DATA <= count => {
-                "WebAuthn attestation object"
-            }
-            (Word::IssuerAuth, MajorType::Array) if count != 4 => return,
-            (Word::IssuerAuth, MajorType::Array) if self.has_documents => "mdoc DeviceResponse",
-            (Word::IssuerAuth, MajorType::Array) => "mdoc IssuerSigned",
-            (Word::ValueDigests, MajorType::Map) => "mdoc MobileSecurityObject",
+            (b"authData", MajorType::Bytes) if AUTH_DATA <= count => "WebAuthn attestation object",
+            (b"issuerAuth", MajorType::Array) if count != 4 => return,
+            (b"issuerAuth", MajorType::Array) if self.has_documents => "mdoc DeviceResponse",
+            (b"issuerAuth", MajorType::Array) => "mdoc IssuerSigned",
+            (b"valueDigests", MajorType::Map) => "mdoc MobileSecurityObject",
             _ => return,
         };
         let is_outer = matches!(self.item, Some((Role::Any, MajorType::Map)));
         if is_outer && self.format.is_none() {
             self.format = Some(format);
-        } else if frame.word == Word::ValueDigests && self.inside.len() < NAMED {
+        } else if frame.word == b"valueDigests" && self.inside.len() < NAMED {
             self.inside.push("a MobileSecurityObject");
         }
     }
@@ -156,46 +125,34 @@ impl About {
     /// Counts a signature, a MAC or a ciphertext.
     fn see_seal(&mut self, frame: &Frame, role: Role, head: &Head) {
         let seals = &mut self.seals;
-        if role == Role::Signature && head.major_type == MajorType::Array {
-            if frame.role == Role::Signatures {
-                seals.signatures = seals.signatures.saturating_add(1);
-                if frame.index == 0 {
-                    seals.filled_lists = seals.filled_lists.saturating_add(1);
-                }
-            } else {
-                seals.countersignatures = seals.countersignatures.saturating_add(1);
-            }
+        let is_signature = role == Role::Signature && head.major_type == MajorType::Array;
+        if is_signature && frame.role == Role::Signatures {
+            seals.signatures += 1;
+            seals.filled_lists += usize::from(frame.index == 0);
+        } else if is_signature {
+            seals.countersignatures += 1;
         }
         if matches!(frame.role, Role::Header(_)) && matches!(frame.value_label(), Some(9 | 12)) {
-            seals.countersignatures = seals.countersignatures.saturating_add(1);
+            seals.countersignatures += 1;
         }
         if frame.container != Container::Array {
             return;
         }
         match (frame.role, frame.index) {
-            (Role::Message(Message::Sign1, _), 3) => {
-                seals.signatures = seals.signatures.saturating_add(1);
-            }
-            (Role::Message(Message::Sign, _), 3) => {
-                seals.lists = seals.lists.saturating_add(1);
-            }
-            (Role::Message(Message::Mac0 | Message::Mac, _), 3) => {
-                seals.macs = seals.macs.saturating_add(1);
-            }
-            (Role::Message(Message::Encrypt0 | Message::Encrypt, _), 2) => {
-                seals.ciphertexts = seals.ciphertexts.saturating_add(1);
-            }
+            (Role::Message(Message::Sign1, _), 3) => seals.signatures += 1,
+            (Role::Message(Message::Sign, _), 3) => seals.lists += 1,
+            (Role::Message(Message::Mac0 | Message::Mac, _), 3) => seals.macs += 1,
+            (Role::Message(Message::Encrypt0 | Message::Encrypt, _), 2) => seals.ciphertexts += 1,
             _ => {}
         }
-        let is_content = matches!((frame.role, frame.index), (Role::Message(_, _), 2));
-        self.is_detached = self.is_detached || is_content && head.is_null();
+        let is_content = matches!((frame.role, frame.index), (Role::Message(..), 2));
+        self.is_detached |= is_content && head.is_null();
     }
 
     /// Takes whether a payload or a protected header is in chunks.
     fn see_chunks(&mut self, role: Role, head: &Head) {
         let is_opened = matches!(role, Role::Payload(_) | Role::Protected);
-        let is_chunked = head.major_type == MajorType::Bytes && head.is_indefinite();
-        self.is_chunked = self.is_chunked || is_opened && is_chunked;
+        self.is_chunked |= is_opened && is_chunked_bytes(head);
     }
 
     /// Takes why a payload or other claims aren't read. Their times, and those of headers around
@@ -203,20 +160,16 @@ impl About {
     pub(crate) fn see_unread(&mut self, frame: &Frame, role: Role, error: &CoseError) {
         match (frame.standing, role) {
             (Standing::Added | Standing::Unread, _) => {}
-            (Standing::Own, Role::Payload(_)) => {
-                self.unread = Some(format!("{error}"));
-            }
-            _ => self.others_unread = Some(format!("{error}")),
+            (Standing::Own, Role::Payload(_)) => self.unread = Some(error.to_string()),
+            _ => self.others_unread = Some(error.to_string()),
         }
     }
 
     /// Takes a time of claims. The first claims with a time give the times of the summary, but
     /// those of a payload precede those of a header. Times that anyone can add don't count.
     fn see_time(&mut self, frame: &Frame, role: Role, head: &Head, now: Option<i64>) {
-        if !matches!(role, Role::Expiry | Role::Start | Role::Time) {
-            return;
-        }
-        if matches!(frame.standing, Standing::Added | Standing::Unread) {
+        let is_added = matches!(frame.standing, Standing::Added | Standing::Unread);
+        if is_added || !matches!(role, Role::Expiry | Role::Start | Role::Time) {
             return;
         }
         let Some(timestamp) = moment(head) else {
@@ -235,24 +188,18 @@ impl About {
             Role::Expiry if is_first => self.expiry = Some(timestamp),
             Role::Start if is_first => self.start = Some(timestamp),
             Role::Time if is_first => self.issued = Some(timestamp),
-            Role::Expiry => {
-                self.others_expired = self.others_expired || is_over(&timestamp, now);
-            }
-            Role::Start => {
-                self.others_early = self.others_early || is_early(&timestamp, now);
-            }
+            Role::Expiry => self.others_expired |= is_over(&timestamp, now),
+            Role::Start => self.others_early |= is_early(&timestamp, now),
             _ => {}
         }
     }
 
     /// Makes the times so far those of other claims.
     fn replace_times(&mut self, now: Option<i64>) {
-        if let Some(expiry) = self.expiry.take() {
-            self.others_expired = self.others_expired || is_over(&expiry, now);
-        }
-        if let Some(start) = self.start.take() {
-            self.others_early = self.others_early || is_early(&start, now);
-        }
+        let expiry = self.expiry.take();
+        self.others_expired |= expiry.is_some_and(|expiry| is_over(&expiry, now));
+        let start = self.start.take();
+        self.others_early |= start.is_some_and(|start| is_early(&start, now));
         self.issued = None;
     }
 }

@@ -1,5 +1,6 @@
 //! The authenticator data of a WebAuthn attestation object (W3C WebAuthn, section 6.1).
 
+use crate::encode::hex;
 use coset::cbor::de::Pull;
 
 /// The flags, from the lowest bit on. Bits without a name are reserved.
@@ -15,77 +16,51 @@ const FLAGS: [(u8, &str); 6] = [
 /// The flag of attested credential data.
 const ATTESTED: u8 = 0x40;
 
-/// Takes so many bytes from the front of the rest. Takes nothing if there are fewer.
-fn take<'a>(rest: &mut &'a [u8], count: usize) -> Option<&'a [u8]> {
-    let all = *rest;
-    if all.len() < count {
-        return None;
-    }
-    let (front, behind) = all.split_at(count);
-    *rest = behind;
-    Some(front)
+/// Returns the names of the flags that are set, each after a space.
+fn flag_names(flags: u8) -> String {
+    let is_set = |(flag, _): &&(u8, &str)| flags & flag != 0;
+    FLAGS
+        .iter()
+        .filter(is_set)
+        .map(|(_, name)| format!(" {name}"))
+        .collect()
 }
 
-/// Returns the number that the bytes are, the most significant byte first.
-fn number(bytes: &[u8]) -> u32 {
-    let mut number = 0u32;
-    for byte in bytes {
-        number = number.saturating_mul(256).saturating_add(u32::from(*byte));
-    }
-    number
-}
-
-/// Adds the names of the flags that are set.
-fn push_flags(note: &mut String, flags: u8) {
-    note.push_str("flags");
-    for (flag, name) in FLAGS {
-        if flags & flag != 0 {
-            put!(note, " {name}");
-        }
-    }
-}
-
-/// Adds the attested credential data at the front of the rest: AAGUID, credential id and public
-/// key. Returns false if it ends too early.
-fn push_credential(note: &mut String, mut rest: &[u8]) -> bool {
-    let (Some(aaguid), Some(length)) = (take(&mut rest, 16), take(&mut rest, 2)) else {
-        return false;
+/// Returns the attested credential data at the front: AAGUID, credential id and public key. The
+/// text ends where the data ends too early.
+fn credential(data: &[u8]) -> String {
+    const CUT: &str = ", and then it ends too early";
+    let front = data.split_at_checked(16).and_then(|(aaguid, rest)| {
+        let (length, rest) = rest.split_first_chunk()?;
+        let (id, key) = rest.split_at_checked(u16::from_be_bytes(*length).into())?;
+        Some((hex(aaguid), hex(id), key))
+    });
+    let Some((aaguid, id, key)) = front else {
+        return CUT.into();
     };
-    let Some(id) = take(&mut rest, number(length) as usize) else {
-        return false;
-    };
-    let (aaguid, id) = (crate::kit::hex::encode(aaguid), crate::kit::hex::encode(id));
-    put!(note, ", AAGUID {aaguid}, credential id h'{id}'");
-    match Pull::new(rest) {
+    let ids = format!(", AAGUID {aaguid}, credential id h'{id}'");
+    match Pull::new(key) {
         Ok((key, behind)) => {
             let (length, left) = (key.slice().len(), behind.len());
-            put!(
-                note,
-                ", COSE_Key of {length} bytes, {left} bytes of extensions"
-            );
-            true
+            format!("{ids}, COSE_Key of {length} bytes, {left} bytes of extensions")
         }
-        Err(_) => false,
+        Err(_) => ids + CUT,
     }
 }
 
-/// Adds what the authenticator data says to the note.
-pub(crate) fn push(note: &mut String, data: &[u8]) {
-    let mut rest = data;
-    let (Some(hash), Some(flags), Some(counter)) =
-        (take(&mut rest, 32), take(&mut rest, 1), take(&mut rest, 4))
-    else {
-        return;
+/// Returns what the authenticator data says, or `None` if it is too short.
+pub(crate) fn described(data: &[u8]) -> Option<String> {
+    let (hash, rest) = data.split_at_checked(32)?;
+    let (flags, rest) = rest.split_first()?;
+    let (counter, rest) = rest.split_first_chunk()?;
+    let (hash, counter) = (hex(hash), u32::from_be_bytes(*counter));
+    let names = flag_names(*flags);
+    let attested = if flags & ATTESTED == 0 {
+        String::new()
+    } else {
+        credential(rest)
     };
-    if !note.is_empty() {
-        note.push_str(": ");
-    }
-    let (hash, counter) = (crate::kit::hex::encode(hash), number(counter));
-    put!(note, "rpIdHash h'{hash}', ");
-    let flags = flags.first().copied().unwrap_or(0);
-    push_flags(note, flags);
-    put!(note, ", counter {counter}");
-    if flags & ATTESTED != 0 && !push_credential(note, rest) {
-        note.push_str(", and then it ends too early");
-    }
+    Some(format!(
+        "rpIdHash h'{hash}', flags{names}, counter {counter}{attested}"
+    ))
 }

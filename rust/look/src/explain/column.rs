@@ -1,6 +1,7 @@
 //! Lines whose bytes are the input.
 
 use crate::explain::cover::Cover;
+use std::mem::take;
 
 /// A line: some bytes of the input and their meaning.
 pub struct Line<'a> {
@@ -47,20 +48,9 @@ impl<'a> Column<'a> {
         }
     }
 
-    /// Returns the cover of the next line, or `Refused` if its bytes were refused.
-    fn shown_cover(&self) -> Cover {
-        if self.is_refused {
-            Cover::Refused
-        } else {
-            self.cover
-        }
-    }
-
     /// Returns the bytes that belong neither to a line nor to the next one.
     pub(crate) fn ahead(&self) -> &'a [u8] {
-        let all = self.rest;
-        let (_, ahead) = all.split_at(self.held.min(all.len()));
-        ahead
+        &self.rest[self.held..]
     }
 
     /// Returns true if the next line has bytes or text.
@@ -68,28 +58,26 @@ impl<'a> Column<'a> {
         0 < self.held || !self.text.is_empty()
     }
 
-    /// Adds `count` bytes to the next line.
+    /// Adds `count` bytes to the next line, or all that are ahead if there are fewer.
     pub(crate) fn hold(&mut self, count: usize) {
-        self.held = self.held.saturating_add(count);
+        self.held += count.min(self.ahead().len());
     }
 
     /// Ends the next line, and begins another.
     pub(crate) fn end_line(&mut self, depth: usize) {
-        let all = self.rest;
-        let (bytes, rest) = all.split_at(self.held.min(all.len()));
-        let text = std::mem::take(&mut self.text);
-        let note = std::mem::take(&mut self.note);
-        let cover = self.shown_cover();
+        let (bytes, rest) = self.rest.split_at(self.held);
+        (self.rest, self.held) = (rest, 0);
         self.lines.push(Line {
             bytes,
             depth,
-            text,
-            note,
-            cover,
+            text: take(&mut self.text),
+            note: take(&mut self.note),
+            cover: if take(&mut self.is_refused) {
+                Cover::Refused
+            } else {
+                self.cover
+            },
         });
-        self.rest = rest;
-        self.held = 0;
-        self.is_refused = false;
     }
 
     /// Returns the number of bytes that no line has yet.
@@ -98,32 +86,18 @@ impl<'a> Column<'a> {
     }
 
     /// Returns the lines, and one more with all remaining bytes.
-    pub(crate) fn end_with_rest(self) -> Vec<Line<'a>> {
-        let cover = self.shown_cover();
-        let Column {
-            mut lines,
-            rest,
-            held: _,
-            text,
-            note,
-            cover: _,
-            is_refused: _,
-        } = self;
-        lines.push(Line {
-            bytes: rest,
-            depth: 0,
-            text,
-            note,
-            cover,
-        });
-        lines
+    pub(crate) fn end_with_rest(mut self) -> Vec<Line<'a>> {
+        self.held = self.rest.len();
+        self.end_line(0);
+        self.lines
     }
 
     /// Returns the lines, and one more if bytes remain.
     pub(crate) fn finish(self) -> Vec<Line<'a>> {
         if self.rest.is_empty() {
-            return self.lines;
+            self.lines
+        } else {
+            self.end_with_rest()
         }
-        self.end_with_rest()
     }
 }

@@ -1,11 +1,12 @@
 //! The containers that are open at a position: arrays, maps, tags, strings in chunks, and byte
 //! strings whose content is shown.
 
-use coset::cbor::head::{Head, MajorType};
 use crate::explain::cover::{Cover, of_next};
-use crate::explain::faults::Fault;
+use crate::explain::fault::Fault;
 use crate::explain::head::{argument, integer};
-use crate::explain::role::{Bucket, Part, Role, Word, label_of, place, value_of, word_of};
+use crate::explain::role::{Bucket, Part, Role, label_of, place, value_of};
+use crate::explain::walk::Item;
+use coset::cbor::head::{Head, MajorType};
 
 /// The most levels of arrays, maps and tags in one item.
 const LEVELS: u32 = 256;
@@ -42,32 +43,34 @@ pub(crate) enum Standing {
     Unread,
 }
 
-/// Returns whose facts a container with this role has, in a container with this standing.
-fn standing_in(outer: Standing, role: Role) -> Standing {
-    match (outer, role) {
-        (Standing::Unread, _) => Standing::Unread,
-        (
-            _,
-            Role::Header(Bucket::Unprotected | Bucket::OfRecipient)
-            | Role::Signature
-            | Role::Signatures
-            | Role::Recipient
-            | Role::Recipients,
-        ) => Standing::Added,
-        (Standing::Own, Role::Header(Bucket::Protected)) => Standing::Header,
-        (Standing::Own, Role::Submodules) => Standing::Nested,
-        _ => outer,
+impl Standing {
+    /// Returns whose facts a container with this role has, in a container with this standing.
+    fn of(self, role: Role) -> Standing {
+        match (self, role) {
+            (Standing::Unread, _) => Standing::Unread,
+            (
+                _,
+                Role::Header(Bucket::Unprotected | Bucket::OfRecipient)
+                | Role::Signature
+                | Role::Signatures
+                | Role::Recipient
+                | Role::Recipients,
+            ) => Standing::Added,
+            (Standing::Own, Role::Header(Bucket::Protected)) => Standing::Header,
+            (Standing::Own, Role::Submodules) => Standing::Nested,
+            _ => self,
+        }
     }
 }
 
 /// An open container, and the position in it.
 #[derive(Clone, Copy, Debug)]
-pub(crate) struct Frame {
+pub(crate) struct Frame<'a> {
     pub(crate) container: Container,
     /// The role of the container.
     pub(crate) role: Role,
     /// Whether the type's decoder checks the container.
-    pub(crate) is_read: bool,
+    is_read: bool,
     /// The number of items still to come, or `None` for an indefinite length.
     pub(crate) left: Option<u64>,
     /// The number of input bytes after the head. It distinguishes an array or a map from others.
@@ -76,8 +79,8 @@ pub(crate) struct Frame {
     pub(crate) index: u64,
     /// The label of the next value, if it is an integer.
     label: Option<i64>,
-    /// The label of the next value as a word, if it is a text.
-    pub(crate) word: Word,
+    /// The label of the next value, if it is a text, or empty.
+    pub(crate) word: &'a [u8],
     /// The type of the key, if the map is a key and its type is an integer.
     key_type: Option<i64>,
     /// The number of input bytes from the last key of the map on.
@@ -87,7 +90,7 @@ pub(crate) struct Frame {
     /// The number of input bytes after the byte string that contains this container.
     pub(crate) behind: usize,
     /// The number of levels that may still nest.
-    pub(crate) levels: u32,
+    levels: u32,
     /// The number of protected headers that may still nest.
     pub(crate) layers: u32,
     /// The number of nested byte strings that may still be opened for their messages and claims.
@@ -100,10 +103,10 @@ pub(crate) struct Frame {
     pub(crate) is_unsigned: bool,
 }
 
-impl Frame {
+impl<'a> Frame<'a> {
     /// Returns the frame of the whole input, in which `openings` nested byte strings are opened for
     /// their content.
-    pub(crate) fn input(role: Role, openings: u32) -> Frame {
+    pub(crate) fn input(role: Role, openings: u32) -> Frame<'a> {
         Frame {
             container: Container::Input,
             role,
@@ -112,7 +115,7 @@ impl Frame {
             id: 0,
             index: 0,
             label: None,
-            word: Word::Other,
+            word: &[],
             key_type: None,
             key_left: 0,
             width: 0,
@@ -126,6 +129,20 @@ impl Frame {
         }
     }
 
+    /// Returns the frame of a container in this one that has one item.
+    fn inner(&self, container: Container, part: Part) -> Frame<'a> {
+        Frame {
+            container,
+            is_read: part.is_read,
+            behind: self.behind,
+            levels: self.levels,
+            layers: self.layers,
+            cover: of_next(self),
+            standing: self.standing.of(part.role),
+            ..Frame::input(part.role, self.openings)
+        }
+    }
+
     /// Returns the frame of an array, a map, a tag or a string in chunks in this one. `rest` bytes
     /// of this frame follow its head.
     pub(crate) fn nested(
@@ -134,89 +151,69 @@ impl Frame {
         part: Part,
         left: Option<u64>,
         rest: usize,
-    ) -> Frame {
+    ) -> Frame<'a> {
+        let (id, levels) = (self.behind + rest, self.levels.saturating_sub(1));
         Frame {
-            container,
-            role: part.role,
-            is_read: part.is_read,
             left,
-            id: self.behind.saturating_add(rest),
-            index: 0,
-            label: None,
-            word: Word::Other,
-            key_type: None,
-            key_left: 0,
-            width: 0,
-            behind: self.behind,
-            levels: self.levels.saturating_sub(1),
-            layers: self.layers,
-            openings: self.openings,
-            cover: of_next(self),
-            standing: standing_in(self.standing, part.role),
-            is_unsigned: false,
+            id,
+            levels,
+            ..self.inner(container, part)
         }
     }
 
     /// Returns this frame of a key's map, with the type of the key.
-    pub(crate) fn with_key_type(mut self, key_type: Option<i64>) -> Frame {
-        self.key_type = key_type;
-        self
+    pub(crate) fn with_key_type(self, key_type: Option<i64>) -> Frame<'a> {
+        Frame { key_type, ..self }
     }
 
     /// Returns this frame of a message with a list of signatures, and whether the list is empty.
-    pub(crate) fn with_signatures(mut self, is_unsigned: bool) -> Frame {
-        self.is_unsigned = is_unsigned;
-        self
+    pub(crate) fn with_signatures(self, is_unsigned: bool) -> Frame<'a> {
+        Frame {
+            is_unsigned,
+            ..self
+        }
     }
 
     /// Returns this frame of claims that the library doesn't read.
-    pub(crate) fn unread(mut self) -> Frame {
-        self.standing = Standing::Unread;
-        self
+    pub(crate) fn unread(self) -> Frame<'a> {
+        Frame {
+            standing: Standing::Unread,
+            ..self
+        }
     }
 
     /// Returns the frame of the content of a byte string in this one. `behind` bytes of this frame
     /// follow the byte string.
-    fn embedded(&self, part: Part, behind: usize, width: u8) -> Frame {
+    fn embedded(&self, part: Part, behind: usize, width: u8) -> Frame<'a> {
+        let behind = self.behind + behind;
         Frame {
-            container: Container::Embedded,
-            role: part.role,
-            is_read: part.is_read,
-            left: Some(1),
-            id: 0,
-            index: 0,
-            label: None,
-            word: Word::Other,
-            key_type: None,
-            key_left: 0,
             width,
-            behind: self.behind.saturating_add(behind),
+            behind,
             levels: LEVELS,
-            layers: self.layers,
-            openings: self.openings,
-            cover: of_next(self),
-            standing: standing_in(self.standing, part.role),
-            is_unsigned: false,
+            ..self.inner(Container::Embedded, part)
         }
     }
 
     /// Returns the frame of a protected header, the content of a byte string in this one.
-    pub(crate) fn protected(&self, is_read: bool, behind: usize, width: u8) -> Frame {
+    pub(crate) fn protected(&self, is_read: bool, behind: usize, width: u8) -> Frame<'a> {
         let part = Part {
             role: Role::Header(Bucket::Protected),
             name: "",
             is_read,
         };
-        let mut frame = self.embedded(part, behind, width);
-        frame.layers = frame.layers.saturating_sub(1);
-        frame
+        Frame {
+            layers: self.layers.saturating_sub(1),
+            ..self.embedded(part, behind, width)
+        }
     }
 
     /// Returns the frame of a message or claims, the content of a byte string in this one.
-    pub(crate) fn held(&self, role: Role, behind: usize, width: u8) -> Frame {
-        let mut frame = self.embedded(Part::named(role, ""), behind, width);
-        frame.openings = frame.openings.saturating_sub(1);
-        frame
+    pub(crate) fn held(&self, role: Role, behind: usize, width: u8) -> Frame<'a> {
+        let openings = self.openings.saturating_sub(1);
+        Frame {
+            openings,
+            ..self.embedded(Part::named(role, ""), behind, width)
+        }
     }
 
     /// Returns true if the next item is a key of a set of keys.
@@ -226,7 +223,7 @@ impl Frame {
 
     /// Returns true if the next item is a key of a map.
     pub(crate) fn is_at_key(&self) -> bool {
-        self.container == Container::Map && self.index.is_multiple_of(2)
+        self.container == Container::Map && self.index % 2 == 0
     }
 
     /// Returns true if the next item is the value of a map's key.
@@ -236,69 +233,44 @@ impl Frame {
 
     /// Returns the label of the next item, if the item is the value of an integer label.
     pub(crate) fn value_label(&self) -> Option<i64> {
-        if self.is_at_value() { self.label } else { None }
+        self.label.filter(|_| self.is_at_value())
     }
 
     /// Returns the index of the next item. In a map, it is the index of the item's pair.
     pub(crate) fn place(&self) -> usize {
-        let index = if self.container == Container::Map {
-            self.index / 2
+        let per_place = if self.container == Container::Map {
+            2
         } else {
-            self.index
+            1
         };
-        index.min(usize::MAX as u64) as usize
+        (self.index / per_place) as usize
     }
 
-    /// Returns the part that the next item is.
+    /// Returns the part that the next item is. The decoder checks it only if it checks this
+    /// container too.
     pub(crate) fn next_part(&self) -> Part {
-        match self.container {
-            Container::Array => self.part_of(place(self.role, self.index)),
-            Container::Map => {
-                if self.is_at_key() {
-                    self.part_of(label_of(self.role, self.key_type))
-                } else {
-                    self.part_of(value_of(self.role, self.label, self.word, self.key_type))
-                }
-            }
-            _ => Part {
-                role: self.role,
-                name: "",
-                is_read: self.is_read,
-            },
-        }
-    }
-
-    /// Returns the part. The decoder checks it only if it checks this container too.
-    fn part_of(&self, part: Part) -> Part {
+        let part = match self.container {
+            Container::Array => place(self.role, self.index),
+            Container::Map if self.is_at_key() => label_of(self.role, self.key_type),
+            Container::Map => value_of(self.role, self.label, self.word, self.key_type),
+            _ => Part::read(self.role, ""),
+        };
         Part {
-            role: part.role,
-            name: part.name,
             is_read: part.is_read && self.is_read,
+            ..part
         }
     }
 
-    /// Takes the content of the text label that was passed last.
-    pub(crate) fn take_word(&mut self, head: &Head, content: &[u8]) {
-        if self.is_at_value() {
-            self.word = if head.major_type == MajorType::Text {
-                word_of(content)
-            } else {
-                Word::Other
-            };
-        }
-    }
-
-    /// Moves past an item with this head. `left` is the number of bytes of this frame from the item
-    /// on.
-    pub(crate) fn pass(&mut self, head: &Head, left: usize) {
+    /// Moves past this item.
+    pub(crate) fn pass(&mut self, item: &Item<'a>) {
         if self.is_at_key() {
-            self.label = integer(head);
-            self.key_left = self.behind.saturating_add(left);
+            self.label = integer(&item.head);
+            self.key_left = self.behind + item.bytes.len();
+            let is_text = item.head.major_type == MajorType::Text;
+            self.word = if is_text { item.content() } else { &[] };
         }
-        self.index = self.index.saturating_add(1);
-        if let Some(left) = self.left {
-            self.left = Some(left.saturating_sub(1));
-        }
+        self.index += 1;
+        self.left = self.left.map(|left| left.saturating_sub(1));
     }
 
     /// Returns true if no item of the container is to come. `bytes` come next.
@@ -331,75 +303,40 @@ impl Frame {
         }
     }
 
-    /// Returns the fault of an item with this head, if it has one. `rest` are the bytes after the
-    /// head. The bytes before the item are known to have no fault.
-    pub(crate) fn fault(&self, head: &Head, rest: &[u8]) -> Option<Fault> {
-        if let Container::Chunks(major_type) = self.container
-            && (head.major_type != major_type || head.is_indefinite())
-        {
-            return Some(Fault::Malformed);
+    /// Returns the fault of the next item, if it has one. The bytes before it are known to have no
+    /// fault.
+    pub(crate) fn fault(&self, item: &Item) -> Option<Fault> {
+        let head = &item.head;
+        if let Container::Chunks(major_type) = self.container {
+            if head.major_type != major_type || head.is_indefinite() {
+                return Some(Fault::Malformed);
+            }
         }
+        let room = item.rest.len() as u64;
+        let is_too_deep = self.levels == 0;
         match head.major_type {
-            MajorType::Unsigned | MajorType::Negative => open_fault(head),
-            MajorType::Bytes | MajorType::Text => string_fault(head, rest),
-            MajorType::Array | MajorType::Map => self.nested_fault(head, rest),
-            MajorType::Tag => match open_fault(head) {
-                Some(fault) => Some(fault),
-                None => self.level_fault(),
-            },
+            MajorType::Unsigned | MajorType::Negative | MajorType::Tag if head.is_indefinite() => {
+                Some(Fault::Malformed)
+            }
+            MajorType::Unsigned | MajorType::Negative => None,
+            MajorType::Array | MajorType::Map | MajorType::Tag if is_too_deep => {
+                Some(Fault::Levels)
+            }
+            MajorType::Tag => None,
+            MajorType::Map => (room / 2 < argument(head)).then_some(Fault::Ends),
+            _ if head.major_type != MajorType::Simple && room < argument(head) => Some(Fault::Ends),
+            MajorType::Text => std::str::from_utf8(item.content())
+                .is_err()
+                .then_some(Fault::Malformed),
+            MajorType::Bytes | MajorType::Array => None,
             MajorType::Simple => simple_fault(head),
         }
-    }
-
-    /// Returns the fault of an array, a map or a tag that is one level too deep.
-    fn level_fault(&self) -> Option<Fault> {
-        if self.levels == 0 {
-            Some(Fault::Levels)
-        } else {
-            None
-        }
-    }
-
-    /// Returns the fault of an array or a map: one level too many, or more elements than bytes are
-    /// left.
-    fn nested_fault(&self, head: &Head, rest: &[u8]) -> Option<Fault> {
-        if self.levels == 0 {
-            return Some(Fault::Levels);
-        }
-        let most = match head.major_type {
-            MajorType::Map => (rest.len() as u64) / 2,
-            _ => rest.len() as u64,
-        };
-        if most < argument(head) {
-            return Some(Fault::Ends);
-        }
-        None
     }
 }
 
 /// Returns true if the bytes begin with the break that ends an item of indefinite length.
 pub(crate) fn begins_break(bytes: &[u8]) -> bool {
-    matches!(bytes.first(), Some(first) if *first == 0xff)
-}
-
-/// Returns the fault of a head with an indefinite length, in an item that can't have one.
-fn open_fault(head: &Head) -> Option<Fault> {
-    if head.is_indefinite() {
-        Some(Fault::Malformed)
-    } else {
-        None
-    }
-}
-
-/// Returns the fault of a string: fewer bytes than it announces, or a text that isn't UTF-8.
-fn string_fault(head: &Head, rest: &[u8]) -> Option<Fault> {
-    if (rest.len() as u64) < argument(head) {
-        return Some(Fault::Ends);
-    }
-    if head.major_type == MajorType::Text && str::from_utf8(content(head, rest)).is_err() {
-        return Some(Fault::Malformed);
-    }
-    None
+    bytes.first() == Some(&0xff)
 }
 
 /// Returns the fault of a simple value, or of a break in the place of an item. A float has none.
@@ -409,18 +346,5 @@ fn simple_fault(head: &Head) -> Option<Fault> {
         24 if argument(head) < 32 => Some(Fault::Malformed),
         31 => Some(Fault::Malformed),
         _ => Some(Fault::Simple),
-    }
-}
-
-/// Returns the content of the string with this head. `rest` are the bytes after the head. Another
-/// item has no content.
-pub(crate) fn content<'a>(head: &Head, rest: &'a [u8]) -> &'a [u8] {
-    match head.major_type {
-        MajorType::Bytes | MajorType::Text => {
-            let count = argument(head).min(rest.len() as u64) as usize;
-            let (content, _) = rest.split_at(count);
-            content
-        }
-        _ => &[],
     }
 }

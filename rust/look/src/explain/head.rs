@@ -1,9 +1,7 @@
 //! Facts about an item that its head tells.
 
-use coset::EndOfFile;
-use coset::cbor::de::Error;
 use coset::cbor::head::{Head, MajorType};
-use crate::explain::faults::Fault;
+use coset::cbor::value::Float;
 
 /// Returns the argument, or 0 if there is none.
 pub(crate) fn argument(head: &Head) -> u64 {
@@ -15,16 +13,16 @@ pub(crate) fn argument(head: &Head) -> u64 {
 pub(crate) fn is_shortest(head: &Head) -> bool {
     match head.width() {
         1 => 24 <= argument(head),
-        2 => 256 <= argument(head),
-        4 => 65_536 <= argument(head),
-        8 => 4_294_967_296 <= argument(head),
+        2 => 1 << 8 <= argument(head),
+        4 => 1 << 16 <= argument(head),
+        8 => 1 << 32 <= argument(head),
         _ => true,
     }
 }
 
 /// Returns true if the head is that of an integer.
 pub(crate) fn is_integer(head: &Head) -> bool {
-    head.major_type == MajorType::Unsigned || head.major_type == MajorType::Negative
+    matches!(head.major_type, MajorType::Unsigned | MajorType::Negative)
 }
 
 /// Returns the integer with this head, or `None` if it doesn't fit an `i64` or the item is no
@@ -33,17 +31,24 @@ pub(crate) fn integer(head: &Head) -> Option<i64> {
     let number = i64::try_from(argument(head)).ok()?;
     match head.major_type {
         MajorType::Unsigned => Some(number),
-        MajorType::Negative => (-1i64).checked_sub(number),
+        MajorType::Negative => Some(-1 - number),
         _ => None,
+    }
+}
+
+/// Returns the float with this head.
+pub(crate) fn float(head: &Head) -> Float {
+    let bits = argument(head);
+    match head.width() {
+        2 => Float::Half(bits as u16),
+        4 => Float::Single(bits as u32),
+        _ => Float::Double(bits),
     }
 }
 
 /// Returns the number of a tag, or `None` for another item.
 pub(crate) fn tag(head: &Head) -> Option<u64> {
-    match head.major_type {
-        MajorType::Tag => head.number(),
-        _ => None,
-    }
+    head.number().filter(|_| head.major_type == MajorType::Tag)
 }
 
 /// Returns the name that the library's errors give to items with this head.
@@ -61,16 +66,25 @@ pub(crate) fn kind_name(head: &Head) -> &'static str {
     }
 }
 
-/// Returns the bytes after the head.
-pub(crate) fn behind<'a>(head: &Head, bytes: &'a [u8]) -> &'a [u8] {
-    let (_, rest) = bytes.split_at(head.size().min(bytes.len()));
-    rest
+/// Returns true if the head is that of a byte string of definite length.
+pub(crate) fn is_whole_bytes(head: &Head) -> bool {
+    head.major_type == MajorType::Bytes && !head.is_indefinite()
 }
 
-/// Returns the fault of bytes from which no head can be read.
-pub(crate) fn head_fault(error: &Error<EndOfFile>) -> Fault {
-    match error {
-        Error::Io(_) => Fault::Ends,
-        _ => Fault::Malformed,
+/// Returns true if the head is that of a byte string in chunks.
+pub(crate) fn is_chunked_bytes(head: &Head) -> bool {
+    head.major_type == MajorType::Bytes && head.is_indefinite()
+}
+
+/// Returns the content of the string with this head. `rest` are the bytes after the head. Another
+/// item has no content.
+pub(crate) fn content<'a>(head: &Head, rest: &'a [u8]) -> &'a [u8] {
+    match head.major_type {
+        MajorType::Bytes | MajorType::Text => {
+            &rest[..rest
+                .len()
+                .min(usize::try_from(argument(head)).unwrap_or(usize::MAX))]
+        }
+        _ => &[],
     }
 }

@@ -1,24 +1,22 @@
 //! The search for the fault for which a type's decoder refused the bytes.
 
+use crate::explain::fault::{Fault, has_header_fault};
+use crate::explain::frame::{Container, Frame};
+use crate::explain::head::{integer, is_chunked_bytes, is_integer, kind_name, tag};
+use crate::explain::role::{Message, Part, Role, is_private, name_of};
+use crate::explain::walk::Item;
 use coset::cbor::de::{Error, Pull};
 use coset::cbor::head::{Head, MajorType};
 use coset::cbor::value::Integer;
 use coset::iana::{EnumI64, HeaderParameter};
-use coset::{CborSerializable, CoseError, CoseSignature};
-use crate::explain::faults::Fault;
-use crate::explain::frame::{Container, Frame};
-use crate::explain::head::{integer, is_integer, kind_name, tag};
-use crate::explain::role::{Message, Part, Role, is_private, name_of};
-use crate::fault::has_header_fault;
-use std::collections::BTreeMap;
+use coset::{CborSerializable, CoseError, CoseSignature, Label};
+use std::collections::BTreeSet;
 
 /// The search for the fault that an error names.
 pub(crate) struct Hunt<'e> {
     pub(crate) error: Option<&'e CoseError>,
-    /// The labels so far, integers or texts, each with its map, and their indices there.
-    labels: BTreeMap<(u64, Result<i64, String>), usize>,
-    /// The index of the first of two labels that must not both be there, once the second is found.
-    pub(crate) earlier: Option<usize>,
+    /// The labels so far, each with its map or array.
+    labels: BTreeSet<(usize, Label)>,
 }
 
 /// Returns true if an item with this head may be at the place.
@@ -197,14 +195,15 @@ fn is_signature(bytes: &[u8]) -> bool {
 /// Returns the text string at the front of the bytes, with its chunks joined, or `None` for another
 /// item.
 fn text_of(bytes: &[u8]) -> Option<String> {
-    pulled(bytes)?.to_text().expect("memory")
+    pulled(bytes)?.to_text().ok()?
 }
 
 /// Returns the byte string at the front of the bytes, with its chunks joined. It is empty for
 /// another item.
 fn content_of(bytes: &[u8]) -> Vec<u8> {
-    let content = pulled(bytes).and_then(|pull| pull.to_bytes().expect("memory"));
-    content.unwrap_or_default()
+    pulled(bytes)
+        .and_then(|pull| pull.to_bytes().ok()?)
+        .unwrap_or_default()
 }
 
 /// Returns true if the text at the front of the bytes is no media type (RFC 8152, section 3.1).
@@ -238,68 +237,53 @@ impl<'e> Hunt<'e> {
     pub(crate) fn of(error: Option<&'e CoseError>) -> Hunt<'e> {
         Hunt {
             error,
-            labels: BTreeMap::new(),
-            earlier: None,
+            labels: BTreeSet::new(),
         }
     }
 
-    /// Returns the fault that is searched for, if the item with this head at the front of the bytes
-    /// has it.
-    pub(crate) fn at(
-        &mut self,
-        frame: &Frame,
-        part: &Part,
-        head: &Head,
-        bytes: &[u8],
-    ) -> Option<Fault> {
-        if !part.is_read {
-            return None;
-        }
+    /// Returns the fault that is searched for, if this item of the frame, which is this part, has
+    /// it.
+    pub(crate) fn at(&mut self, frame: &Frame, part: &Part, item: &Item) -> Option<Fault> {
+        let error = self.error.filter(|_| part.is_read)?;
+        let is_too_deep = frame.layers == 0
+            && matches!(
+                error,
+                CoseError::DecodeFailed(Error::RecursionLimitExceeded)
+            );
         let is_faulty = match part.role {
             // A protected header in chunks isn't opened.
-            Role::Protected if head.major_type == MajorType::Bytes && head.is_indefinite() => self
-                .error
-                .is_some_and(|error| has_header_fault(error, &content_of(bytes))),
-            Role::Protected if frame.layers == 0 && self.is_depth() => return Some(Fault::Layers),
-            role => self.is_shape_fault(frame, role, head, bytes),
+            Role::Protected if is_chunked_bytes(&item.head) => {
+                has_header_fault(error, &content_of(item.bytes))
+            }
+            Role::Protected if is_too_deep => return Some(Fault::Layers),
+            role => self.is_shape_fault(error, frame, role, item),
         };
         is_faulty.then_some(Fault::Shape)
     }
 
-    /// Returns true if the fault is the 17th of nested protected headers.
-    fn is_depth(&self) -> bool {
-        matches!(
-            self.error,
-            Some(CoseError::DecodeFailed(Error::RecursionLimitExceeded))
-        )
-    }
-
-    /// Returns true if the item with this head, at the front of the bytes, has the fault that is
-    /// searched for.
-    fn is_shape_fault(&mut self, frame: &Frame, role: Role, head: &Head, bytes: &[u8]) -> bool {
-        let Some(error) = self.error else {
-            return false;
-        };
+    /// Returns true if the item has the fault that the error names.
+    fn is_shape_fault(
+        &mut self,
+        error: &CoseError,
+        frame: &Frame,
+        role: Role,
+        item: &Item,
+    ) -> bool {
+        let (head, bytes) = (&item.head, item.bytes);
         match error {
-            CoseError::UnexpectedItem("non-signature", _) => {
-                frame.role == Role::Signatures && !is_signature(bytes)
-            }
-            CoseError::UnexpectedItem("repeated array entry", _) => {
-                role == Role::Operation && self.repeats(frame, head, bytes)
-            }
-            CoseError::UnexpectedItem("IV and partial-IV specified", _) => {
-                role == Role::HeaderLabel && self.is_other_iv(frame, head)
-            }
-            CoseError::UnexpectedItem("leading/trailing whitespace", _) => {
-                role == Role::ContentFormat && is_no_media_type(bytes, true)
-            }
-            CoseError::UnexpectedItem("arbitrary text", _) => {
-                role == Role::ContentFormat && is_no_media_type(bytes, false)
-            }
-            CoseError::UnexpectedItem(got, want) => {
-                asks(role, want) && unexpected(frame, role, head, bytes) == Some(*got)
-            }
-            CoseError::DuplicateMapKey => frame.is_at_key() && self.repeats(frame, head, bytes),
+            CoseError::UnexpectedItem(got, want) => match *got {
+                "non-signature" => frame.role == Role::Signatures && !is_signature(bytes),
+                "repeated array entry" => role == Role::Operation && self.repeats(frame, item),
+                "IV and partial-IV specified" => {
+                    role == Role::HeaderLabel && self.is_other_iv(frame, head)
+                }
+                "leading/trailing whitespace" => {
+                    role == Role::ContentFormat && is_no_media_type(bytes, true)
+                }
+                "arbitrary text" => role == Role::ContentFormat && is_no_media_type(bytes, false),
+                got => asks(role, want) && unexpected(frame, role, head, bytes) == Some(got),
+            },
+            CoseError::DuplicateMapKey => frame.is_at_key() && self.repeats(frame, item),
             CoseError::OutOfRangeIntegerValue => is_out_of_range(role, head),
             CoseError::UnregisteredIanaValue => is_unregistered(role, head, false),
             CoseError::UnregisteredIanaNonPrivateValue => is_unregistered(role, head, true),
@@ -311,24 +295,21 @@ impl<'e> Hunt<'e> {
     /// searched for.
     pub(crate) fn is_in(&self, part: &Part, content: &[u8]) -> bool {
         let is_protected = part.is_read && part.role == Role::Protected;
-        is_protected
-            && self.error.is_some_and(|error| {
-                matches!(
+        let error = self.error.filter(|error| {
+            is_protected
+                && matches!(
                     error,
                     CoseError::DecodeFailed(_) | CoseError::ExtraneousData
-                ) && has_header_fault(error, content)
-            })
+                )
+        });
+        error.is_some_and(|error| has_header_fault(error, content))
     }
 
-    /// Returns true if the label at the front of the bytes came before in this map, or the key
-    /// operation in this array.
-    fn repeats(&mut self, frame: &Frame, head: &Head, bytes: &[u8]) -> bool {
-        let Some(label) = integer(head).map(Ok).or_else(|| text_of(bytes).map(Err)) else {
-            return false;
-        };
-        let earlier = self.labels.insert((frame.id as u64, label), frame.place());
-        self.earlier = earlier.or(self.earlier);
-        earlier.is_some()
+    /// Returns true if this label came before in this map, or this key operation in this array.
+    fn repeats(&mut self, frame: &Frame, item: &Item) -> bool {
+        let label = integer(&item.head).map(Label::Int);
+        let label = label.or_else(|| text_of(item.bytes).map(Label::Text));
+        label.is_some_and(|label| !self.labels.insert((frame.id, label)))
     }
 
     /// Returns true if the head is that of IV or Partial IV, and the other came before in this map.
@@ -336,12 +317,7 @@ impl<'e> Hunt<'e> {
         let Some(number @ (5 | 6)) = integer(head) else {
             return false;
         };
-        self.labels
-            .insert((frame.id as u64, Ok(number)), frame.place());
-        self.earlier = self
-            .labels
-            .get(&(frame.id as u64, Ok(11 - number)))
-            .copied();
-        self.earlier.is_some()
+        self.labels.insert((frame.id, Label::Int(number)));
+        self.labels.contains(&(frame.id, Label::Int(11 - number)))
     }
 }

@@ -1,5 +1,7 @@
 //! The kinds that input can have.
 
+use crate::explain::head::tag;
+use crate::explain::role::{Message, Role};
 use coset::cbor::head::read_head;
 use coset::cbor::value::Value;
 use coset::cwt::ClaimsSet;
@@ -7,14 +9,13 @@ use coset::{
     CborSerializable, CoseCountersignature, CoseEncrypt, CoseEncrypt0, CoseError, CoseKdfContext,
     CoseKey, CoseKeySet, CoseMac, CoseMac0, CoseSign, CoseSign1, TaggedCborSerializable,
 };
-use crate::explain::head::tag;
-use crate::explain::role::{Message, Role};
 
 /// The kind that bytes should have.
-#[derive(Clone, Copy, Debug, PartialEq, Eq)]
+#[derive(Clone, Copy, Debug, Default, PartialEq, Eq)]
 pub enum Kind {
     /// Chosen by the tag: a message, a countersignature, or under tag 61 a web token (RFC 8392,
     /// section 6). Without such a tag, a CBOR item.
+    #[default]
     Auto,
     /// A web token with claims as its payload (RFC 8392, section 7). The tag chooses the message,
     /// with or without tag 61. Without a message's tag, it is a CBOR item. `refusal` doesn't judge
@@ -54,37 +55,28 @@ fn without_tag(number: u64, bytes: &[u8]) -> &[u8] {
     }
 }
 
-/// Returns why the bytes don't describe a value of the type, or `None` if they do.
-fn type_refusal<T: CborSerializable>(bytes: &[u8]) -> Option<CoseError> {
-    T::from_slice(bytes).err()
-}
-
-/// Returns why the bytes don't describe a message of the type, plain or under its tag. Returns
-/// `None` if they do.
-fn message_refusal<T: TaggedCborSerializable>(bytes: &[u8]) -> Option<CoseError> {
-    T::from_any_slice(bytes).err()
-}
+/// All kinds, as they are numbered in the page.
+pub(crate) const ALL: [Kind; 14] = [
+    Kind::Auto,
+    Kind::Cwt,
+    Kind::Value,
+    Kind::Sign1,
+    Kind::Sign,
+    Kind::Mac,
+    Kind::Mac0,
+    Kind::Encrypt,
+    Kind::Encrypt0,
+    Kind::Countersignature,
+    Kind::Key,
+    Kind::Keyset,
+    Kind::Claims,
+    Kind::Kdf,
+];
 
 impl Kind {
     /// Returns the kind of that name.
     pub fn of(name: &str) -> Option<Kind> {
-        match name {
-            "auto" => Some(Kind::Auto),
-            "cwt" => Some(Kind::Cwt),
-            "value" => Some(Kind::Value),
-            "sign1" => Some(Kind::Sign1),
-            "sign" => Some(Kind::Sign),
-            "mac" => Some(Kind::Mac),
-            "mac0" => Some(Kind::Mac0),
-            "encrypt" => Some(Kind::Encrypt),
-            "encrypt0" => Some(Kind::Encrypt0),
-            "countersignature" => Some(Kind::Countersignature),
-            "key" => Some(Kind::Key),
-            "keyset" => Some(Kind::Keyset),
-            "claims" => Some(Kind::Claims),
-            "kdf" => Some(Kind::Kdf),
-            _ => None,
-        }
+        ALL.into_iter().find(|kind| kind.name() == name)
     }
 
     /// Returns the name of the kind.
@@ -147,45 +139,32 @@ impl Kind {
     /// Returns the kind by name, and the bytes that should be of it. `Auto` and `Cwt` become the
     /// kind of the tag, after tag 61 is removed.
     pub(crate) fn named(self, bytes: &[u8]) -> (Kind, &[u8]) {
-        if self.is_by_tag() {
-            let inner = without_tag(61, bytes);
-            (Kind::by_tag(inner), inner)
-        } else {
-            (self, bytes)
+        match self {
+            Kind::Auto | Kind::Cwt => {
+                let inner = without_tag(61, bytes);
+                (Kind::by_tag(inner), inner)
+            }
+            _ => (self, bytes),
         }
     }
 
     /// Returns why the bytes aren't of the kind, or `None` if they are. The reason is the error of
-    /// the library's decoder, which may be `OutOfMemory`.
+    /// the library's decoder.
     pub fn refusal(self, bytes: &[u8]) -> Option<CoseError> {
-        let (kind, named) = self.named(bytes);
-        kind.refusal_of_named(named)
-    }
-
-    /// Returns true for `Auto` and `Cwt`: the tag chooses their type.
-    fn is_by_tag(self) -> bool {
-        match self {
-            Kind::Auto | Kind::Cwt => true,
-            _ => false,
-        }
-    }
-
-    /// Returns the same as `refusal`, without a look at the tag: `Auto` and `Cwt` are any CBOR
-    /// item.
-    fn refusal_of_named(self, bytes: &[u8]) -> Option<CoseError> {
-        match self {
-            Kind::Auto | Kind::Cwt | Kind::Value => type_refusal::<Value>(bytes),
-            Kind::Sign1 => message_refusal::<CoseSign1>(bytes),
-            Kind::Sign => message_refusal::<CoseSign>(bytes),
-            Kind::Mac => message_refusal::<CoseMac>(bytes),
-            Kind::Mac0 => message_refusal::<CoseMac0>(bytes),
-            Kind::Encrypt => message_refusal::<CoseEncrypt>(bytes),
-            Kind::Encrypt0 => message_refusal::<CoseEncrypt0>(bytes),
-            Kind::Countersignature => message_refusal::<CoseCountersignature>(bytes),
-            Kind::Key => type_refusal::<CoseKey>(bytes),
-            Kind::Keyset => type_refusal::<CoseKeySet>(bytes),
-            Kind::Claims => type_refusal::<ClaimsSet>(bytes),
-            Kind::Kdf => type_refusal::<CoseKdfContext>(bytes),
+        let (kind, bytes) = self.named(bytes);
+        match kind {
+            Kind::Auto | Kind::Cwt | Kind::Value => Value::from_slice(bytes).err(),
+            Kind::Sign1 => CoseSign1::from_any_slice(bytes).err(),
+            Kind::Sign => CoseSign::from_any_slice(bytes).err(),
+            Kind::Mac => CoseMac::from_any_slice(bytes).err(),
+            Kind::Mac0 => CoseMac0::from_any_slice(bytes).err(),
+            Kind::Encrypt => CoseEncrypt::from_any_slice(bytes).err(),
+            Kind::Encrypt0 => CoseEncrypt0::from_any_slice(bytes).err(),
+            Kind::Countersignature => CoseCountersignature::from_any_slice(bytes).err(),
+            Kind::Key => CoseKey::from_slice(bytes).err(),
+            Kind::Keyset => CoseKeySet::from_slice(bytes).err(),
+            Kind::Claims => ClaimsSet::from_slice(bytes).err(),
+            Kind::Kdf => CoseKdfContext::from_slice(bytes).err(),
         }
     }
 }

@@ -1,9 +1,8 @@
 //! Moments and how far they are from another.
 
+use crate::explain::head::{float, integer};
 use coset::cbor::head::Head;
 use coset::cwt::Timestamp;
-use crate::explain::head::integer;
-use crate::explain::text::float;
 
 /// The units of distances: their seconds and their names. Months and years have their mean length
 /// in the Gregorian calendar.
@@ -20,21 +19,16 @@ pub(crate) fn moment(head: &Head) -> Option<Timestamp> {
     if head.is_float() {
         return Some(Timestamp::FractionalSeconds(float(head)));
     }
-    Some(Timestamp::WholeSeconds(integer(head)?))
+    integer(head).map(Timestamp::WholeSeconds)
 }
 
 /// Returns the whole seconds of a moment since 1970 began, or `None` for a float that is no moment.
 fn seconds_of(timestamp: &Timestamp) -> Option<i64> {
     match timestamp {
         Timestamp::WholeSeconds(seconds) => Some(*seconds),
-        Timestamp::FractionalSeconds(seconds) => {
-            let seconds = seconds.to_f64();
-            if seconds.is_finite() {
-                Some(seconds as i64)
-            } else {
-                None
-            }
-        }
+        Timestamp::FractionalSeconds(seconds) => Some(seconds.to_f64())
+            .filter(|seconds| seconds.is_finite())
+            .map(|seconds| seconds as i64),
     }
 }
 
@@ -45,47 +39,41 @@ pub(crate) fn is_no_moment(timestamp: &Timestamp) -> bool {
 
 /// Returns true if an expiration time has come at `now`. An infinity or NaN has always come.
 pub(crate) fn is_over(expiry: &Timestamp, now: Option<i64>) -> bool {
-    matches!(now, Some(now) if is_no_moment(expiry) || !expiry.is_after(now))
+    now.is_some_and(|now| is_no_moment(expiry) || !expiry.is_after(now))
 }
 
 /// Returns true if a time before which claims aren't valid is after `now`. An infinity or NaN always
 /// is.
 pub(crate) fn is_early(start: &Timestamp, now: Option<i64>) -> bool {
-    matches!(now, Some(now) if is_no_moment(start) || start.is_after(now))
+    now.is_some_and(|now| is_no_moment(start) || start.is_after(now))
 }
 
-/// Returns a distance in the largest unit of which it has at least two.
-fn in_units(seconds: u64) -> (u64, &'static str) {
-    for (length, name) in UNITS {
-        let count = seconds.checked_div(length).unwrap_or(0);
-        if 2 <= count {
-            return (count, name);
-        }
-    }
-    (seconds, if seconds == 1 { "second" } else { "seconds" })
-}
-
-/// Adds how far a moment is from `now`, after a comma: `, 3 days ago` or `, in 3 days`. Adds
-/// nothing for a float that is no moment.
-pub(crate) fn push_distance(text: &mut String, timestamp: &Timestamp, now: i64) {
+/// Returns how far a moment is from `now`, after a comma: `, 3 days ago` or `, in 3 days`. The unit
+/// is the largest of which there are at least two. The text is empty for a float that is no moment.
+pub(crate) fn distance(timestamp: &Timestamp, now: i64) -> String {
     let Some(seconds) = seconds_of(timestamp) else {
-        return;
+        return String::new();
     };
-    let (count, unit) = in_units(seconds.abs_diff(now));
+    let distance = seconds.abs_diff(now);
+    let unit = UNITS.iter().find(|(length, _)| 2 <= distance / length);
+    let (count, name) = match unit {
+        Some((length, name)) => (distance / length, *name),
+        None => (distance, if distance == 1 { "second" } else { "seconds" }),
+    };
     if now < seconds {
-        put!(text, ", in {count} {unit}")
+        format!(", in {count} {name}")
     } else {
-        put!(text, ", {count} {unit} ago")
+        format!(", {count} {name} ago")
     }
 }
 
-/// Adds the date of a moment to the minute, `2013-03-21 20:04 UTC`. A moment without such a date
+/// Returns the date of a moment to the minute, `2013-03-21 20:04 UTC`. A moment without such a date
 /// is a number of seconds.
-pub fn push_date(text: &mut String, timestamp: &Timestamp) {
-    let whole = format!("{timestamp}");
+pub fn date(timestamp: &Timestamp) -> String {
+    let whole = timestamp.to_string();
     let Some((day, time)) = whole.split_once('T') else {
-        return text.push_str(whole.as_str());
+        return whole;
     };
-    let (minute, _) = time.rsplit_once(':').unwrap_or((time, ""));
-    put!(text, "{day} {minute} UTC")
+    let minute = time.rsplit_once(':').map_or(time, |(minute, _)| minute);
+    format!("{day} {minute} UTC")
 }

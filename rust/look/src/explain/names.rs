@@ -14,18 +14,12 @@ pub(crate) fn registered<T: EnumI64 + Named>(number: i64) -> Option<&'static str
 /// Returns the name of a header's label: of a common parameter, otherwise of one for a recipient's
 /// algorithm.
 pub(crate) fn header_label(number: i64) -> Option<&'static str> {
-    match registered::<HeaderParameter>(number) {
-        Some(name) => Some(name),
-        None => registered::<HeaderAlgorithmParameter>(number),
-    }
+    registered::<HeaderParameter>(number).or_else(|| registered::<HeaderAlgorithmParameter>(number))
 }
 
 /// Returns the name of a key's label: of any key, otherwise of a key of this type.
 pub(crate) fn key_label(kty: Option<i64>, number: i64) -> Option<&'static str> {
-    match registered::<KeyParameter>(number) {
-        Some(name) => Some(name),
-        None => of_type(kty?, number),
-    }
+    registered::<KeyParameter>(number).or_else(|| of_type(kty?, number))
 }
 
 /// Returns the name of a label of a key of this type, from IANA's registry "COSE Key Type

@@ -1,8 +1,9 @@
 //! Lines as text.
 
+use crate::encode::hex;
 use crate::explain::column::Line;
 use crate::explain::cover::Cover;
-use crate::explain::quotes::{push_isolated, shortened};
+use crate::explain::quotes::{is_right_to_left, isolated, shortened};
 
 /// The number of bytes in a row.
 const BYTES: usize = 16;
@@ -14,7 +15,7 @@ const STEPS: usize = 32;
 const MORE: usize = 16;
 
 /// How lines are written as text.
-#[derive(Clone, Copy, Debug, PartialEq, Eq)]
+#[derive(Clone, Copy, Debug, Default, PartialEq, Eq)]
 pub struct Style {
     /// For a terminal: each line in the colour of its cover, and text strings isolated if a letter
     /// next to them is written from right to left.
@@ -23,46 +24,23 @@ pub struct Style {
     pub is_short: bool,
 }
 
-/// Adds the indentation of a line.
-fn push_indentation(text: &mut String, depth: usize) {
-    for _ in 0..depth.min(STEPS) {
-        text.push_str("  ");
-    }
+/// Returns the indentation of a line.
+fn indentation(depth: usize) -> String {
+    "  ".repeat(depth.min(STEPS))
 }
 
-/// Adds a comment (RFC 8610, appendix G.6). A slash in the comment is doubled: it ends one comment
-/// and begins another.
-pub fn push_comment(text: &mut String, comment: &str) {
-    text.push_str("/ ");
-    for c in comment.chars() {
-        text.push(c);
-        if c == '/' {
-            text.push(c);
-        }
-    }
-    text.push_str(" /")
+/// Returns a comment (RFC 8610, appendix G.6). A slash in the comment is doubled: it ends one
+/// comment and begins another.
+pub fn comment(text: &str) -> String {
+    format!("/ {} /", text.replace('/', "//"))
 }
 
-/// Adds the note of a line as a comment, unless it is empty.
-fn push_note(text: &mut String, note: &str) {
-    if note.is_empty() {
-        return;
-    }
-    text.push(' ');
-    push_comment(text, note)
-}
-
-/// Adds a comment as a line without bytes.
-pub(crate) fn push_comment_line(text: &mut String, comment: &str) {
-    put!(text, "{:32}  ", "");
-    push_comment(text, comment);
-    text.push('\n')
-}
-
-/// Adds a row of bytes in hexadecimal, padded to the width of a full row.
-fn push_bytes(text: &mut String, bytes: &[u8]) {
-    let digits = crate::kit::hex::encode(bytes);
-    put!(text, "{digits:32}")
+/// Returns the notes as comments in lines without bytes.
+pub fn commented(notes: &[String]) -> String {
+    notes
+        .iter()
+        .map(|note| format!("{:32}  {}\n", "", comment(note)))
+        .collect()
 }
 
 /// Returns the terminal's code for the colour of the cover. It may be empty.
@@ -79,87 +57,55 @@ fn color(cover: Cover) -> &'static str {
     }
 }
 
-/// The terminal's code that ends a colour.
-const END: &str = "\u{1b}[0m";
-
-/// Adds the text and the note of the line, as a terminal shows them or as they are.
-fn push_meaning(text: &mut String, line: &Line<'_>, style: Style) {
+/// Returns the text and the note of the line, as a terminal shows them or as they are.
+fn meaning(line: &Line, style: Style) -> String {
     let mut meaning = if style.is_short {
-        shortened(line.text.as_str())
+        shortened(&line.text)
     } else {
-        String::from(line.text.as_str())
+        line.text.clone()
     };
-    push_note(&mut meaning, line.note.as_str());
-    if style.is_colored {
-        push_isolated(text, meaning.as_str())
-    } else {
-        text.push_str(meaning.as_str())
+    if !line.note.is_empty() {
+        meaning.push(' ');
+        meaning.push_str(&comment(&line.note));
     }
+    if style.is_colored && meaning.chars().any(is_right_to_left) {
+        // No string can end its isolation, because these characters are escaped in it.
+        return isolated(&meaning, ("\u{2068}", "\u{2069}"), String::push);
+    }
+    meaning
 }
 
-/// Adds the bytes of the line after its first row, a row each, between `begin` and `end`.
-fn push_rows(text: &mut String, others: &[u8], (begin, end): (&str, &str), style: Style) {
-    let most = if style.is_short { MORE } else { usize::MAX };
-    let (shown, left) = others.split_at(others.len().min(most));
-    for row in shown.chunks(BYTES) {
-        text.push_str(begin);
-        text.push_str(crate::kit::hex::encode(row).as_str());
-        text.push_str(end);
-        text.push('\n');
-    }
-    if left.is_empty() {
-        return;
-    }
-    let count = left.len();
-    put!(text, "{begin}\u{2026} {count} more bytes{end}\n")
-}
-
-/// Adds the line: its bytes in rows, with its text and its note next to the first row.
-fn push_line(text: &mut String, line: &Line<'_>, style: Style) {
+/// Returns the line: its bytes in rows, with its text and its note next to the first row.
+fn rows(line: &Line, style: Style) -> String {
     let begin = if style.is_colored {
         color(line.cover)
     } else {
         ""
     };
-    let end = if begin.is_empty() { "" } else { END };
+    let end = if begin.is_empty() { "" } else { "\u{1b}[0m" };
     let (first, others) = line.bytes.split_at(line.bytes.len().min(BYTES));
-    text.push_str(begin);
-    push_bytes(text, first);
-    text.push_str("  ");
-    push_indentation(text, line.depth);
-    push_meaning(text, line, style);
-    text.push_str(end);
-    text.push('\n');
-    push_rows(text, others, (begin, end), style)
+    let most = if style.is_short { MORE } else { usize::MAX };
+    let (shown, left) = others.split_at(others.len().min(most));
+    let (indentation, meaning) = (indentation(line.depth), meaning(line, style));
+    let mut text = format!("{begin}{:32}  {indentation}{meaning}{end}\n", hex(first));
+    for row in shown.chunks(BYTES) {
+        text.push_str(&format!("{begin}{}{end}\n", hex(row)));
+    }
+    if !left.is_empty() {
+        text.push_str(&format!("{begin}\u{2026} {} more bytes{end}\n", left.len()));
+    }
+    text
 }
 
 /// Returns the lines with their bytes in hexadecimal, 16 in a row, and their notes as comments.
-pub fn annotated(lines: &[Line<'_>]) -> String {
-    let style = Style {
-        is_colored: false,
-        is_short: false,
-    };
-    styled(lines, style)
-}
-
-/// Returns the same text as [`annotated`] in another style.
-pub fn styled(lines: &[Line<'_>], style: Style) -> String {
-    let mut text = String::new();
-    for line in lines {
-        push_line(&mut text, line, style);
-    }
-    text
+pub fn annotated(lines: &[Line], style: Style) -> String {
+    lines.iter().map(|line| rows(line, style)).collect()
 }
 
 /// Returns the lines without their bytes and notes: diagnostic notation alone.
-pub fn notation(lines: &[Line<'_>]) -> String {
-    let mut text = String::new();
-    for line in lines {
-        if !line.text.is_empty() {
-            push_indentation(&mut text, line.depth);
-            text.push_str(line.text.as_str());
-            text.push('\n');
-        }
-    }
-    text
+pub fn notation(lines: &[Line]) -> String {
+    let shown = lines.iter().filter(|line| !line.text.is_empty());
+    shown
+        .map(|line| format!("{}{}\n", indentation(line.depth), line.text))
+        .collect()
 }

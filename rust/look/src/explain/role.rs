@@ -1,11 +1,11 @@
 //! The role of an item at its place: the names of its labels and numbers, and the roles of its
 //! parts.
 
+use crate::explain::names;
 use coset::iana::{
     Algorithm, CoapContentFormat, CwtClaimName, EllipticCurve, HeaderParameter, KeyOperation,
     KeyType, WithPrivateRange,
 };
-use crate::explain::names;
 
 /// A message (RFC 8152, section 2).
 #[derive(Clone, Copy, Debug, PartialEq, Eq)]
@@ -97,46 +97,17 @@ pub(crate) enum Role {
     AuthenticatorData,
 }
 
-/// A text label that tells what its value is, in maps of WebAuthn and of mobile documents (ISO/IEC
+/// Returns the place of the value under a text label of WebAuthn or of mobile documents (ISO/IEC
 /// 18013-5).
-#[derive(Clone, Copy, Debug, PartialEq, Eq)]
-pub(crate) enum Word {
-    /// Any other label.
-    Other,
-    AuthData,
-    Documents,
-    IssuerAuth,
-    DeviceSignature,
-    DeviceMac,
-    DeviceKey,
-    ValueDigests,
-}
-
-/// Returns the word that the bytes of a text label are.
-pub(crate) fn word_of(label: &[u8]) -> Word {
-    match str::from_utf8(label) {
-        Ok("authData") => Word::AuthData,
-        Ok("documents") => Word::Documents,
-        Ok("issuerAuth") => Word::IssuerAuth,
-        Ok("deviceSignature") => Word::DeviceSignature,
-        Ok("deviceMac") => Word::DeviceMac,
-        Ok("deviceKey") => Word::DeviceKey,
-        Ok("valueDigests") => Word::ValueDigests,
-        _ => Word::Other,
-    }
-}
-
-/// Returns the place of the value under a word.
-fn word_value(word: Word) -> Part {
-    match word {
-        Word::AuthData => Part::named(Role::AuthenticatorData, ""),
-        Word::IssuerAuth | Word::DeviceSignature => {
-            Part::named(Role::Message(Message::Sign1, false), "")
-        }
-        Word::DeviceMac => Part::named(Role::Message(Message::Mac0, false), ""),
-        Word::DeviceKey => Part::named(Role::Key, ""),
-        Word::Documents | Word::ValueDigests | Word::Other => Part::named(Role::Any, ""),
-    }
+fn word_value(word: &[u8]) -> Part {
+    let role = match word {
+        b"authData" => Role::AuthenticatorData,
+        b"issuerAuth" | b"deviceSignature" => Role::Message(Message::Sign1, false),
+        b"deviceMac" => Role::Message(Message::Mac0, false),
+        b"deviceKey" => Role::Key,
+        _ => Role::Any,
+    };
+    Part::named(role, "")
 }
 
 /// A place in an array or a map.
@@ -282,10 +253,7 @@ fn key_value(label: i64, key_type: Option<i64>) -> Part {
         2 | 5 => Part::read(Role::FilledBytes, ""),
         3 => Part::read(Role::Algorithm, ""),
         4 => Part::read(Role::Operations, ""),
-        -1 => match key_type {
-            Some(1 | 2) => Part::named(Role::Curve, ""),
-            _ => Part::named(Role::Any, ""),
-        },
+        -1 if matches!(key_type, Some(1 | 2)) => Part::named(Role::Curve, ""),
         _ => Part::named(Role::Any, ""),
     }
 }
@@ -306,32 +274,16 @@ fn claim_value(name: i64) -> Part {
 
 /// Returns the place of a value in a map with this role. `label` is `None` if the label is no
 /// integer, and `word` is what it is as a text.
-pub(crate) fn value_of(role: Role, label: Option<i64>, word: Word, key_type: Option<i64>) -> Part {
-    match role {
-        Role::Submodules => return Part::named(Role::Submodule, ""),
-        Role::Any if word != Word::Other => return word_value(word),
-        _ => {}
-    }
-    let Some(label) = label else {
-        return label_of(role, None).without_names();
-    };
-    match role {
-        Role::Header(_) => header_value(label),
-        Role::Key => key_value(label, key_type),
-        Role::Claims => claim_value(label),
-        Role::Confirmation if label == 1 => Part::named(Role::Key, ""),
-        Role::Plain => Part::named(Role::Plain, ""),
+pub(crate) fn value_of(role: Role, label: Option<i64>, word: &[u8], key_type: Option<i64>) -> Part {
+    match (role, label) {
+        (Role::Submodules, _) => Part::named(Role::Submodule, ""),
+        (Role::Plain, _) => Part::named(Role::Plain, ""),
+        (Role::Any, None) => word_value(word),
+        (Role::Header(_), Some(label)) => header_value(label),
+        (Role::Key, Some(label)) => key_value(label, key_type),
+        (Role::Claims, Some(label)) => claim_value(label),
+        (Role::Confirmation, Some(1)) => Part::named(Role::Key, ""),
         _ => Part::named(Role::Any, ""),
-    }
-}
-
-impl Part {
-    /// Returns a place without a known name or role.
-    fn without_names(self) -> Part {
-        match self.role {
-            Role::Plain => Part::named(Role::Plain, ""),
-            _ => Part::named(Role::Any, ""),
-        }
     }
 }
 

@@ -1,13 +1,13 @@
 //! What is known of an input, in a few short sentences.
 
-use coset::cbor::head::MajorType;
-use coset::cwt::Timestamp;
-use crate::explain::about::{About, Seals};
+use crate::explain::about::About;
 use crate::explain::apart::Explained;
 use crate::explain::cover::Cover;
 use crate::explain::kind::Kind;
-use crate::explain::moment::{is_early, is_no_moment, is_over, push_date, push_distance};
+use crate::explain::moment::{date, distance, is_early, is_no_moment, is_over};
 use crate::explain::role::{Role, title};
+use coset::cbor::head::MajorType;
+use coset::cwt::Timestamp;
 
 /// The most tags that are named.
 const TAGS: usize = 8;
@@ -17,87 +17,57 @@ const CWT: u64 = 61;
 
 /// Returns the standard's name of an item with this role and major type.
 fn item_name(role: Role, major_type: MajorType) -> &'static str {
-    match role {
-        Role::Signature => return "COSE_Countersignature",
-        Role::Claims => return "CWT claims",
-        _ => {}
-    }
-    let name = title(role);
-    if !name.is_empty() {
-        return name;
-    }
-    match major_type {
-        MajorType::Unsigned | MajorType::Negative => "CBOR integer",
-        MajorType::Bytes => "CBOR byte string",
-        MajorType::Text => "CBOR text string",
-        MajorType::Array => "CBOR array",
-        MajorType::Map => "CBOR map",
-        MajorType::Tag => "CBOR tag",
-        MajorType::Simple => "CBOR simple value or float",
+    match (role, major_type) {
+        (Role::Signature, _) => "COSE_Countersignature",
+        (Role::Claims, _) => "CWT claims",
+        (role, _) if !title(role).is_empty() => title(role),
+        (_, MajorType::Unsigned | MajorType::Negative) => "CBOR integer",
+        (_, MajorType::Bytes) => "CBOR byte string",
+        (_, MajorType::Text) => "CBOR text string",
+        (_, MajorType::Array) => "CBOR array",
+        (_, MajorType::Map) => "CBOR map",
+        (_, MajorType::Tag) => "CBOR tag",
+        (_, MajorType::Simple) => "CBOR simple value or float",
     }
 }
 
-/// Adds the tags around the item.
-fn push_tags(text: &mut String, tags: &[u64]) {
-    text.push_str(if tags.len() == 1 { "tag " } else { "tags " });
-    let (shown, more) = tags.split_at(TAGS.min(tags.len()));
-    let mut separator = "";
-    for tag in shown {
-        text.push_str(separator);
-        put!(text, "{tag}");
-        separator = ", ";
-    }
-    if !more.is_empty() {
-        text.push_str(" and more");
-    }
-}
-
-/// Adds the other kinds that the input could be.
-fn push_others(text: &mut String, others: &[Kind]) {
-    let mut separator = "could also be ";
-    for kind in others {
-        text.push_str(separator);
-        text.push_str(title(kind.role()));
-        separator = " or ";
-    }
+/// Returns the tags around the item.
+fn tags(tags: &[u64]) -> String {
+    let numbers: Vec<String> = tags.iter().take(TAGS).map(u64::to_string).collect();
+    let name = if tags.len() == 1 { "tag" } else { "tags" };
+    let more = if TAGS < tags.len() { " and more" } else { "" };
+    format!("{name} {}{more}", numbers.join(", "))
 }
 
 /// Returns true if the item is a COSE message.
 fn is_message(about: &About) -> bool {
-    matches!(about.item, Some((Role::Message(_, _), _)))
+    matches!(about.item, Some((Role::Message(..), _)))
 }
 
-/// Adds remarks on the item in brackets: its tags, that a message has none, and other kinds that it
-/// could be.
-fn push_remarks(text: &mut String, about: &About, others: &[Kind]) {
-    let mut close = "";
+/// Returns remarks on the item in brackets: its tags, that a message has none, and other kinds that
+/// it could be.
+fn remarks(about: &About, others: &[Kind]) -> String {
+    let mut remarks = Vec::new();
     if !about.tags.is_empty() {
-        text.push_str(" (");
-        push_tags(text, &about.tags);
-        close = ")";
+        remarks.push(tags(&about.tags));
     } else if is_message(about) {
-        text.push_str(" (no tag");
-        close = ")";
+        remarks.push("no tag".into());
     }
     if !others.is_empty() {
-        text.push_str(if close.is_empty() { " (" } else { "; " });
-        push_others(text, others);
-        close = ")";
+        let names: Vec<&str> = others.iter().map(|kind| title(kind.role())).collect();
+        remarks.push(format!("could also be {}", names.join(" or ")));
     }
-    text.push_str(close)
-}
-
-/// Adds that an item under the tag of a web token is no message (RFC 8392, section 6).
-fn push_no_token(text: &mut String, about: &About) {
-    if about.tags.contains(&CWT) && !is_message(about) {
-        text.push_str(" Tag 61 without a message: no web token.");
+    if remarks.is_empty() {
+        String::new()
+    } else {
+        format!(" ({})", remarks.join("; "))
     }
 }
 
-/// Adds the messages and claims inside the item.
-fn push_inside(text: &mut String, inside: &[&'static str]) {
-    let mut before_message = " with a nested ";
-    for name in inside {
+/// Returns the messages and claims inside the item.
+fn inside(names: &[&str]) -> String {
+    let (mut text, mut before_message) = (String::new(), " with a nested ");
+    for name in names {
         if name.starts_with("COSE_") {
             text.push_str(before_message);
             before_message = " with a nested ";
@@ -107,158 +77,144 @@ fn push_inside(text: &mut String, inside: &[&'static str]) {
         }
         text.push_str(name);
     }
+    text
 }
 
-/// Adds the name of the item, its tags, and the messages and claims inside it.
-fn push_item(text: &mut String, about: &About, others: &[Kind]) {
+/// Returns the name of the item, its tags, and the messages and claims inside it.
+fn item(about: &About, others: &[Kind]) -> String {
+    let remarks = remarks(about, others);
     let Some((role, major_type)) = about.item else {
-        text.push_str("Input");
-        return push_remarks(text, about, others);
+        return format!("Input{remarks}");
     };
-    if about.tags.contains(&CWT) && is_message(about) {
-        text.push_str("CWT: ");
-    }
-    match about.format {
-        Some(format) => text.push_str(format),
-        None => text.push_str(item_name(role, major_type)),
-    }
-    push_remarks(text, about, others);
-    push_inside(text, &about.inside)
+    let is_token = about.tags.contains(&CWT) && is_message(about);
+    let token = if is_token { "CWT: " } else { "" };
+    let name = about.format.unwrap_or_else(|| item_name(role, major_type));
+    format!("{token}{name}{remarks}{}", inside(&about.inside))
 }
 
-/// Adds that one or several parts, such as signatures, were not checked.
-fn push_unchecked(text: &mut String, count: usize, one: &str, several: &str) {
+/// Returns that one or several parts, such as signatures, were not checked.
+fn unchecked(count: usize, one: &str, several: &str) -> String {
     match count {
-        0 => (),
-        1 => put!(text, " {one} not checked."),
-        _ => put!(text, " {count} {several} not checked."),
+        0 => String::new(),
+        1 => format!(" {one} not checked."),
+        _ => format!(" {count} {several} not checked."),
     }
 }
 
-/// Adds what was not checked, because it needs a key.
-fn push_seals(text: &mut String, about: &About) {
-    let Seals {
-        signatures,
-        countersignatures,
-        macs,
-        ciphertexts,
-        lists,
-        filled_lists,
-    } = about.seals;
-    if about.is_detached {
-        text.push_str(" Content detached.");
-    }
-    if filled_lists < lists {
-        text.push_str(" No signatures: nothing is signed.");
-    }
-    push_unchecked(text, signatures, "Signature", "signatures");
-    push_unchecked(
-        text,
-        countersignatures,
-        "Countersignature",
-        "countersignatures",
-    );
-    push_unchecked(text, macs, "MAC", "MACs");
-    if 0 < ciphertexts {
-        text.push_str(" Not decrypted.");
+/// Returns the sentence, if it is true.
+fn sentence(is_true: bool, sentence: &str) -> String {
+    if is_true {
+        sentence.into()
+    } else {
+        String::new()
     }
 }
 
-/// Adds a sentence about a moment. For an infinity or NaN, adds that it is none.
-fn push_moment(text: &mut String, words: &str, timestamp: &Timestamp, now: i64) {
-    text.push_str(words);
+/// Returns what was not checked, because it needs a key.
+fn seals(about: &About) -> String {
+    let seals = &about.seals;
+    let is_unsigned = seals.filled_lists < seals.lists;
+    [
+        sentence(about.is_detached, " Content detached."),
+        sentence(is_unsigned, " No signatures: nothing is signed."),
+        unchecked(seals.signatures, "Signature", "signatures"),
+        unchecked(
+            seals.countersignatures,
+            "Countersignature",
+            "countersignatures",
+        ),
+        unchecked(seals.macs, "MAC", "MACs"),
+        sentence(0 < seals.ciphertexts, " Not decrypted."),
+    ]
+    .concat()
+}
+
+/// Returns a sentence about a moment. For an infinity or NaN, it says that it is none.
+fn moment(words: &str, timestamp: &Timestamp, now: i64) -> String {
     match timestamp {
         Timestamp::FractionalSeconds(seconds) if is_no_moment(timestamp) => {
-            let seconds = seconds.to_f64();
-            return put!(text, ": no moment ({seconds}).");
+            format!(" {words}: no moment ({}).", seconds.to_f64())
         }
-        _ => text.push(' '),
+        _ => format!(" {words} {}{}.", date(timestamp), distance(timestamp, now)),
     }
-    push_date(text, timestamp);
-    push_distance(text, timestamp, now);
-    text.push('.')
 }
 
-/// Adds the claims' times, judged by `now` (RFC 8392, sections 3.1.4 to 3.1.6).
-fn push_times(text: &mut String, about: &About, now: i64) {
-    if let Some(expiry) = &about.expiry {
+/// Returns the claims' times, judged by `now` (RFC 8392, sections 3.1.4 to 3.1.6).
+fn times(about: &About, now: i64) -> String {
+    let expiry = about.expiry.as_ref().map(|expiry| {
         let words = if is_over(expiry, Some(now)) {
-            " Expired"
+            "Expired"
         } else {
-            " Expires"
+            "Expires"
         };
-        push_moment(text, words, expiry, now);
-    }
-    match &about.start {
-        Some(start) if is_early(start, Some(now)) => {
-            push_moment(text, " Not valid before", start, now);
-        }
-        _ => {}
-    }
-    match &about.issued {
-        Some(issued) if is_early(issued, Some(now)) => {
-            let words = if is_no_moment(issued) {
-                " Issued"
-            } else {
-                " Issued in the future,"
-            };
-            push_moment(text, words, issued, now);
-        }
-        _ => {}
-    }
+        moment(words, expiry, now)
+    });
+    let start = about
+        .start
+        .as_ref()
+        .filter(|start| is_early(start, Some(now)));
+    let start = start.map(|start| moment("Not valid before", start, now));
+    let issued = about
+        .issued
+        .as_ref()
+        .filter(|issued| is_early(issued, Some(now)));
+    let issued = issued.map(|issued| {
+        let words = if is_no_moment(issued) {
+            "Issued"
+        } else {
+            "Issued in the future,"
+        };
+        moment(words, issued, now)
+    });
+    [expiry, start, issued].into_iter().flatten().collect()
 }
 
-/// Adds that claims weren't read, so that their times aren't judged.
-fn push_unread(text: &mut String, about: &About) {
+/// Returns that claims weren't read, so that their times aren't judged.
+fn unread(about: &About) -> String {
+    let mut text = String::new();
     if let Some(error) = &about.unread {
-        let error = error.as_str();
-        put!(
-            text,
-            " Its payload isn't read as claims ({error}), and its times aren't judged."
-        );
+        text +=
+            &format!(" Its payload isn't read as claims ({error}), and its times aren't judged.");
     }
     if let Some(error) = &about.others_unread {
-        let error = error.as_str();
-        put!(
-            text,
-            " Nested claims aren't read ({error}), and their times aren't judged."
-        );
+        text += &format!(" Nested claims aren't read ({error}), and their times aren't judged.");
     }
     if about.is_chunked {
-        text.push_str(" Payloads and protected headers in chunks aren't opened, ");
-        text.push_str("so claims in them aren't judged.");
+        text += " Payloads and protected headers in chunks aren't opened, ";
+        text += "so claims in them aren't judged.";
     }
+    text
 }
 
-/// Adds what is known of claims: their times, if a payload was read as claims or needn't be, and
+/// Returns what is known of claims: their times, if a payload was read as claims or needn't be, and
 /// those of nested claims.
-fn push_claims(text: &mut String, about: &About, now: Option<i64>) {
-    push_unread(text, about);
+fn claims(about: &About, now: Option<i64>) -> String {
     let Some(now) = now else {
-        return;
+        return unread(about);
     };
-    if about.unread.is_none() {
-        push_times(text, about, now);
-    }
-    if about.others_expired {
-        text.push_str(" Nested claims expired.");
-    }
-    if about.others_early {
-        text.push_str(" Nested claims not valid yet.");
-    }
+    let times = if about.unread.is_none() {
+        times(about, now)
+    } else {
+        String::new()
+    };
+    [
+        unread(about),
+        times,
+        sentence(about.others_expired, " Nested claims expired."),
+        sentence(about.others_early, " Nested claims not valid yet."),
+    ]
+    .concat()
 }
 
 impl Explained<'_> {
     /// Returns why and where the first line that was refused was refused, without other remarks on
     /// it.
     fn refusal(&self) -> Option<&str> {
-        for line in &self.lines {
-            if line.cover == Cover::Refused {
-                let note = line.note.as_str();
-                return Some(note.split_once("; ").unwrap_or((note, "")).0);
-            }
-        }
-        None
+        let refused = self
+            .lines
+            .iter()
+            .find(|line| line.cover == Cover::Refused)?;
+        refused.note.split("; ").next()
     }
 
     /// Returns a summary of the input in a few short sentences.
@@ -268,18 +224,17 @@ impl Explained<'_> {
     /// kinds that the input could be. If the input was refused, the summary says where and why
     /// instead.
     pub fn summary(&self, others: &[Kind], now: Option<i64>) -> String {
-        let (mut text, about) = (String::new(), &self.about);
-        push_item(&mut text, about, others);
-        text.push_str(", ");
+        let about = &self.about;
+        let item = item(about, others);
         if let Some(refusal) = self.refusal() {
-            text.push_str(refusal);
-            text.push('.');
-            return text;
+            return format!("{item}, {refusal}.");
         }
-        text.push_str("well-formed.");
-        push_no_token(&mut text, about);
-        push_seals(&mut text, about);
-        push_claims(&mut text, about, now);
-        text
+        let is_no_token = about.tags.contains(&CWT) && !is_message(about);
+        let no_token = sentence(is_no_token, " Tag 61 without a message: no web token.");
+        format!(
+            "{item}, well-formed.{no_token}{}{}",
+            seals(about),
+            claims(about, now)
+        )
     }
 }

@@ -7,9 +7,7 @@ use crate::notation::fault::{Expected, Stop};
 use crate::notation::head::Major;
 use crate::notation::leaf::{Leaf, leaf_or_tag};
 use crate::notation::levels::Levels;
-use crate::notation::list::{
-    List, Next, behind_colon, behind_parenthesis, opening, push_list,
-};
+use crate::notation::list::{List, Next, behind_colon, behind_parenthesis, opening, push_list};
 use crate::notation::string::push_string;
 
 /// Adds the element at the front of the text, which in a map is a pair, and returns the text after

@@ -1,6 +1,5 @@
 //! Numbers (RFC 8259, section 6; RFC 8610, appendix G.5).
 
-use crate::kit::f64_to_bits_with_nan;
 use crate::notation::decimal::{Magnitude, digit, small};
 use crate::notation::fault::{Expected, Stop};
 use crate::notation::float::{INFINITY, SIGN, push_float};
@@ -80,10 +79,12 @@ fn integer(is_negative: bool, digits: &[u8], radix: u32) -> Result<Number, Stop>
 
 /// Returns the float that the text writes. A number that is too great for a double is refused.
 fn float(text: &[u8]) -> Result<Number, Stop> {
-    let Ok(value) = crate::kit::fast_float::parse::<f64, _>(text) else {
+    let number = std::str::from_utf8(text)
+        .ok()
+        .and_then(|text| text.parse::<f64>().ok());
+    let Some(bits) = number.map(f64::to_bits) else {
         return Err(Stop::at(text, Expected::Digit));
     };
-    let bits = f64_to_bits_with_nan(value);
     if bits % SIGN < INFINITY {
         Ok(Number::Float(bits))
     } else {

@@ -3,9 +3,7 @@
 use crate::notation::base::{Base, based};
 use crate::notation::blank::{is_space, without_blanks};
 use crate::notation::fault::{Expected, Stop};
-use crate::notation::head::{
-    Major, behind_open, push_break, push_fitting, push_open, told_width,
-};
+use crate::notation::head::{Major, behind_open, push_break, push_fitting, push_open, told_width};
 
 /// Returns the type of the string at the front of the text, or `None` if there is no string.
 pub(crate) fn type_at_front(text: &[u8]) -> Option<Major> {

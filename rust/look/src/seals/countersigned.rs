@@ -1,14 +1,12 @@
 //! The countersignatures in the unprotected header of a message (RFC 8152, section 4.5; RFC 9338).
 
+use crate::seals::seal::{Part, Seal};
+use crate::seals::seals::{Asked, MOST};
 use coset::{
-    Header, ProtectedHeader, Result, SignatureContext, countersign_v2_structure_data,
+    Header, ProtectedHeader, SignatureContext, countersign_v2_structure_data,
     countersign0_v2_structure_data, sig_structure_data,
 };
 use coset_cwt::Form;
-
-use crate::seals::remarks::Remarks;
-use crate::seals::seal::{Part, Seal};
-use crate::seals::seals::{Asked, MOST};
 
 /// The message that is countersigned.
 #[derive(Clone, Copy)]
@@ -23,141 +21,92 @@ pub(crate) struct Target<'a> {
     pub other: Option<&'a [u8]>,
 }
 
-/// Returns the structure of a countersignature without other fields, with this protected header.
-fn structure(
-    asked: &Asked<'_>,
-    target: &Target<'_>,
-    signer: &ProtectedHeader,
-) -> Result<Option<Vec<u8>>> {
-    let Some(content) = target.content else {
-        return Ok(None);
-    };
-    Ok(Some(sig_structure_data(
-        SignatureContext::CounterSignature,
-        target.protected.clone(),
-        Some(signer.clone()),
-        asked.external_aad,
-        content,
-    )))
-}
-
-/// Returns the structure of a countersignature of version 2 with this protected header (RFC 9338,
-/// section 3.3).
-fn structure_v2(
-    asked: &Asked<'_>,
-    target: &Target<'_>,
-    signer: &ProtectedHeader,
-) -> Result<Option<Vec<u8>>> {
-    let Some(other) = target.other else {
-        return structure(asked, target, signer);
-    };
-    let Some(content) = target.content else {
-        return Ok(None);
-    };
-    let others = [other.to_vec()];
-    Ok(Some(countersign_v2_structure_data(
-        target.protected.clone(),
-        signer.clone(),
-        asked.external_aad,
-        content,
-        &others,
-    )))
-}
-
-/// Returns the structure of an abbreviated countersignature of version 2 (RFC 9338, section 3.3).
-/// Returns `None` if the message has no other fields.
-fn structure_abbreviated(asked: &Asked<'_>, target: &Target<'_>) -> Result<Option<Vec<u8>>> {
-    let (Some(content), Some(other)) = (target.content, target.other) else {
-        return Ok(None);
-    };
-    let others = [other.to_vec()];
-    Ok(Some(countersign0_v2_structure_data(
-        target.protected.clone(),
-        asked.external_aad,
-        content,
-        &others,
-    )))
-}
-
-/// Returns the countersignature at this index under label 7, or `None` if there is none.
-fn first_at(asked: &Asked<'_>, target: &Target<'_>, index: usize) -> Result<Option<Seal>> {
-    let Some(signed) = target.unprotected.counter_signatures.get(index) else {
-        return Ok(None);
-    };
-    Ok(Some(Seal {
-        layer: asked.layer,
-        part: Part::Countersignature(index),
-        form: Form::Sign,
-        protected: signed.protected.clone(),
-        unprotected: signed.unprotected.clone(),
-        recipient: None,
-        proof: signed.signature.to_vec(),
-        structure: structure(asked, target, &signed.protected)?,
-        outside: Remarks::none(),
-    }))
-}
-
-/// Returns the countersignature at this index under label 11, or `None` if there is none.
-fn second_at(asked: &Asked<'_>, target: &Target<'_>, index: usize) -> Result<Option<Seal>> {
-    let Some(signed) = target.unprotected.countersignatures_v2.get(index) else {
-        return Ok(None);
-    };
-    Ok(Some(Seal {
-        layer: asked.layer,
-        part: Part::CountersignatureV2(index),
-        form: Form::Sign,
-        protected: signed.protected.clone(),
-        unprotected: signed.unprotected.clone(),
-        recipient: None,
-        proof: signed.signature.to_vec(),
-        structure: structure_v2(asked, target, &signed.protected)?,
-        outside: Remarks::none(),
-    }))
-}
-
-/// Returns the countersignature under label 12. It has no headers of its own.
-fn third(asked: &Asked<'_>, target: &Target<'_>, signature: &[u8]) -> Result<Seal> {
-    Ok(Seal {
-        layer: asked.layer,
-        part: Part::AbbreviatedV2,
-        form: Form::Sign,
-        protected: ProtectedHeader::new(),
-        unprotected: Header::new(),
-        recipient: None,
-        proof: signature.to_vec(),
-        structure: structure_abbreviated(asked, target)?,
-        outside: Remarks::none(),
-    })
-}
-
-/// Returns the countersignatures under label 7, or the first `MOST` + 1 of them.
-pub(crate) fn first_version(asked: &Asked<'_>, target: &Target<'_>) -> Result<Vec<Seal>> {
-    let mut list = Vec::new();
-    for index in 0..=MOST {
-        match first_at(asked, target, index)? {
-            Some(seal) => list.push(seal),
-            None => break,
-        }
+impl Target<'_> {
+    /// Returns the structure of a countersignature without other fields, with this protected
+    /// header.
+    fn structure(&self, asked: &Asked, signer: &ProtectedHeader) -> Option<Vec<u8>> {
+        Some(sig_structure_data(
+            SignatureContext::CounterSignature,
+            self.protected.clone(),
+            Some(signer.clone()),
+            asked.external_aad,
+            self.content?,
+        ))
     }
-    Ok(list)
-}
 
-/// Returns the countersignatures under label 11, or the first `MOST` + 1 of them.
-pub(crate) fn second_version(asked: &Asked<'_>, target: &Target<'_>) -> Result<Vec<Seal>> {
-    let mut list = Vec::new();
-    for index in 0..=MOST {
-        match second_at(asked, target, index)? {
-            Some(seal) => list.push(seal),
-            None => break,
-        }
+    /// Returns the structure of a countersignature of version 2 with this protected header (RFC
+    /// 9338, section 3.3).
+    fn structure_v2(&self, asked: &Asked, signer: &ProtectedHeader) -> Option<Vec<u8>> {
+        let Some(other) = self.other else {
+            return self.structure(asked, signer);
+        };
+        Some(countersign_v2_structure_data(
+            self.protected.clone(),
+            signer.clone(),
+            asked.external_aad,
+            self.content?,
+            &[other.to_vec()],
+        ))
     }
-    Ok(list)
-}
 
-/// Returns the list of the countersignature under label 12. It is empty if there is none.
-pub(crate) fn abbreviated(asked: &Asked<'_>, target: &Target<'_>) -> Result<Vec<Seal>> {
-    match &target.unprotected.countersignature0_v2 {
-        Some(signature) => Ok(Vec::from([third(asked, target, signature)?])),
-        None => Ok(Vec::new()),
+    /// Returns the structure of an abbreviated countersignature of version 2 (RFC 9338, section
+    /// 3.3). Returns `None` if the message has no other fields.
+    fn structure_abbreviated(&self, asked: &Asked) -> Option<Vec<u8>> {
+        let others = [self.other?.to_vec()];
+        let (protected, content) = (self.protected.clone(), self.content?);
+        Some(countersign0_v2_structure_data(
+            protected,
+            asked.external_aad,
+            content,
+            &others,
+        ))
+    }
+
+    /// Returns the countersignatures under labels 7, 11 and 12, of each label the first `MOST` + 1.
+    pub(crate) fn countersignatures(&self, asked: &Asked) -> Vec<Seal> {
+        let (no_protected, no_header) = (ProtectedHeader::default(), Header::default());
+        let seal = |part, protected, unprotected| {
+            Seal::of(asked.layer, part, Form::Sign, protected, unprotected)
+        };
+        let first = self
+            .unprotected
+            .counter_signatures
+            .iter()
+            .take(MOST + 1)
+            .enumerate();
+        let second = self
+            .unprotected
+            .countersignatures_v2
+            .iter()
+            .take(MOST + 1)
+            .enumerate();
+        let first = first.map(|(index, signed)| Seal {
+            proof: signed.signature.clone(),
+            structure: self.structure(asked, &signed.protected),
+            ..seal(
+                Part::Countersignature(index),
+                &signed.protected,
+                &signed.unprotected,
+            )
+        });
+        let second = second.map(|(index, signed)| Seal {
+            proof: signed.signature.clone(),
+            structure: self.structure_v2(asked, &signed.protected),
+            ..seal(
+                Part::CountersignatureV2(index),
+                &signed.protected,
+                &signed.unprotected,
+            )
+        });
+        let third = self
+            .unprotected
+            .countersignature0_v2
+            .iter()
+            .map(|signature| Seal {
+                proof: signature.clone(),
+                structure: self.structure_abbreviated(asked),
+                ..seal(Part::AbbreviatedV2, &no_protected, &no_header)
+            });
+        first.chain(second).chain(third).collect()
     }
 }

@@ -1,12 +1,12 @@
 //! Messages, read by a form, by their tag, or by what they fit.
 
+use crate::seals::countersigned::Target;
 use coset::cbor::head::{MajorType, read_head};
 use coset::{
-    CoseEncrypt, CoseEncrypt0, CoseError, CoseMac, CoseMac0, CoseSign, CoseSign1, Header,
-    ProtectedHeader, Result, TaggedCborSerializable,
+    CoseEncrypt, CoseEncrypt0, CoseMac, CoseMac0, CoseSign, CoseSign1, Header, ProtectedHeader,
+    TaggedCborSerializable,
 };
 use coset_cwt::Form;
-use crate::seals::countersigned::Target;
 
 /// The tag of web tokens (RFC 8392, section 6).
 const CWT: u64 = 61;
@@ -31,17 +31,9 @@ pub(crate) enum Message {
     Encrypt(CoseEncrypt),
 }
 
-/// Returns the bytes of a content, or `None` if it is detached.
-fn bytes_of(content: &Option<Vec<u8>>) -> Option<&[u8]> {
-    match content {
-        Some(bytes) => Some(bytes),
-        None => None,
-    }
-}
-
 impl Message {
     /// Returns the protected and the unprotected header.
-    fn headers(&self) -> (&ProtectedHeader, &Header) {
+    pub(crate) fn headers(&self) -> (&ProtectedHeader, &Header) {
         match self {
             Message::Sign1(message) => (&message.protected, &message.unprotected),
             Message::Mac0(message) => (&message.protected, &message.unprotected),
@@ -52,36 +44,23 @@ impl Message {
         }
     }
 
-    /// Returns the payload or the ciphertext, or `None` if it is detached.
-    fn content(&self) -> Option<&[u8]> {
-        match self {
-            Message::Sign1(message) => bytes_of(&message.payload),
-            Message::Mac0(message) => bytes_of(&message.payload),
-            Message::Encrypt0(message) => bytes_of(&message.ciphertext),
-            Message::Sign(message) => bytes_of(&message.payload),
-            Message::Mac(message) => bytes_of(&message.payload),
-            Message::Encrypt(message) => bytes_of(&message.ciphertext),
-        }
-    }
-
-    /// Returns the byte string after the second, or `None` if there is none.
-    fn other(&self) -> Option<&[u8]> {
-        match self {
-            Message::Sign1(message) => Some(&message.signature),
-            Message::Mac0(message) => Some(&message.tag),
-            Message::Mac(message) => Some(&message.tag),
-            _ => None,
-        }
-    }
-
     /// Returns the parts of the message that countersignatures cover.
     pub(crate) fn target(&self) -> Target<'_> {
         let (protected, unprotected) = self.headers();
+        let (content, other) = match self {
+            Message::Sign1(message) => (&message.payload, Some(&message.signature)),
+            Message::Mac0(message) => (&message.payload, Some(&message.tag)),
+            Message::Encrypt0(message) => (&message.ciphertext, None),
+            Message::Sign(message) => (&message.payload, None),
+            Message::Mac(message) => (&message.payload, Some(&message.tag)),
+            Message::Encrypt(message) => (&message.ciphertext, None),
+        };
+        let other = other.map(Vec::as_slice);
         Target {
             protected,
             unprotected,
-            content: self.content(),
-            other: self.other(),
+            content: content.as_deref(),
+            other,
         }
     }
 
@@ -112,85 +91,39 @@ fn form_of(tag: u64) -> Option<Form> {
 
 /// Returns the number of the tag at the front, and the bytes after its head.
 fn tag_at_front(bytes: &[u8]) -> Option<(u64, &[u8])> {
-    match read_head(bytes) {
-        Ok((head, rest)) if head.major_type == MajorType::Tag => Some((head.number()?, rest)),
-        _ => None,
-    }
-}
-
-/// Returns the content of tag 61 at the front, or other bytes as they are.
-fn without_cwt_tag(bytes: &[u8]) -> &[u8] {
-    match tag_at_front(bytes) {
-        Some((CWT, rest)) => rest,
-        _ => bytes,
-    }
+    let (head, rest) = read_head(bytes).ok()?;
+    head.number()
+        .filter(|_| head.major_type == MajorType::Tag)
+        .map(|tag| (tag, rest))
 }
 
 /// Reads a message of this form, plain or under its tag.
-///
-/// # Errors
-/// - `OutOfMemory` if an allocation fails.
-/// - A fault in bytes that aren't such a message.
-fn read_as(form: Form, bytes: &[u8]) -> Result<Message> {
+fn read_as(form: Form, bytes: &[u8]) -> Option<Message> {
     match form {
-        Form::Sign1 => Ok(Message::Sign1(CoseSign1::from_any_slice(bytes)?)),
-        Form::Mac0 => Ok(Message::Mac0(CoseMac0::from_any_slice(bytes)?)),
-        Form::Encrypt0 => Ok(Message::Encrypt0(CoseEncrypt0::from_any_slice(bytes)?)),
-        Form::Sign => Ok(Message::Sign(CoseSign::from_any_slice(bytes)?)),
-        Form::Mac => Ok(Message::Mac(CoseMac::from_any_slice(bytes)?)),
-        Form::Encrypt => Ok(Message::Encrypt(CoseEncrypt::from_any_slice(bytes)?)),
+        Form::Sign1 => CoseSign1::from_any_slice(bytes).map(Message::Sign1),
+        Form::Mac0 => CoseMac0::from_any_slice(bytes).map(Message::Mac0),
+        Form::Encrypt0 => CoseEncrypt0::from_any_slice(bytes).map(Message::Encrypt0),
+        Form::Sign => CoseSign::from_any_slice(bytes).map(Message::Sign),
+        Form::Mac => CoseMac::from_any_slice(bytes).map(Message::Mac),
+        Form::Encrypt => CoseEncrypt::from_any_slice(bytes).map(Message::Encrypt),
     }
-}
-
-/// Reads a message of the first form that fits.
-///
-/// # Errors
-/// - `OutOfMemory` if an allocation fails.
-/// - The fault against the last form, if none fits.
-fn read_tried(bytes: &[u8]) -> Result<Message> {
-    let mut refused = CoseError::ExtraneousData;
-    for form in TRIED {
-        match read_as(form, bytes) {
-            Ok(message) => return Ok(message),
-            Err(CoseError::OutOfMemory) => return Err(CoseError::OutOfMemory),
-            Err(error) => refused = error,
-        }
-    }
-    Err(refused)
+    .ok()
 }
 
 /// Reads the message that the tag at the front names.
-///
-/// # Errors
-/// - `OutOfMemory` if an allocation fails.
-/// - A fault in the bytes, if they are no message under its tag.
-pub(crate) fn read_tagged(bytes: &[u8]) -> Result<Message> {
-    match tag_at_front(bytes) {
-        Some((tag, _)) => match form_of(tag) {
-            Some(form) => read_as(form, bytes),
-            None => Err(CoseError::UnexpectedItem("tag", "message")),
-        },
-        None => Err(CoseError::UnexpectedItem("no tag", "message")),
-    }
+pub(crate) fn read_tagged(bytes: &[u8]) -> Option<Message> {
+    let (tag, _) = tag_at_front(bytes)?;
+    read_as(form_of(tag)?, bytes)
 }
 
 /// Reads the outermost message: of the form `form`, if it is given, plain or under its tag. Else it
 /// is of the form that its tag names, with or without tag 61. Without any tag, it is of the first
 /// form that fits. The content of tag 61 must have a tag (RFC 8392, section 6).
-///
-/// # Errors
-/// - `OutOfMemory` if an allocation fails.
-/// - A fault in bytes that aren't such a message.
-pub(crate) fn read_outermost(form: Option<Form>, bytes: &[u8]) -> Result<Message> {
-    match form {
-        Some(form) => read_as(form, bytes),
-        None => {
-            let inner = without_cwt_tag(bytes);
-            if tag_at_front(bytes).is_some() {
-                read_tagged(inner)
-            } else {
-                read_tried(inner)
-            }
-        }
+pub(crate) fn read_outermost(form: Option<Form>, bytes: &[u8]) -> Option<Message> {
+    match (form, tag_at_front(bytes)) {
+        (Some(form), _) => read_as(form, bytes),
+        (None, Some((CWT, inner))) => read_tagged(inner),
+        (None, Some(_)) => read_tagged(bytes),
+        (None, None) => TRIED.into_iter().find_map(|form| read_as(form, bytes)),
     }
 }

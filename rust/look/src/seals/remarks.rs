@@ -1,10 +1,10 @@
 //! What headers have that a receiver must understand, or must refuse.
 
 use coset::{CoseRecipient, Header, Label};
-use coset::__proved::coset_codec::has_repeats;
+use std::collections::BTreeSet;
 
 /// What the headers of a layer have.
-#[derive(Clone, Copy, Debug, PartialEq, Eq)]
+#[derive(Clone, Copy, Debug, Default, PartialEq, Eq)]
 pub struct Remarks {
     /// Whether a header lists critical labels (RFC 9052, section 3.1).
     pub is_critical: bool,
@@ -27,58 +27,32 @@ fn fields(header: &Header) -> [bool; 9] {
     ]
 }
 
-/// Returns true if a field is set in both headers.
-fn share_field(one: &Header, other: &Header) -> bool {
-    for (in_one, in_other) in fields(one).iter().zip(fields(other).iter()) {
-        if *in_one && *in_other {
-            return true;
-        }
-    }
-    false
-}
-
-/// Returns true if both headers have one of the other labels.
+/// Returns true if both headers have a label.
 fn share_label(one: &Header, other: &Header) -> bool {
-    let mut labels: Vec<(&Label, ())> = Vec::new();
-    for (label, _) in &one.rest {
-        labels.push((label, ()));
-    }
-    for (label, _) in &other.rest {
-        labels.push((label, ()));
-    }
-    match has_repeats(&labels) {
-        Ok(is_repeated) => is_repeated,
-        Err(_) => panic!("memory"),
-    }
+    let mut pairs = fields(one).into_iter().zip(fields(other));
+    let labels: BTreeSet<&Label> = one.rest.iter().map(|(label, _)| label).collect();
+    pairs.any(|pair| pair == (true, true))
+        || other.rest.iter().any(|(label, _)| labels.contains(label))
 }
 
 impl Remarks {
-    /// Returns that there is nothing to say.
-    pub(crate) fn none() -> Remarks {
-        Remarks {
-            is_critical: false,
-            is_in_both: false,
-        }
-    }
-
     /// Returns what the two headers of a layer have.
     pub(crate) fn of(protected: &Header, unprotected: &Header) -> Remarks {
         Remarks {
             is_critical: !protected.crit.is_empty() || !unprotected.crit.is_empty(),
-            is_in_both: share_field(protected, unprotected) || share_label(protected, unprotected),
+            is_in_both: share_label(protected, unprotected),
         }
     }
 
     /// Returns that a recipient's header lists critical labels, if one does.
     pub(crate) fn of_recipients(recipients: &[CoseRecipient]) -> Remarks {
-        let mut remarks = Remarks::none();
-        for recipient in recipients {
-            let (protected, unprotected) = (&recipient.protected.header, &recipient.unprotected);
-            if !protected.crit.is_empty() || !unprotected.crit.is_empty() {
-                remarks.is_critical = true;
-            }
+        let is_critical = recipients.iter().any(|recipient| {
+            !recipient.protected.header.crit.is_empty() || !recipient.unprotected.crit.is_empty()
+        });
+        Remarks {
+            is_critical,
+            is_in_both: false,
         }
-        remarks
     }
 
     /// Returns what these headers or others have.

@@ -1,8 +1,8 @@
 //! A signature, MAC or ciphertext of a message, with what decides which key fits it.
 
+use crate::seals::remarks::Remarks;
 use coset::{Header, ProtectedHeader};
 use coset_cwt::{Form, Sealed};
-use crate::seals::remarks::Remarks;
 
 /// The part of a message that a seal is.
 #[derive(Clone, Copy, Debug, PartialEq, Eq)]
@@ -48,42 +48,47 @@ pub struct Seal {
 }
 
 impl Seal {
+    /// Returns a seal with these headers and an empty proof, without a structure and a recipient.
+    pub(crate) fn of(
+        layer: usize,
+        part: Part,
+        form: Form,
+        protected: &ProtectedHeader,
+        unprotected: &Header,
+    ) -> Seal {
+        Seal {
+            layer,
+            part,
+            form,
+            protected: protected.clone(),
+            unprotected: unprotected.clone(),
+            recipient: None,
+            proof: Vec::new(),
+            structure: None,
+            outside: Remarks::default(),
+        }
+    }
+
     /// Returns what the headers of the seal's layer have, and those of recipients and of a message
     /// around it.
     pub fn remarks(&self) -> Remarks {
-        let own = Remarks::of(&self.protected.header, &self.unprotected);
-        own.or(self.outside)
-    }
-}
-
-impl Seal {
-    /// Returns the structure. It is empty if there is none.
-    fn structure_bytes(&self) -> &[u8] {
-        match &self.structure {
-            Some(structure) => structure,
-            None => &[],
-        }
+        Remarks::of(&self.protected.header, &self.unprotected).or(self.outside)
     }
 
     /// Returns the parts that decide which key fits.
     pub fn sealed(&self) -> Sealed<'_> {
-        let structure = self.structure_bytes();
+        let (protected, unprotected) = (&self.protected, &self.unprotected);
+        let (proof, structure) = (&self.proof, self.structure.as_deref().unwrap_or_default());
         match &self.recipient {
             Some(recipient) => Sealed::for_recipient(
                 self.form,
-                &self.protected,
-                &self.unprotected,
-                &self.proof,
+                protected,
+                unprotected,
+                proof,
                 structure,
                 recipient,
             ),
-            None => Sealed::new(
-                self.form,
-                &self.protected,
-                &self.unprotected,
-                &self.proof,
-                structure,
-            ),
+            None => Sealed::new(self.form, protected, unprotected, proof, structure),
         }
     }
 }

@@ -1,14 +1,12 @@
 //! The seals of a message, and of the messages in its payload.
 
-use coset::Result;
-use coset_cwt::Form;
-use crate::seals::countersigned::{abbreviated, first_version, second_version};
 use crate::seals::message::{Message, read_outermost, read_tagged};
 use crate::seals::own::own_seals;
 use crate::seals::seal::Seal;
+use coset_cwt::Form;
 
-/// The greatest number of messages inside the outermost one.
-const MAX_INNER: usize = 3;
+/// The greatest number of messages: the outermost one, and those inside it.
+const LAYERS: usize = 4;
 
 /// The greatest number of seals.
 pub(crate) const MOST: usize = 16;
@@ -30,65 +28,15 @@ pub struct Seals {
     pub has_more: bool,
 }
 
-/// Returns the two lists as one.
-fn joined(mut list: Vec<Seal>, mut more: Vec<Seal>) -> Vec<Seal> {
-    list.append(&mut more);
-    list
-}
-
 /// Returns the seals of one message: its own, and its countersignatures. Of each list, they are the
-/// first 17 at most.
-fn of_message(asked: &Asked<'_>, message: &Message) -> Result<Vec<Seal>> {
-    let target = message.target();
-    let list = joined(own_seals(asked, message)?, first_version(asked, &target)?);
-    let list = joined(list, second_version(asked, &target)?);
-    Ok(joined(list, abbreviated(asked, &target)?))
-}
-
-/// Returns the result, or `None` if it is an error of the input.
-///
-/// # Errors
-/// `AllocError` if an allocation failed.
-fn unless_refused<T>(answer: Result<T>) -> Option<T> {
-    answer.ok()
-}
-
-/// Returns the seals of a message. None are there if a structure can't be made, which happens to no
-/// message that was read.
-///
-/// # Errors
-/// `AllocError` if an allocation failed.
-fn seals_in(asked: &Asked<'_>, message: &Message) -> Vec<Seal> {
-    of_message(asked, message).unwrap_or_default()
-}
-
-/// Reads the message in a payload, if it is one under its tag.
-///
-/// # Errors
-/// `AllocError` if an allocation failed.
-fn nested(payload: Option<Vec<u8>>) -> Option<Message> {
-    match payload {
-        Some(payload) => unless_refused(read_tagged(&payload)),
-        None => None,
-    }
-}
-
-/// Returns the seals of the messages in a payload.
-fn inner_seals(external_aad: &[u8], payload: Option<Vec<u8>>) -> Vec<Seal> {
-    let mut list = Vec::new();
-    let mut next = nested(payload);
-    for outer in 0..MAX_INNER {
-        let Some(message) = next else {
-            break;
-        };
-        let asked = Asked {
-            layer: outer + 1,
-            external_aad,
-        };
-        list = joined(list, seals_in(&asked, &message));
-        next = nested(message.into_payload());
-    }
-    list
+/// first 17 at most. There are none if a structure can't be made, which happens to no message that
+/// was read.
+fn of_message(asked: &Asked, message: &Message) -> Vec<Seal> {
+    let Ok(mut seals) = own_seals(asked, message) else {
+        return Vec::new();
+    };
+    seals.append(&mut message.target().countersignatures(asked));
+    seals
 }
 
 /// Returns the signatures, MACs and ciphertexts of a message, with its countersignatures, and of
@@ -101,17 +49,25 @@ fn inner_seals(external_aad: &[u8], payload: Option<Vec<u8>>) -> Vec<Seal> {
 /// A payload that is a message under its tag is the next layer. There are at most four layers.
 /// `external_aad` is that of each layer.
 pub fn seals_of(form: Option<Form>, bytes: &[u8], external_aad: &[u8]) -> Option<Seals> {
-    let Some(message) = unless_refused(read_outermost(form, bytes)) else {
-        return None;
-    };
-    let asked = Asked {
-        layer: 0,
-        external_aad,
-    };
-    let list = seals_in(&asked, &message);
-    let inner = inner_seals(external_aad, message.into_payload());
-    let mut seals = joined(list, inner);
-    let has_more = seals.len() > MOST;
+    let outermost = read_outermost(form, bytes)?;
+    let mut seals = Vec::new();
+    let mut next = Some(outermost);
+    for layer in 0..LAYERS {
+        let Some(message) = next else {
+            break;
+        };
+        seals.append(&mut of_message(
+            &Asked {
+                layer,
+                external_aad,
+            },
+            &message,
+        ));
+        next = message
+            .into_payload()
+            .and_then(|payload| read_tagged(&payload));
+    }
+    let has_more = MOST < seals.len();
     seals.truncate(MOST);
     Some(Seals { seals, has_more })
 }

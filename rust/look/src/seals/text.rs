@@ -1,247 +1,144 @@
 //! Seals and verdicts as lines of fields.
 
-use coset::cbor::value::Value;
-use coset::iana::{
-    Ec2KeyParameter, EnumI64, KeyType, RsaKeyParameter, SymmetricKeyParameter,
-};
-use coset::{
-    Algorithm, CoseKey, Label, RegisteredLabel, RegisteredLabelWithPrivate, Result,
-};
-use coset_cwt::Form;
+use crate::encode;
 use crate::seals::keys::{Keys, keys_from_slice};
 use crate::seals::seal::{Part, Seal};
-use crate::seals::seals::{Seals, seals_of};
+use crate::seals::seals::seals_of;
 use crate::seals::verdict::judge;
-use std::ascii::escape_default;
+use coset::cbor::value::Value;
+use coset::iana::{Ec2KeyParameter, EnumI64, KeyType, RsaKeyParameter, SymmetricKeyParameter};
+use coset::{Algorithm, CoseKey, Label, RegisteredLabel, RegisteredLabelWithPrivate};
+use coset_cwt::Form;
 
-/// Adds a text in quotes, with escapes for all but printable ASCII.
-fn push_quoted(text: &mut String, content: &str) {
-    text.push('"');
-    for byte in content.as_bytes() {
-        for escaped in escape_default(*byte) {
-            text.push(char::from(escaped));
-        }
-    }
-    text.push('"')
+/// Returns a text in quotes, with escapes for all but printable ASCII.
+fn quoted(text: &str) -> String {
+    format!("\"{}\"", text.as_bytes().escape_ascii())
 }
 
-/// Adds a number.
-fn push_number(text: &mut String, number: i64) {
-    put!(text, "{number}")
-}
-
-/// Adds bytes in hexadecimal, or `-` if there are none.
-fn push_bytes(text: &mut String, bytes: &[u8]) {
+/// Returns bytes in hexadecimal, or `-` if there are none.
+fn hex(bytes: &[u8]) -> String {
     if bytes.is_empty() {
-        return text.push('-');
+        "-".into()
+    } else {
+        encode::hex(bytes)
     }
-    text.push_str(crate::kit::hex::encode(bytes).as_str())
 }
 
-/// Adds an algorithm.
-fn push_algorithm(text: &mut String, algorithm: &Option<Algorithm>) {
+/// Returns the algorithm of the protected header.
+fn algorithm(seal: &Seal) -> String {
+    let algorithm: &Option<Algorithm> = &seal.protected.header.alg;
     match algorithm {
-        Some(RegisteredLabelWithPrivate::Assigned(assigned)) => {
-            push_number(text, assigned.to_i64())
-        }
-        Some(RegisteredLabelWithPrivate::PrivateUse(number)) => push_number(text, *number),
-        Some(RegisteredLabelWithPrivate::Text(name)) => push_quoted(text, name.as_str()),
-        None => text.push('-'),
+        Some(RegisteredLabelWithPrivate::Assigned(assigned)) => assigned.to_i64().to_string(),
+        Some(RegisteredLabelWithPrivate::PrivateUse(number)) => number.to_string(),
+        Some(RegisteredLabelWithPrivate::Text(name)) => quoted(name),
+        None => "-".into(),
     }
 }
 
-/// Adds the name of a seal.
-fn push_name(text: &mut String, seal: &Seal) {
-    if seal.layer > 0 {
-        let layer = seal.layer;
-        put!(text, "layer {layer}: ");
-    }
-    match seal.part {
-        Part::Signature => text.push_str("signature"),
-        Part::Signer(index) => put!(text, "signature {index}"),
-        Part::Tag => text.push_str("tag"),
-        Part::Ciphertext => text.push_str("ciphertext"),
-        Part::Countersignature(index) => put!(text, "countersignature {index} of the message"),
+/// Returns the name of a seal.
+fn name(seal: &Seal) -> String {
+    let name = match seal.part {
+        Part::Signature => "signature".into(),
+        Part::Signer(index) => format!("signature {index}"),
+        Part::Tag => "tag".into(),
+        Part::Ciphertext => "ciphertext".into(),
+        Part::Countersignature(index) => format!("countersignature {index} of the message"),
         Part::CountersignatureV2(index) => {
-            put!(text, "version 2 countersignature {index} of the message")
+            format!("version 2 countersignature {index} of the message")
         }
-        Part::AbbreviatedV2 => {
-            text.push_str("version 2 abbreviated countersignature of the message")
-        }
+        Part::AbbreviatedV2 => "version 2 abbreviated countersignature of the message".into(),
+    };
+    match seal.layer {
+        0 => name,
+        layer => format!("layer {layer}: {name}"),
     }
 }
 
-/// Adds the line of a ciphertext.
-fn push_ciphertext(text: &mut String, seal: &Seal) {
-    text.push_str("E\t");
-    push_name(text, seal);
-    text.push('\t');
-    push_algorithm(text, &seal.protected.header.alg);
-    text.push('\n')
-}
-
-/// Adds the line of a signature or MAC.
-fn push_seal(text: &mut String, seal: &Seal, form: &str) {
-    text.push_str("S\t");
-    push_name(text, seal);
-    put!(text, "\t{form}\t");
-    push_algorithm(text, &seal.protected.header.alg);
-    text.push('\t');
-    match &seal.structure {
-        Some(structure) => push_bytes(text, structure),
-        None => text.push('-'),
-    }
-    text.push('\t');
-    push_bytes(text, &seal.proof);
-    text.push('\t');
-    text.push_str(seal.remarks().words());
-    text.push('\n')
-}
-
-/// Adds a key's type.
-fn push_type(text: &mut String, kty: &RegisteredLabel<KeyType>) {
+/// Returns a key's type.
+fn key_type(kty: &RegisteredLabel<KeyType>) -> String {
     match kty {
-        RegisteredLabel::Assigned(assigned) => push_number(text, assigned.to_i64()),
-        RegisteredLabel::Text(name) => push_quoted(text, name.as_str()),
+        RegisteredLabel::Assigned(assigned) => assigned.to_i64().to_string(),
+        RegisteredLabel::Text(name) => quoted(name),
     }
 }
 
-/// Adds a key's curve: a number or a text.
-fn push_curve(text: &mut String, curve: Option<&Value>) {
-    let Some(curve) = curve else {
-        return text.push('-');
+/// Returns a key's curve: a number or a text.
+fn curve(curve: Option<&Value>) -> String {
+    let number = curve
+        .and_then(Value::as_integer)
+        .and_then(|number| i64::try_from(number).ok());
+    let text = curve.and_then(|curve| curve.as_text());
+    number
+        .map(|number| number.to_string())
+        .or_else(|| text.map(quoted))
+        .unwrap_or("-".into())
+}
+
+/// Returns the curve and the public members of a key of a known type, and the member of a symmetric
+/// key.
+fn members(key: &CoseKey) -> String {
+    let get = |label: i64| key.get(&Label::Int(label));
+    let bytes = |label: i64, name: &str| {
+        let bytes = get(label).and_then(|value| value.as_bytes());
+        bytes.map_or(String::new(), |bytes| {
+            format!("\t{name}={}", encode::hex(bytes))
+        })
     };
-    if let Some(number) = curve.as_integer() {
-        return match i64::try_from(number) {
-            Ok(number) => push_number(text, number),
-            Err(_) => text.push('-'),
-        };
-    }
-    match curve.as_text() {
-        Some(name) => push_quoted(text, name),
-        None => text.push('-'),
-    }
-}
-
-/// Adds a member that is a byte string.
-fn push_member(text: &mut String, key: &CoseKey, label: i64, name: &str) {
-    let Some(value) = key.get(&Label::Int(label)) else {
-        return;
-    };
-    if let Some(bytes) = value.as_bytes() {
-        put!(text, "\t{name}=");
-        text.push_str(crate::kit::hex::encode(bytes.as_slice()).as_str())
-    }
-}
-
-/// Adds y, if it is the sign of a compressed point.
-fn push_sign(text: &mut String, key: &CoseKey) {
-    let Some(value) = key.get(&Label::Int(Ec2KeyParameter::Y.to_i64())) else {
-        return;
-    };
-    match value.as_bool() {
-        Some(true) => text.push_str("\ty=sign1"),
-        Some(false) => text.push_str("\ty=sign0"),
-        None => (),
-    }
-}
-
-/// Adds the public members of a key of a known type, and the member of a symmetric key.
-fn push_members(text: &mut String, key: &CoseKey) {
     match key.kty {
-        RegisteredLabel::Assigned(KeyType::EC2) | RegisteredLabel::Assigned(KeyType::OKP) => {
-            push_member(text, key, Ec2KeyParameter::X.to_i64(), "x");
-            push_member(text, key, Ec2KeyParameter::Y.to_i64(), "y");
-            push_sign(text, key)
+        RegisteredLabel::Assigned(KeyType::EC2 | KeyType::OKP) => {
+            let crv = curve(get(Ec2KeyParameter::Crv.to_i64()));
+            let x = bytes(Ec2KeyParameter::X.to_i64(), "x");
+            let y = bytes(Ec2KeyParameter::Y.to_i64(), "y");
+            // The sign of a compressed point.
+            let sign = match get(Ec2KeyParameter::Y.to_i64()).and_then(Value::as_bool) {
+                Some(true) => "\ty=sign1",
+                Some(false) => "\ty=sign0",
+                None => "",
+            };
+            format!("{crv}{x}{y}{sign}")
         }
         RegisteredLabel::Assigned(KeyType::RSA) => {
-            push_member(text, key, RsaKeyParameter::N.to_i64(), "n");
-            push_member(text, key, RsaKeyParameter::E.to_i64(), "e")
+            let n = bytes(RsaKeyParameter::N.to_i64(), "n");
+            format!("-{n}{}", bytes(RsaKeyParameter::E.to_i64(), "e"))
         }
         RegisteredLabel::Assigned(KeyType::Symmetric) => {
-            push_member(text, key, SymmetricKeyParameter::K.to_i64(), "k")
+            format!("-{}", bytes(SymmetricKeyParameter::K.to_i64(), "k"))
         }
-        _ => (),
+        _ => "-".into(),
     }
 }
 
-/// Returns the curve of a key, if its type has one.
-fn curve_of(key: &CoseKey) -> Option<&Value> {
-    match key.kty {
-        RegisteredLabel::Assigned(KeyType::EC2) | RegisteredLabel::Assigned(KeyType::OKP) => {
-            key.get(&Label::Int(Ec2KeyParameter::Crv.to_i64()))
-        }
-        _ => None,
-    }
+/// Returns the line of a key.
+fn key_line(seal: &Seal, index: usize, key: &CoseKey) -> String {
+    let (kid, verdict) = (hex(&key.key_id), judge(seal, key).name());
+    format!(
+        "K\t{index}\t{kid}\t{verdict}\t{}\t{}\n",
+        key_type(&key.kty),
+        members(key)
+    )
 }
 
-/// Adds the line of a key.
-fn push_key(text: &mut String, seal: &Seal, index: usize, key: &CoseKey) {
-    put!(text, "K\t{index}\t");
-    push_bytes(text, &key.key_id);
-    text.push('\t');
-    text.push_str(judge(seal, key).name());
-    text.push('\t');
-    push_type(text, &key.kty);
-    text.push('\t');
-    push_curve(text, curve_of(key));
-    push_members(text, key);
-    text.push('\n')
-}
-
-/// Adds the line of each key that was read.
-fn push_keys(text: &mut String, seal: &Seal, keys: &[Result<CoseKey>]) {
-    for (index, read) in keys.iter().enumerate() {
-        if let Ok(key) = read {
-            push_key(text, seal, index, key);
-        }
-    }
-}
-
-/// Adds the lines of a seal and of the keys.
-fn push_judged(text: &mut String, seal: &Seal, keys: &[Result<CoseKey>]) {
+/// Returns the lines of a seal, and of each key that was read.
+fn seal_lines(seal: &Seal, keys: &Keys) -> String {
+    let (name, algorithm) = (name(seal), algorithm(seal));
     let form = match seal.form {
         Form::Sign1 | Form::Sign => "sign",
         Form::Mac0 | Form::Mac => "mac",
-        Form::Encrypt0 | Form::Encrypt => return push_ciphertext(text, seal),
+        Form::Encrypt0 | Form::Encrypt => return format!("E\t{name}\t{algorithm}\n"),
     };
-    push_seal(text, seal, form);
-    push_keys(text, seal, keys)
+    let structure = hex(seal.structure.as_deref().unwrap_or_default());
+    let (proof, remarks) = (hex(&seal.proof), seal.remarks().words());
+    let read = keys
+        .iter()
+        .enumerate()
+        .filter_map(|(index, key)| Some((index, key.as_ref().ok()?)));
+    let keys: String = read
+        .map(|(index, key)| key_line(seal, index, key))
+        .collect();
+    format!("S\t{name}\t{form}\t{algorithm}\t{structure}\t{proof}\t{remarks}\n{keys}")
 }
 
-/// Adds a line for each key that can't be read.
-fn push_unread(text: &mut String, keys: &[Result<CoseKey>]) {
-    for (index, read) in keys.iter().enumerate() {
-        if let Err(error) = read {
-            put!(text, "X\t{index}\t{error}\n");
-        }
-    }
-}
-
-/// Returns the lines of the seals, and of the keys for each.
-fn lines(all: &Seals, keys: &Keys) -> String {
-    let mut text = String::new();
-    let none = [];
-    let keys = match keys {
-        Keys::Read(keys) => {
-            push_unread(&mut text, keys);
-            keys.as_slice()
-        }
-        Keys::Refused(error) => {
-            put!(text, "X\t-\t{error}\n");
-            &none
-        }
-    };
-    for seal in &all.seals {
-        push_judged(&mut text, seal, keys);
-    }
-    if all.has_more {
-        text.push_str(".. more\n");
-    }
-    text
-}
-
-/// Returns the lines about a message and these keys, as the crate's page describes them. Returns
+/// Returns the lines about a message and these keys, as the module's page describes them. Returns
 /// `None` if the bytes are no message.
 ///
 /// The form is that of [`seals_of`]. `keys` are a `COSE_Key` or a `COSE_KeySet`, or empty.
@@ -251,5 +148,23 @@ pub fn described(
     keys: &[u8],
     external_aad: &[u8],
 ) -> Option<String> {
-    seals_of(form, bytes, external_aad).map(|all| lines(&all, &keys_from_slice(keys)))
+    let all = seals_of(form, bytes, external_aad)?;
+    let (keys, refused) = match keys_from_slice(keys) {
+        Ok(keys) => (keys, String::new()),
+        Err(error) => (Keys::new(), format!("X\t-\t{error}\n")),
+    };
+    let errors = keys
+        .iter()
+        .enumerate()
+        .filter_map(|(index, key)| Some((index, key.as_ref().err()?)));
+    let unread: String = errors
+        .map(|(index, error)| format!("X\t{index}\t{error}\n"))
+        .collect();
+    let seals: String = all
+        .seals
+        .iter()
+        .map(|seal| seal_lines(seal, &keys))
+        .collect();
+    let more = if all.has_more { ".. more\n" } else { "" };
+    Some(format!("{refused}{unread}{seals}{more}"))
 }

@@ -1,12 +1,10 @@
 //! Whether a key fits a seal, and otherwise why not.
 
+use crate::seals::seal::Seal;
 use coset::cbor::value::Integer;
 use coset::iana::{Ec2KeyParameter, EllipticCurve, EnumI64, KeyType};
 use coset::{CoseKey, Label, RegisteredLabel, RegisteredLabelWithPrivate, iana};
-use coset_cwt::{KeyKind, Row, Sealed, is_for, row_for};
-use coset_cwt::fits;
-
-use crate::seals::seal::Seal;
+use coset_cwt::{KeyKind, Row, Sealed, fits, is_for, row_for};
 
 /// Whether a key fits a seal. Otherwise, the first of these reasons against it.
 #[derive(Clone, Copy, Debug, PartialEq, Eq)]
@@ -46,16 +44,6 @@ impl Verdict {
     }
 }
 
-/// Returns the algorithm and its row, if the row is for such a seal.
-fn row_of(sealed: &Sealed<'_>) -> Option<(iana::Algorithm, Row)> {
-    let algorithm = sealed.algorithm()?;
-    if is_for(algorithm, sealed.form) {
-        Some((algorithm, row_for(algorithm)?))
-    } else {
-        None
-    }
-}
-
 /// Returns the type of the keys of this kind.
 fn type_of(kind: KeyKind) -> KeyType {
     match kind {
@@ -69,28 +57,23 @@ fn type_of(kind: KeyKind) -> KeyType {
     }
 }
 
-/// Returns true if the key is on this curve.
-fn is_on(key: &CoseKey, curve: EllipticCurve) -> bool {
-    match key.get(&Label::Int(Ec2KeyParameter::Crv.to_i64())) {
-        Some(value) => value.as_integer() == Some(Integer::from(curve.to_i64())),
-        None => false,
-    }
-}
-
 /// Returns true if the key is on a curve of this kind, or if the kind has none.
 fn has_curve(key: &CoseKey, kind: KeyKind) -> bool {
-    match kind {
-        KeyKind::NistCurve => {
-            is_on(key, EllipticCurve::P_256)
-                || is_on(key, EllipticCurve::P_384)
-                || is_on(key, EllipticCurve::P_521)
-        }
-        KeyKind::EdwardsCurve => {
-            is_on(key, EllipticCurve::Ed25519) || is_on(key, EllipticCurve::Ed448)
-        }
-        KeyKind::Ec2(curve) | KeyKind::Okp(curve) => is_on(key, curve),
-        _ => true,
-    }
+    let curves: &[EllipticCurve] = match &kind {
+        KeyKind::NistCurve => &[
+            EllipticCurve::P_256,
+            EllipticCurve::P_384,
+            EllipticCurve::P_521,
+        ],
+        KeyKind::EdwardsCurve => &[EllipticCurve::Ed25519, EllipticCurve::Ed448],
+        KeyKind::Ec2(curve) | KeyKind::Okp(curve) => std::slice::from_ref(curve),
+        _ => return true,
+    };
+    let curve = key.get(&Label::Int(Ec2KeyParameter::Crv.to_i64()));
+    let curve = curve.and_then(|value| value.as_integer());
+    curves
+        .iter()
+        .any(|allowed| curve == Some(Integer::from(allowed.to_i64())))
 }
 
 /// Returns the reason against a key whose other members were made to fit.
@@ -104,43 +87,42 @@ fn kind_reason(key: &CoseKey, kind: KeyKind) -> Verdict {
     }
 }
 
-/// Returns true if the key fits.
-fn is_fitting(key: &CoseKey, sealed: &Sealed<'_>) -> bool {
-    fits(key, sealed).is_some()
-}
-
 /// Returns the reason against a key that doesn't fit. Its `alg`, `key_ops` and kid are replaced by
 /// some that fit. Then they are put back, one after another.
-fn reason(sealed: &Sealed<'_>, key: &CoseKey, algorithm: iana::Algorithm, row: Row) -> Verdict {
-    let mut other = key.clone();
-    other.key_ops = Default::default();
-    other.key_id = Vec::from(sealed.key_id());
-    let own = other.alg.take();
-    other.alg = Some(RegisteredLabelWithPrivate::Assigned(algorithm));
-    if !is_fitting(&other, sealed) {
+fn reason(sealed: &Sealed, key: &CoseKey, algorithm: iana::Algorithm, row: Row) -> Verdict {
+    let mut other = CoseKey {
+        alg: Some(RegisteredLabelWithPrivate::Assigned(algorithm)),
+        key_ops: Default::default(),
+        key_id: sealed.key_id().to_vec(),
+        ..key.clone()
+    };
+    if fits(&other, sealed).is_none() {
         return kind_reason(key, row.keys);
     }
-    other.alg = own;
-    if !is_fitting(&other, sealed) {
+    other.alg = key.alg.clone();
+    if fits(&other, sealed).is_none() {
         return Verdict::Alg;
     }
     other.key_ops = key.key_ops.clone();
-    if !is_fitting(&other, sealed) {
+    if fits(&other, sealed).is_none() {
         Verdict::KeyOps
     } else {
         Verdict::Kid
     }
 }
 
-/// Returns whether the key fits the seal by [`fits`] of `cwt_ring`. Otherwise, returns the reason.
+/// Returns whether the key fits the seal by [`fits`]. Otherwise, returns the reason.
 ///
 /// Whether the only recipient of a `COSE_Mac` is `direct` isn't checked.
 pub fn judge(seal: &Seal, key: &CoseKey) -> Verdict {
     let sealed = seal.sealed();
-    if is_fitting(key, &sealed) {
+    if fits(key, &sealed).is_some() {
         return Verdict::Fits;
     }
-    match row_of(&sealed) {
+    let algorithm = sealed
+        .algorithm()
+        .filter(|algorithm| is_for(*algorithm, sealed.form));
+    match algorithm.and_then(|algorithm| Some((algorithm, row_for(algorithm)?))) {
         Some((algorithm, row)) => reason(&sealed, key, algorithm, row),
         None => Verdict::Algorithm,
     }

@@ -1,57 +1,34 @@
-//! Hexadecimal (RFC 4648, section 8).
+//! Hexadecimal (RFC 4648, section 8): two digits for each byte, which `0x` or `\x` may precede.
+//! White space, colons and commas may be between bytes.
 
-use crate::spell::pieces::Next;
+use crate::spell::pieces::Piece;
 
-/// Returns true if the character may be between bytes: white space, a colon, or a comma.
+/// Returns true if the character may be between bytes.
 pub(crate) fn is_between(byte: u8) -> bool {
-    matches!(byte, b'\t' | b'\n' | 0x0c | b'\r' | b' ' | b',' | b':')
+    byte.is_ascii_whitespace() || byte == b',' || byte == b':'
 }
 
-/// Returns true if the two characters may precede a byte: `0x` or `\x`.
-pub(crate) fn is_prefix(first: u8, second: u8) -> bool {
-    (first == b'0' || first == b'\\') && (second == b'x' || second == b'X')
+/// Returns true if the text begins with `0x` or `\x`.
+pub(crate) fn begins_with_prefix(text: &[u8]) -> bool {
+    matches!(text, [b'0' | b'\\', b'x' | b'X', ..])
 }
 
-/// Returns the byte of two digits, or `None` if one of them is no digit.
-fn byte_of(high: u8, low: u8) -> Option<u8> {
-    let high = char::from(high).to_digit(16)?;
-    let low = char::from(low).to_digit(16)?;
-    Some((high * 16 + low) as u8)
-}
-
-/// Returns the text after `0x` or `\x`, or the whole text if it doesn't begin so.
-fn without_prefix(text: &[u8]) -> &[u8] {
-    match text {
-        [first, second, rest @ ..] if is_prefix(*first, *second) => rest,
-        _ => text,
-    }
-}
-
-/// Returns the byte at the front of the text and the text after it, or the offset of the missing
-/// digit.
-pub(crate) fn byte_at_front(text: &[u8]) -> Next<'_> {
-    match text {
-        [high, low, rest @ ..] => match byte_of(*high, *low) {
-            Some(byte) => Next::Byte(byte, rest),
-            None if high.is_ascii_hexdigit() => Next::Misspelled(1),
-            None => Next::Misspelled(0),
-        },
-        [high] if high.is_ascii_hexdigit() => Next::Misspelled(1),
-        _ => Next::Misspelled(0),
-    }
+/// Returns the piece of `skipped` characters and two digits.
+pub(crate) fn byte_behind(text: &[u8], skipped: usize) -> Piece {
+    let digit = |at: usize| {
+        let digit = text
+            .get(at)
+            .and_then(|digit| char::from(*digit).to_digit(16));
+        digit.ok_or(at)
+    };
+    let byte = digit(skipped)? * 16 + digit(skipped + 1)?;
+    Ok((Some(byte as u8), skipped + 2))
 }
 
 /// Returns the byte at the front of the text, or the character between bytes.
-pub(crate) fn front(text: &[u8]) -> Next<'_> {
-    let Some((first, rest)) = text.split_first() else {
-        return Next::End;
-    };
-    if is_between(*first) {
-        return Next::Between(rest);
+pub(crate) fn front(text: &[u8]) -> Piece {
+    if is_between(text[0]) {
+        return Ok((None, 1));
     }
-    let digits = without_prefix(text);
-    match byte_at_front(digits) {
-        Next::Misspelled(offset) => Next::Misspelled(text.len() - digits.len() + offset),
-        front => front,
-    }
+    byte_behind(text, if begins_with_prefix(text) { 2 } else { 0 })
 }

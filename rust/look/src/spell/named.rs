@@ -1,6 +1,6 @@
 //! Names what an input is if it isn't CBOR.
 
-use crate::spell::part::{behind_word, is_space, without_end, without_front, without_mark};
+use crate::spell::text::{behind_word, position, trimmed};
 
 /// What an input is, if it isn't CBOR.
 #[derive(Clone, Copy, Debug, PartialEq, Eq)]
@@ -25,35 +25,29 @@ pub enum Content {
     Notation,
     /// Several PEM messages.
     Pem,
+    /// A health certificate: base45 of bytes compressed by zlib, after `HC1:`.
+    HealthCertificate,
     /// Plain text.
     Words,
     /// Text that may be base64.
     Base64,
 }
 
-/// Returns the number of bytes that a definite length of DER says, and the bytes after it.
-fn der_length(bytes: &[u8]) -> Option<(usize, &[u8])> {
-    match bytes {
-        [0x81, a, rest @ ..] => Some((usize::from(*a), rest)),
-        [0x82, a, b, rest @ ..] => Some((usize::from(*a) * 256 + usize::from(*b), rest)),
-        [0x83, a, b, c, rest @ ..] => {
-            let high = usize::from(*a) * 256 + usize::from(*b);
-            Some((high * 256 + usize::from(*c), rest))
-        }
-        [short, rest @ ..] if *short < 128 => Some((usize::from(*short), rest)),
-        _ => None,
-    }
-}
-
 /// Returns true if the bytes are one SEQUENCE in DER.
 fn is_der(bytes: &[u8]) -> bool {
-    match bytes {
-        [0x30, rest @ ..] => match der_length(rest) {
-            Some((length, content)) => length == content.len(),
-            None => false,
-        },
-        _ => false,
-    }
+    let number = |digits: &[u8]| {
+        digits
+            .iter()
+            .fold(0, |n, digit| n << 8 | usize::from(*digit))
+    };
+    let (length, content) = match bytes {
+        [0x30, 0x81, rest @ ..] if !rest.is_empty() => (number(&rest[..1]), &rest[1..]),
+        [0x30, 0x82, rest @ ..] if 2 <= rest.len() => (number(&rest[..2]), &rest[2..]),
+        [0x30, 0x83, rest @ ..] if 3 <= rest.len() => (number(&rest[..3]), &rest[3..]),
+        [0x30, short @ 0..=127, content @ ..] => (usize::from(*short), content),
+        _ => return false,
+    };
+    length == content.len()
 }
 
 /// Returns what the bytes are by their beginning, if they are no CBOR. `None` says nothing about
@@ -79,32 +73,25 @@ fn is_of_base64url(byte: u8) -> bool {
 /// in base64.
 fn is_web_token(text: &[u8]) -> bool {
     let dots = text.iter().filter(|byte| **byte == b'.').count();
-    let is_allowed = text
-        .iter()
-        .all(|byte| is_of_base64url(*byte) || *byte == b'.');
-    text.starts_with(b"ey") && is_allowed && (dots == 2 || dots == 4)
+    let is_allowed = |byte: &u8| is_of_base64url(*byte) || *byte == b'.';
+    text.starts_with(b"ey") && text.iter().all(is_allowed) && matches!(dots, 2 | 4)
 }
 
 /// Returns the text after a comment of diagnostic notation at its front.
 fn without_comment(text: &[u8]) -> &[u8] {
-    match text {
-        [b'/', rest @ ..] => match rest.iter().position(|byte| *byte == b'/') {
-            Some(count) => {
-                let (_, behind) = rest.split_at(count.saturating_add(1).min(rest.len()));
-                without_front(behind)
-            }
-            None => text,
-        },
-        _ => text,
-    }
+    let Some(rest) = text.strip_prefix(b"/") else {
+        return text;
+    };
+    let end = rest.iter().position(|byte| *byte == b'/');
+    end.map_or(text, |end| rest[end + 1..].trim_ascii_start())
 }
 
 /// Returns true if the text is an object of JSON, or an array that doesn't begin with a number.
 fn is_json(text: &[u8]) -> bool {
     match text {
-        [b'{', rest @ .., b'}'] => matches!(without_front(rest).first(), None | Some(b'"')),
+        [b'{', rest @ .., b'}'] => matches!(rest.trim_ascii_start().first(), None | Some(b'"')),
         [b'[', rest @ .., b']'] => {
-            matches!(without_front(rest).first(), Some(b'"' | b'{' | b'['))
+            matches!(rest.trim_ascii_start().first(), Some(b'"' | b'{' | b'['))
         }
         _ => false,
     }
@@ -112,15 +99,10 @@ fn is_json(text: &[u8]) -> bool {
 
 /// Returns true if the text begins with a whole number and this sign.
 fn begins_with_number(text: &[u8], sign: u8) -> bool {
-    let mut has_digit = false;
-    for byte in text {
-        if byte.is_ascii_digit() {
-            has_digit = true;
-        } else if *byte != b'-' && !is_space(*byte) {
-            return has_digit && *byte == sign;
-        }
-    }
-    false
+    let is_before =
+        |byte: &u8| byte.is_ascii_digit() || *byte == b'-' || byte.is_ascii_whitespace();
+    let end = text.iter().position(|byte| !is_before(byte));
+    end.is_some_and(|end| text[end] == sign && text[..end].iter().any(u8::is_ascii_digit))
 }
 
 /// Returns true if the text has a sign that only diagnostic notation has.
@@ -129,62 +111,57 @@ fn begins_with_number(text: &[u8], sign: u8) -> bool {
 fn is_notation(text: &[u8]) -> bool {
     let signs: [&[u8]; 3] = [b"h'", b"<<", b"b64'"];
     let begins_map = match text {
-        [b'{', rest @ ..] => begins_with_number(without_comment(without_front(rest)), b':'),
+        [b'{', rest @ ..] => begins_with_number(without_comment(rest.trim_ascii_start()), b':'),
         _ => begins_with_number(text, b'('),
     };
     let begins = matches!(text.first(), Some(b'{' | b'[' | b'<'));
-    begins_map || (begins && signs.iter().any(|sign| contains(text, sign)))
-}
-
-/// Returns true if the text contains the word.
-fn contains(text: &[u8], word: &[u8]) -> bool {
-    text.windows(word.len().max(1)).any(|part| part == word)
+    begins_map || begins && signs.iter().any(|sign| position(text, sign).is_some())
 }
 
 /// Returns true if the text has several PEM messages.
 fn has_several_messages(text: &[u8]) -> bool {
-    let begin = b"-----BEGIN ".as_slice();
-    let begins = text.windows(11).filter(|part| *part == begin);
-    begins.count() > 1
+    let begin = b"-----BEGIN ";
+    position(text, begin).is_some_and(|first| position(&text[first + 1..], begin).is_some())
 }
 
 /// Returns true if the text has a space, and at least four letters that aren't hexadecimal digits.
 /// They must be at least two fifths of the text.
 fn is_words(text: &[u8]) -> bool {
-    let letters = text
-        .iter()
-        .filter(|byte| byte.is_ascii_alphabetic() && !byte.is_ascii_hexdigit())
-        .count();
-    let has_space = text.contains(&b' ');
-    has_space && letters >= 4 && text.len() / 5 * 2 <= letters
+    let is_letter = |byte: &&u8| byte.is_ascii_alphabetic() && !byte.is_ascii_hexdigit();
+    let letters = text.iter().filter(is_letter).count();
+    text.contains(&b' ') && 4 <= letters && text.len() / 5 * 2 <= letters
 }
 
 /// Returns true if the text consists of digits of base64 or base64url, white space and padding.
 fn is_base64(text: &[u8]) -> bool {
-    text.iter().all(|byte| {
-        is_of_base64url(*byte) || is_space(*byte) || matches!(*byte, b'+' | b'/' | b'=')
-    })
+    let is_of_base64 = |byte: &u8| {
+        is_of_base64url(*byte) || byte.is_ascii_whitespace() || matches!(byte, b'+' | b'/' | b'=')
+    };
+    text.iter().all(is_of_base64)
 }
 
 /// Returns what a text is, if it spells no bytes. `None` says nothing about it.
 pub fn content_of_text(input: &[u8]) -> Option<Content> {
-    let text = without_front(without_mark(without_end(input)));
+    let text = trimmed(input);
     let inner = without_comment(text);
-    if text.is_empty() {
-        Some(Content::Nothing)
-    } else if is_web_token(behind_word(text, b"bearer ").unwrap_or(text)) {
-        Some(Content::WebToken)
-    } else if is_notation(inner) {
-        Some(Content::Notation)
-    } else if is_json(inner) {
-        Some(Content::Json)
-    } else if has_several_messages(text) {
-        Some(Content::Pem)
-    } else if is_words(text) {
-        Some(Content::Words)
-    } else if is_base64(text) {
-        Some(Content::Base64)
-    } else {
-        None
-    }
+    let known = [
+        (text.is_empty(), Content::Nothing),
+        (
+            is_web_token(behind_word(text, b"bearer ").unwrap_or(text)),
+            Content::WebToken,
+        ),
+        (is_notation(inner), Content::Notation),
+        (is_json(inner), Content::Json),
+        (has_several_messages(text), Content::Pem),
+        (
+            behind_word(text, b"HC1:").is_some(),
+            Content::HealthCertificate,
+        ),
+        (is_words(text), Content::Words),
+        (is_base64(text), Content::Base64),
+    ];
+    known
+        .into_iter()
+        .find(|(is_so, _)| *is_so)
+        .map(|(_, content)| content)
 }

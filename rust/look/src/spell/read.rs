@@ -2,9 +2,8 @@
 
 use crate::spell::framed::{Spelling, Text, Way, text_of};
 use crate::spell::layout::is_certain;
-use crate::spell::pieces::{self, Format};
-use crate::spell::place::line_and_column;
-use crate::spell::{base45, base64, comments, dump, literal, utf16};
+use crate::spell::text::line_and_column;
+use crate::spell::{base64, comments, dump, hexadecimal, literal, percent, pieces, utf16};
 
 /// Why a text isn't read.
 #[derive(Clone, Copy, Debug, PartialEq, Eq)]
@@ -59,69 +58,49 @@ pub struct Unread {
 
 impl Text<'_> {
     /// Returns the bytes that the text spells, or where it is misspelled.
-    pub(crate) fn bytes(&self) -> Result<Vec<u8>, Misspelled> {
+    fn bytes(&self) -> Result<Vec<u8>, Misspelled> {
         match self.spelling {
             Spelling::Binary => Ok(self.text.to_vec()),
-            Spelling::Hexadecimal => pieces::bytes(Format::Hexadecimal, self.text),
+            Spelling::Hexadecimal => pieces::bytes(self.text, hexadecimal::front),
             Spelling::Base64 => base64::bytes(self.text),
-            Spelling::Commented => comments::bytes(Format::Hexadecimal, self.text),
+            Spelling::Commented => comments::bytes(self.text),
             Spelling::Array => comments::elements(self.text),
             Spelling::Literal => literal::bytes(self.text),
             Spelling::Dump => dump::bytes(self.text),
-            Spelling::Percent => pieces::bytes(Format::Percent, self.text),
-            Spelling::Base45 => base45::bytes(self.text),
+            Spelling::Percent => pieces::bytes(self.text, percent::front),
         }
     }
 
-    /// Returns true if the text can be nothing else than a dump.
-    fn is_certain(&self) -> bool {
-        self.spelling == Spelling::Dump && is_certain(self.text)
-    }
-
-    /// Returns where the input that has this text is misspelled.
-    fn unread(&self, input: &[u8], misspelled: Misspelled) -> Unread {
-        let offset = self.offset.saturating_add(misspelled.0);
-        let (line, column) = line_and_column(input, offset);
-        Unread {
-            spelling: self.spelling,
-            why: misspelled.1,
-            offset,
-            line,
-            column,
-            character: character_at(input, offset),
-        }
-    }
-}
-
-/// Returns the character at the offset of a text.
-fn character_at(input: &[u8], offset: usize) -> Option<char> {
-    let (_, rest) = input.split_at(offset.min(input.len()));
-    str::from_utf8(rest).ok()?.chars().next()
-}
-
-/// Returns the bytes that this text of the input spells, or where it is misspelled.
-fn read_part(input: &[u8], text: &Text<'_>) -> Result<Reading, Unread> {
-    match text.bytes() {
-        Ok(bytes) => Ok(Reading {
-            spelling: text.spelling,
-            bytes,
-        }),
-        Err(misspelled) => Err(text.unread(input, misspelled)),
+    /// Returns the bytes that this text of the input spells, or where it is misspelled.
+    fn read(&self, input: &[u8]) -> Result<Reading, Unread> {
+        let spelling = self.spelling;
+        let bytes = self.bytes().map_err(|Misspelled(at, why)| {
+            let offset = self.offset + at;
+            let (line, column) = line_and_column(input, offset);
+            let rest = std::str::from_utf8(&input[offset..]).unwrap_or_default();
+            Unread {
+                spelling,
+                why,
+                offset,
+                line,
+                column,
+                character: rest.chars().next(),
+            }
+        })?;
+        Ok(Reading { spelling, bytes })
     }
 }
 
 /// Returns the bytes that a text spells, or where it is misspelled.
 fn read_text(input: &[u8]) -> Result<Reading, Unread> {
     let dump = text_of(Way::Dump, input);
-    let as_dump = read_part(input, &dump);
-    if as_dump.is_ok() || dump.is_certain() {
-        return as_dump;
-    }
-    let as_usual = read_part(input, &text_of(Way::Usual, input));
-    if as_usual.is_ok() {
-        return as_usual;
-    }
-    read_part(input, &text_of(Way::Other, input))
+    let is_certain = dump.spelling == Spelling::Dump && is_certain(dump.text);
+    dump.read(input).or_else(|unread| match is_certain {
+        true => Err(unread),
+        false => text_of(Way::Usual, input)
+            .read(input)
+            .or_else(|_| text_of(Way::Other, input).read(input)),
+    })
 }
 
 /// Returns the bytes that the input spells, or where it is misspelled.

@@ -3,9 +3,10 @@
 use crate::explain::Kind;
 
 /// The form in which an input is shown.
-#[derive(Clone, Copy, Debug, PartialEq, Eq)]
+#[derive(Clone, Copy, Debug, Default, PartialEq, Eq)]
 pub enum Form {
     /// Lines with bytes and notes.
+    #[default]
     Annotated,
     /// The same lines as a part of an HTML page.
     Page,
@@ -19,7 +20,9 @@ pub enum Form {
     Where,
 }
 
-/// The options by which an input is shown.
+/// The options by which an input is shown. By default, the kind is that of the tag, no moment
+/// judges times, and `external_aad` is empty.
+#[derive(Default)]
 pub struct Asked {
     /// The kind that the input should have.
     pub kind: Kind,
@@ -36,20 +39,4 @@ pub struct Asked {
     pub is_short: bool,
     /// Whether the input is read as diagnostic notation only.
     pub is_notation: bool,
-}
-
-impl Asked {
-    /// Returns the default options: the kind by the tag, bytes and notes, no moment, an empty
-    /// `external_aad`, no colours, nothing cut, any spelling.
-    pub fn new() -> Asked {
-        Asked {
-            kind: Kind::Auto,
-            form: Form::Annotated,
-            now: None,
-            external_aad: Vec::new(),
-            is_colored: false,
-            is_short: false,
-            is_notation: false,
-        }
-    }
 }

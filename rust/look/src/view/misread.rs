@@ -1,9 +1,7 @@
 //! The texts on how an input was read, or why it can't be read.
 
 use crate::explain::Kind;
-use crate::spell::{
-    Content, Reading, Spelling, Unread, Why, content_of_bytes, content_of_text,
-};
+use crate::spell::{Content, Reading, Spelling, Unread, Why, content_of_bytes, content_of_text};
 
 /// Returns the name of a spelling.
 fn spelling_name(spelling: Spelling) -> &'static str {
@@ -16,7 +14,6 @@ fn spelling_name(spelling: Spelling) -> &'static str {
         Spelling::Literal => "a literal of bytes",
         Spelling::Dump => "a dump",
         Spelling::Percent => "percent-encoding",
-        Spelling::Base45 => "base45",
     }
 }
 
@@ -28,7 +25,6 @@ fn digit(spelling: Spelling) -> &'static str {
         Spelling::Array => "number from 0 to 255",
         Spelling::Literal => "character or escape of a literal",
         Spelling::Percent => "character of percent-encoding",
-        Spelling::Base45 => "digit of base45",
     }
 }
 
@@ -65,6 +61,9 @@ pub(crate) fn advice(content: Content) -> &'static str {
         Content::Json => "the input is JSON; the text of one member can be read by itself",
         Content::Notation => "the input looks like diagnostic notation",
         Content::Pem => "the input has several PEM messages; one can be read by itself",
+        Content::HealthCertificate => {
+            "the input is a health certificate, whose base45 must be decoded and inflated first"
+        }
         Content::Words => "the input is plain text, and neither hexadecimal nor base64",
         Content::Base64 => "write base64 that looks like hexadecimal as b64'..'",
     }
@@ -83,62 +82,52 @@ pub(crate) fn read_as(name: &str, count: usize) -> String {
 /// Returns the text on how the input spells its bytes. If these are no CBOR but something known,
 /// the text says what, and what to do.
 pub(crate) fn spelled_as(spelled: &Reading, input: &[u8]) -> String {
-    if spelled.bytes.is_empty() && content_of_text(input) == Some(Content::Nothing) {
-        return String::from(advice(Content::Nothing));
+    let Reading { bytes, spelling } = spelled;
+    if bytes.is_empty() && content_of_text(input) == Some(Content::Nothing) {
+        return advice(Content::Nothing).into();
     }
-    let mut text = read_as(spelling_name(spelled.spelling), spelled.bytes.len());
-    match content_of_bytes(&spelled.bytes) {
-        Some(content) if !is_item(&spelled.bytes) => {
-            text.push_str("; ");
-            text.push_str(advice(content));
-        }
-        _ => {}
-    }
-    text
-}
-
-/// Adds the character if it is printable ASCII, otherwise its code point. So no terminal is
-/// confused.
-fn push_character(text: &mut String, character: char) {
-    if ' ' < character && character <= '~' {
-        put!(text, "'{character}'")
-    } else {
-        put!(text, "U+{:04X}", u32::from(character))
+    let text = read_as(spelling_name(*spelling), bytes.len());
+    match content_of_bytes(bytes) {
+        Some(content) if !is_item(bytes) => format!("{text}; {}", advice(content)),
+        _ => text,
     }
 }
 
-/// Adds that the character at the fault is no digit, or that a digit is missing there.
-fn push_digit(text: &mut String, unread: &Unread) {
+/// Returns the text that the character at the fault is no digit, or that a digit is missing there.
+/// A character is shown if it is printable ASCII, otherwise by its code point, so that it can't
+/// confuse a terminal.
+fn wrong_digit(unread: &Unread) -> String {
     let digit = digit(unread.spelling);
-    match unread.character {
-        Some(character) if !character.is_whitespace() => {
-            if unread.spelling == Spelling::Array {
-                return put!(text, "a {digit} is missing, in decimal or after 0x");
-            }
-            push_character(text, character);
-            put!(text, " is no {digit}")
+    match unread
+        .character
+        .filter(|character| !character.is_whitespace())
+    {
+        Some(_) if unread.spelling == Spelling::Array => {
+            format!("a {digit} is missing, in decimal or after 0x")
         }
-        _ => put!(text, "a {digit} is missing"),
+        Some(character @ '!'..='~') => format!("'{character}' is no {digit}"),
+        Some(character) => format!("U+{:04X} is no {digit}", u32::from(character)),
+        None => format!("a {digit} is missing"),
     }
 }
 
 /// Returns the text that the input is misspelled at this place, and what the input is if it is
 /// something known.
 pub(crate) fn misspelled(unread: &Unread, input: &[u8]) -> String {
-    let (line, column) = (unread.line, unread.column);
-    let mut text = format!("error: line {line}, column {column}: ");
-    if unread.why != Why::Digit {
-        text.push_str(fault(unread.why));
-        return text;
+    let Unread {
+        line, column, why, ..
+    } = unread;
+    let place = format!("error: line {line}, column {column}");
+    if *why != Why::Digit {
+        return format!("{place}: {}", fault(*why));
     }
-    push_digit(&mut text, unread);
-    match content_of_text(input) {
-        Some(Content::Base64 | Content::Words) if unread.spelling != Spelling::Hexadecimal => {}
-        Some(content) => {
-            text.push_str("; ");
-            text.push_str(advice(content));
-        }
-        None => {}
-    }
-    text
+    let is_guess = |content: &Content| matches!(content, Content::Base64 | Content::Words);
+    let content = content_of_text(input)
+        .filter(|content| !is_guess(content) || unread.spelling == Spelling::Hexadecimal);
+    let advice = content.map(|content| format!("; {}", advice(content)));
+    format!(
+        "{place}: {}{}",
+        wrong_digit(unread),
+        advice.unwrap_or_default()
+    )
 }

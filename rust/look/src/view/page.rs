@@ -1,6 +1,7 @@
 //! Lines as an HTML page, without scripts and outside links.
 
-use crate::explain::{Cover, Line, Quoted, Quotes, shortened};
+use crate::encode::hex;
+use crate::explain::{Cover, Line, isolated, shortened};
 
 /// The part of the page before all inputs.
 pub const FRONT: &str = r##"<!DOCTYPE html>
@@ -85,30 +86,16 @@ fn push_character(page: &mut String, c: char) {
     }
 }
 
-/// Adds the text, with its characters escaped.
-fn push_escaped(page: &mut String, text: &str) {
-    for c in text.chars() {
-        push_character(page, c);
-    }
+/// Returns the text with its characters escaped.
+fn escaped(text: &str) -> String {
+    let mut page = String::new();
+    text.chars().for_each(|c| push_character(&mut page, c));
+    page
 }
 
-/// Adds diagnostic notation, with its characters escaped. Each text string is isolated, so that
-/// letters that are written from right to left can't change places with what is next to it.
-fn push_isolated(page: &mut String, text: &str) {
-    let mut quotes = Quotes::new();
-    for c in text.chars() {
-        let part = quotes.pass(c);
-        if part == Quoted::Opens && c == '"' {
-            page.push_str("<bdi>");
-        }
-        push_character(page, c);
-        if part == Quoted::Closes && c == '"' {
-            page.push_str("</bdi>");
-        }
-    }
-    if quotes.is_in_text() {
-        page.push_str("</bdi>");
-    }
+/// Returns diagnostic notation with its characters escaped and its text strings isolated.
+fn notation(text: &str) -> String {
+    isolated(text, ("<bdi>", "</bdi>"), push_character)
 }
 
 /// Returns the CSS class of a line.
@@ -122,106 +109,70 @@ fn class(cover: Cover) -> &'static str {
     }
 }
 
-/// Adds the bytes in hexadecimal. With `is_short`, no more than [`BYTES`] of them.
-fn push_digits(page: &mut String, bytes: &[u8], is_short: bool) {
-    let most = if is_short { BYTES } else { usize::MAX };
-    let (shown, left) = bytes.split_at(bytes.len().min(most));
-    page.push_str(crate::kit::hex::encode(shown).as_str());
-    if left.is_empty() {
-        return;
+/// Returns the bytes in hexadecimal. With `is_short`, no more than [`BYTES`] of them.
+fn digits(bytes: &[u8], is_short: bool) -> String {
+    if is_short && BYTES < bytes.len() {
+        let (shown, left) = bytes.split_at(BYTES);
+        return format!("{}\u{2026} {} more bytes", hex(shown), left.len());
     }
-    let count = left.len();
-    put!(page, "\u{2026} {count} more bytes")
+    hex(bytes)
 }
 
-/// Adds a line in an element of that name: its bytes, its cover in words, its text and its note.
-fn push_row(page: &mut String, line: &Line<'_>, name: &str, is_short: bool) {
+/// Returns a line in an element of that name: its bytes, its cover in words, its text and its note.
+fn row(line: &Line, element: &str, is_short: bool) -> String {
     let (class, depth) = (class(line.cover), line.depth.min(STEPS));
-    let words = line.cover.text();
-    put!(page, "<{name} class=\"row{class}\"><code>");
-    push_digits(page, line.bytes, is_short);
-    put!(page, "</code><span>{words}</span>");
-    put!(page, "<span style=\"padding-left:{depth}em\"><code>");
-    if is_short {
-        push_isolated(page, shortened(line.text.as_str()).as_str());
+    let (digits, words) = (digits(line.bytes, is_short), line.cover.text());
+    let text = notation(&if is_short {
+        shortened(&line.text)
     } else {
-        push_isolated(page, line.text.as_str());
-    }
-    page.push_str("</code> <em>");
-    push_isolated(page, line.note.as_str());
-    put!(page, "</em></span></{name}>\n")
+        line.text.clone()
+    });
+    let note = notation(&line.note);
+    format!(
+        "<{element} class=\"row{class}\"><code>{digits}</code><span>{words}</span>\
+         <span style=\"padding-left:{depth}em\"><code>{text}</code> <em>{note}</em></span></{element}>\n"
+    )
 }
 
-/// Ends the folds at this depth and deeper, the deepest first.
-fn end_folds(page: &mut String, folds: &mut Vec<usize>, depth: usize) {
-    for _ in 0..folds.len() {
-        let Some(last) = folds.pop() else {
-            break;
-        };
-        if last < depth {
-            folds.push(last);
-            break;
+/// Returns the lines. A line folds the deeper lines after it, up to the one that ends it.
+fn rows(lines: &[Line], is_short: bool) -> String {
+    let (mut page, mut folds) = (String::new(), Vec::new());
+    // Ends the folds at this depth and deeper.
+    let end_folds = |page: &mut String, folds: &mut Vec<usize>, depth| {
+        while folds.last().is_some_and(|last| depth <= *last) {
+            folds.pop();
+            page.push_str("</details>\n");
         }
-        page.push_str("</details>\n");
-    }
-}
-
-/// Adds a line. If the next line is deeper, the line folds the lines up to the one that ends it.
-fn push_line(
-    page: &mut String,
-    folds: &mut Vec<usize>,
-    line: &Line<'_>,
-    next_depth: usize,
-    is_short: bool,
-) {
-    end_folds(page, folds, line.depth.saturating_add(1));
-    if line.depth < next_depth && folds.len() < FOLDS {
-        folds.push(line.depth);
-        page.push_str("<details open>");
-        return push_row(page, line, "summary", is_short);
-    }
-    push_row(page, line, "div", is_short);
-    end_folds(page, folds, line.depth)
-}
-
-/// Returns the depth of the line at the index, or 0 after the last line.
-fn depth_at(lines: &[Line<'_>], index: usize) -> usize {
-    match lines.get(index) {
-        Some(line) => line.depth,
-        None => 0,
-    }
-}
-
-/// Adds the lines.
-fn push_lines(page: &mut String, lines: &[Line<'_>], is_short: bool) {
-    let mut folds: Vec<usize> = Vec::new();
+    };
     for (index, line) in lines.iter().enumerate() {
-        let next_depth = depth_at(lines, index.saturating_add(1));
-        push_line(page, &mut folds, line, next_depth, is_short);
+        let next_depth = lines.get(index + 1).map_or(0, |next| next.depth);
+        end_folds(&mut page, &mut folds, line.depth + 1);
+        if line.depth < next_depth && folds.len() < FOLDS {
+            folds.push(line.depth);
+            page.push_str("<details open>");
+            page.push_str(&row(line, "summary", is_short));
+        } else {
+            page.push_str(&row(line, "div", is_short));
+            end_folds(&mut page, &mut folds, line.depth);
+        }
     }
-    end_folds(page, &mut folds, 0)
+    end_folds(&mut page, &mut folds, 0);
+    page
 }
 
 /// Returns the part of the page for an input: its name, how it was read, its lines, and the notes
 /// under them. With `is_short`, long strings and bytes of lines are cut.
-pub fn section(
+pub(crate) fn section(
     name: &str,
     said: &str,
-    lines: &[Line<'_>],
+    lines: &[Line],
     notes: &[String],
     is_short: bool,
 ) -> String {
-    let mut page = String::from("<section>\n<h2>");
-    push_escaped(&mut page, name);
-    page.push_str("</h2>\n<p>");
-    push_isolated(&mut page, said);
-    page.push_str("</p>\n");
-    push_lines(&mut page, lines, is_short);
-    for note in notes {
-        page.push_str("<p><code>");
-        push_escaped(&mut page, note.as_str());
-        page.push_str("</code></p>\n");
-    }
-    page.push_str("</section>\n");
-    page
+    let (name, said, rows) = (escaped(name), notation(said), rows(lines, is_short));
+    let notes = notes
+        .iter()
+        .map(|note| format!("<p><code>{}</code></p>\n", escaped(note)));
+    let notes: String = notes.collect();
+    format!("<section>\n<h2>{name}</h2>\n<p>{said}</p>\n{rows}{notes}</section>\n")
 }

@@ -2,7 +2,7 @@
 
 use crate::notation::{Fault, bytes_of};
 use crate::spell::{
-    Content, Reading as Spelled, Unread, Why, content_of_text, line_and_column, read_input,
+    Content, Reading as Spelled, Unread, Why, content_of_text, is_text, line_and_column, read_input,
 };
 use crate::view::misread::{advice, is_item, misspelled, read_as, spelled_as};
 
@@ -13,33 +13,15 @@ const AMBIGUOUS: &str = "error: the text may be bytes or diagnostic notation: wr
 /// The line for an input that is said to be notation and is no text.
 const NO_TEXT: &str = "error: the input isn't text in UTF-8, as diagnostic notation must be";
 
+/// The marks of notation that hexadecimal and base64 don't have.
+const MARKS: &[u8] = b"\"#(.<[{";
+
 /// The bytes of an input, and a line that says how it was read.
 pub struct Reading {
     /// The bytes.
     pub bytes: Vec<u8>,
     /// How they were read, for standard error.
     pub said: String,
-}
-
-/// Returns true if a text may have the character: white space, or a byte that is no control
-/// character.
-fn is_shown(byte: u8) -> bool {
-    matches!(byte, b'\t' | b'\n' | 0x0c | b'\r') || (b' ' <= byte && byte != 0x7f)
-}
-
-/// Returns true if the character is a mark of notation that hexadecimal and base64 don't have.
-fn is_mark(byte: u8) -> bool {
-    matches!(byte, b'"' | b'#' | b'(' | b'.' | b'<' | b'[' | b'{')
-}
-
-/// Returns true if the text has no control character other than white space.
-fn is_all_shown(text: &[u8]) -> bool {
-    text.iter().all(|byte| is_shown(*byte))
-}
-
-/// Returns true if the text has a mark of notation.
-fn has_mark(text: &[u8]) -> bool {
-    !text.iter().all(|byte| !is_mark(*byte))
 }
 
 /// Returns the text after a byte order mark, if it begins with one.
@@ -49,28 +31,14 @@ fn without_mark(text: &str) -> &str {
 
 /// Returns the input as a text if it may be notation, or `None`. A byte order mark is left out.
 fn as_notation(input: &[u8]) -> Option<&str> {
-    let text = str::from_utf8(input).ok()?;
-    if is_all_shown(input) && has_mark(input) {
-        Some(without_mark(text))
-    } else {
-        None
-    }
-}
-
-/// Returns true if the text begins as an array, a map or a text string of notation does.
-fn begins_as_item(text: &str) -> bool {
-    matches!(
-        text.trim_start().as_bytes().first(),
-        Some(b'[' | b'{' | b'"')
-    )
+    let text = std::str::from_utf8(input).ok()?;
+    let may_be = is_text(input) && input.iter().any(|byte| MARKS.contains(byte));
+    may_be.then(|| without_mark(text))
 }
 
 /// Returns true if the bytes are one array, map or tagged item, as all of COSE is.
 fn is_structure(bytes: &[u8]) -> bool {
-    match bytes.first() {
-        Some(0x80..=0xdf) => is_item(bytes),
-        _ => false,
-    }
+    matches!(bytes.first(), Some(0x80..=0xdf)) && is_item(bytes)
 }
 
 /// Returns the line for a text that isn't notation from the place of the fault on.
@@ -82,22 +50,22 @@ fn faulty(text: &str, fault: Fault) -> String {
 
 /// Returns the bytes that a text writes in notation, or its fault.
 fn read_notation(text: &str) -> Result<Reading, Fault> {
-    match bytes_of(text) {
-        Ok(bytes) => {
-            let said = read_as("diagnostic notation", bytes.len());
-            Ok(Reading { bytes, said })
-        }
-        Err(fault) => Err(fault),
-    }
+    let bytes = bytes_of(text)?;
+    Ok(Reading {
+        said: read_as("diagnostic notation", bytes.len()),
+        bytes,
+    })
 }
 
 /// Reads an input that spells `bytes` as notation. Returns `None` if it can't be notation, or if
 /// the bytes are one array, map or tagged item.
 fn also_notation(input: &[u8], bytes: &[u8]) -> Option<Reading> {
-    match as_notation(input) {
-        Some(text) if begins_as_item(text) && !is_structure(bytes) => read_notation(text).ok(),
-        _ => None,
+    let text = as_notation(input)?;
+    let begins_as_item = text.trim_start().starts_with(['[', '{', '"']);
+    if !begins_as_item || is_structure(bytes) {
+        return None;
     }
+    read_notation(text).ok()
 }
 
 /// Returns the bytes that the input spells. If it is notation too, returns the notation's bytes if
@@ -105,57 +73,38 @@ fn also_notation(input: &[u8], bytes: &[u8]) -> Option<Reading> {
 fn read_spelled(input: &[u8], spelled: Spelled) -> Result<Reading, String> {
     match also_notation(input, &spelled.bytes) {
         Some(reading) if spelled.bytes.is_empty() => Ok(reading),
-        Some(_) => Err(String::from(AMBIGUOUS)),
-        None => {
-            let said = spelled_as(&spelled, input);
-            Ok(Reading {
-                bytes: spelled.bytes,
-                said,
-            })
-        }
+        Some(_) => Err(AMBIGUOUS.into()),
+        None => Ok(Reading {
+            said: spelled_as(&spelled, input),
+            bytes: spelled.bytes,
+        }),
     }
 }
 
-/// Returns the line for a text that isn't notation, and spells no bytes either. It has the fault
-/// whose place is later. A fault other than a wrong digit always comes first.
-fn reason(text: &str, unread: &Unread, fault: Fault) -> String {
-    if unread.why == Why::Digit && unread.offset < fault.offset {
-        faulty(text, fault)
-    } else {
-        misspelled(unread, text.as_bytes())
-    }
-}
-
-/// Returns what was read as notation. If the text is JSON, the line says so.
-fn told(mut reading: Reading, text: &str) -> Reading {
-    if content_of_text(text.as_bytes()) == Some(Content::Json) {
-        reading.said.push_str("; ");
-        reading.said.push_str(advice(Content::Json));
-    }
-    reading
-}
-
-/// Reads an input that spells no bytes as notation, if it may be notation.
+/// Reads an input that spells no bytes as notation, if it may be notation. Otherwise, the fault is
+/// the one whose place is later. A fault other than a wrong digit always comes first.
 fn read_unspelled(input: &[u8], unread: &Unread) -> Result<Reading, String> {
     let Some(text) = as_notation(input) else {
         return Err(misspelled(unread, input));
     };
-    match read_notation(text) {
-        Ok(reading) => Ok(told(reading, text)),
-        Err(fault) => Err(reason(text, unread, fault)),
+    let mut reading = read_notation(text).map_err(|fault| {
+        let is_later = unread.why == Why::Digit && unread.offset < fault.offset;
+        if is_later {
+            faulty(text, fault)
+        } else {
+            misspelled(unread, text.as_bytes())
+        }
+    })?;
+    if content_of_text(text.as_bytes()) == Some(Content::Json) {
+        reading.said = format!("{}; {}", reading.said, advice(Content::Json));
     }
+    Ok(reading)
 }
 
 /// Returns the bytes of an input that is said to be notation.
 fn read_said(input: &[u8]) -> Result<Reading, String> {
-    let Ok(text) = str::from_utf8(input) else {
-        return Err(String::from(NO_TEXT));
-    };
-    let text = without_mark(text);
-    match read_notation(text) {
-        Ok(reading) => Ok(reading),
-        Err(fault) => Err(faulty(text, fault)),
-    }
+    let text = without_mark(std::str::from_utf8(input).map_err(|_| NO_TEXT)?);
+    read_notation(text).map_err(|fault| faulty(text, fault))
 }
 
 /// Returns the bytes of the input, or the line of its error.

@@ -1,6 +1,6 @@
 //! An input's bytes in another spelling.
 
-use crate::kit::base64::STANDARD;
+use crate::encode::{base64, hex};
 use crate::view::read::read_bytes;
 use crate::view::shown::{REFUSED, TAKEN};
 
@@ -25,21 +25,6 @@ pub struct Respelled {
     pub status: u8,
 }
 
-/// Returns the text as a line.
-fn line_of(mut text: String) -> Vec<u8> {
-    text.push('\n');
-    Vec::from(text.as_bytes())
-}
-
-/// Returns the bytes in this spelling.
-fn spelled(to: To, bytes: &[u8]) -> Vec<u8> {
-    match to {
-        To::Hexadecimal => line_of(crate::kit::hex::encode(bytes)),
-        To::Binary => bytes.to_vec(),
-        To::Base64 => line_of(STANDARD.encode(bytes)),
-    }
-}
-
 /// Returns the bytes of the input in another spelling. If `is_notation` is true, the input is read
 /// as diagnostic notation.
 ///
@@ -47,14 +32,21 @@ fn spelled(to: To, bytes: &[u8]) -> Vec<u8> {
 /// no output, and `said` tells where.
 pub fn respell(to: To, is_notation: bool, input: &[u8]) -> Respelled {
     match read_bytes(is_notation, input) {
-        Ok(reading) => Respelled {
-            output: spelled(to, &reading.bytes),
-            said: reading.said,
-            status: TAKEN,
-        },
+        Ok(reading) => {
+            let output = match to {
+                To::Hexadecimal => (hex(&reading.bytes) + "\n").into(),
+                To::Binary => reading.bytes,
+                To::Base64 => (base64(&reading.bytes) + "\n").into(),
+            };
+            Respelled {
+                said: reading.said,
+                output,
+                status: TAKEN,
+            }
+        }
         Err(said) => Respelled {
-            output: Vec::new(),
             said,
+            output: Vec::new(),
             status: REFUSED,
         },
     }
