@@ -29,11 +29,11 @@ pub fn base64(bytes: &[u8]) -> String {
 /// Returns the number of a digit of base64 or base64url, or `None` for another character.
 pub(crate) fn base64_digit(digit: u8) -> Option<u8> {
     match digit {
-        b'-' => Some(62),
-        b'_' => Some(63),
-        _ => BASE64
-            .iter()
-            .position(|other| *other == digit)
-            .map(|number| number as u8),
+        b'A'..=b'Z' => Some(digit - b'A'),
+        b'a'..=b'z' => Some(digit - b'a' + 26),
+        b'0'..=b'9' => Some(digit - b'0' + 52),
+        b'+' | b'-' => Some(62),
+        b'/' | b'_' => Some(63),
+        _ => None,
     }
 }

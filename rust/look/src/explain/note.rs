@@ -24,13 +24,8 @@ fn judgement(frame: &Frame, role: Role, timestamp: &Timestamp, now: i64) -> &'st
     match role {
         Role::Expiry if is_no_moment(timestamp) => "no moment, expired",
         Role::Start if is_no_moment(timestamp) => "no moment, not valid",
-        _ if is_no_moment(timestamp) => {
-            if is_issued {
-                "no moment"
-            } else {
-                ""
-            }
-        }
+        _ if is_no_moment(timestamp) && is_issued => "no moment",
+        _ if is_no_moment(timestamp) => "",
         Role::Expiry if !is_later => "expired",
         Role::Start if is_later => "not valid yet",
         _ if is_issued && is_later => "issued in the future",

@@ -1,9 +1,10 @@
-//! Numbers (RFC 8259, section 6; RFC 8610, appendix G.5).
+//! Numbers (RFC 8949, section 8).
 
-use crate::notation::decimal::{Magnitude, digit, small};
 use crate::notation::fault::{Expected, Stop};
-use crate::notation::float::{INFINITY, SIGN, push_float};
-use crate::notation::head::{Major, Width, push_fitting, push_head};
+use crate::notation::head::{push_head, push_told};
+use crate::notation::reader::Reader;
+use crate::notation::simple::push_float;
+use coset::cbor::head::MajorType;
 
 /// The most digits of an integer, a fraction or an exponent. So the time is linear in the text.
 const DIGITS: usize = 1000;
@@ -11,145 +12,142 @@ const DIGITS: usize = 1000;
 /// A number.
 pub(crate) enum Number {
     /// An integer, as a major type and an argument.
-    Integer(Major, u64),
+    Integer(MajorType, u64),
     /// A bignum: its tag's number, and its bytes (RFC 8949, section 3.4.3).
     Big(u64, Vec<u8>),
-    /// A float, as the bits of a double.
-    Float(u64),
+    Float(f64),
 }
 
-/// Returns the text after the digits at its front, of which there should be one at least.
-fn behind_digits(text: &[u8], radix: u32) -> Result<&[u8], Stop> {
-    let count = text
-        .iter()
-        .take_while(|byte| digit(**byte, radix).is_some())
-        .count();
-    match text.get(count..) {
-        Some(rest) if 0 < count && count <= DIGITS => Ok(rest),
-        Some(_) if DIGITS < count => Err(Stop::at(text, Expected::FewerDigits)),
-        _ => Err(Stop::at(text, Expected::Digit)),
+/// Moves behind digits, of which there should be one at least, and returns them.
+fn digits<'a>(reader: &mut Reader<'a>, radix: u32) -> Result<&'a [u8], Stop> {
+    let is_digit = |byte: &&u8| char::from(**byte).is_digit(radix);
+    let (digits, rest) = reader
+        .left
+        .split_at(reader.left.iter().take_while(is_digit).count());
+    match digits.len() {
+        0 => Err(reader.stop(Expected::Digit)),
+        1..=DIGITS => {
+            reader.left = rest;
+            Ok(digits)
+        }
+        _ => Err(reader.stop(Expected::FewerDigits)),
     }
 }
 
-/// Returns the text after a fraction, if there is one at the front.
-fn behind_fraction(text: &[u8]) -> Result<&[u8], Stop> {
-    match text {
-        [b'.', rest @ ..] => behind_digits(rest, 10),
-        _ => Ok(text),
+/// Returns the bytes of the number that digits write, without zeros at the front.
+fn magnitude(digits: &[u8], radix: u32) -> Vec<u8> {
+    // Digits of base 2^32, the least significant first.
+    let mut limbs: Vec<u32> = Vec::new();
+    for digit in digits {
+        let mut carry = u64::from(char::from(*digit).to_digit(radix).unwrap_or(0));
+        for limb in &mut limbs {
+            carry += u64::from(*limb) * u64::from(radix);
+            *limb = carry as u32;
+            carry >>= 32;
+        }
+        if carry != 0 {
+            limbs.push(carry as u32);
+        }
     }
+    let bytes = limbs.iter().rev().flat_map(|limb| limb.to_be_bytes());
+    bytes.skip_while(|byte| *byte == 0).collect()
 }
 
-/// Returns the text after an exponent, if there is one at the front.
-fn behind_exponent(text: &[u8]) -> Result<&[u8], Stop> {
-    match text {
-        [b'e' | b'E', b'+' | b'-', rest @ ..] | [b'e' | b'E', rest @ ..] => behind_digits(rest, 10),
-        _ => Ok(text),
+/// Subtracts 1 from a number that isn't 0. It keeps no zero at the front.
+fn decrement(bytes: &mut Vec<u8>) {
+    for byte in bytes.iter_mut().rev() {
+        let (less, is_below) = byte.overflowing_sub(1);
+        *byte = less;
+        if !is_below {
+            break;
+        }
     }
-}
-
-/// Returns the part of the text that is before the rest at its end.
-fn before<'a>(text: &'a [u8], rest: &[u8]) -> &'a [u8] {
-    let count = text.len().saturating_sub(rest.len());
-    match text.get(..count) {
-        Some(front) => front,
-        None => text,
+    if bytes.first() == Some(&0) {
+        bytes.remove(0);
     }
 }
 
 /// Returns the integer with these digits.
-fn integer(is_negative: bool, digits: &[u8], radix: u32) -> Result<Number, Stop> {
-    match (is_negative, small(digits, radix)) {
-        (false, Some(number)) => return Ok(Number::Integer(Major::Unsigned, number)),
-        (true, Some(0)) => return Ok(Number::Integer(Major::Unsigned, 0)),
-        (true, Some(number)) => {
-            return Ok(Number::Integer(Major::Negative, number.saturating_sub(1)));
+fn integer(is_negative: bool, digits: &[u8], radix: u32) -> Number {
+    let mut bytes = magnitude(digits, radix);
+    let is_negative = is_negative && !bytes.is_empty();
+    if is_negative {
+        decrement(&mut bytes);
+    }
+    let major_type = if is_negative {
+        MajorType::Negative
+    } else {
+        MajorType::Unsigned
+    };
+    match bytes.len() {
+        0..=8 => {
+            let argument = bytes
+                .iter()
+                .fold(0, |number, byte| number << 8 | u64::from(*byte));
+            Number::Integer(major_type, argument)
         }
-        _ => {}
+        _ => Number::Big(if is_negative { 3 } else { 2 }, bytes),
     }
-    let mut magnitude = Magnitude::of(digits, radix);
-    if !is_negative {
-        return Ok(Number::Big(2, magnitude.bytes()?));
-    }
-    magnitude.decrement();
-    Ok(match magnitude.small() {
-        Some(argument) => Number::Integer(Major::Negative, argument),
-        None => Number::Big(3, magnitude.bytes()?),
-    })
 }
 
-/// Returns the float that the text writes. A number that is too great for a double is refused.
-fn float(text: &[u8]) -> Result<Number, Stop> {
-    let number = std::str::from_utf8(text)
-        .ok()
-        .and_then(|text| text.parse::<f64>().ok());
-    let Some(bits) = number.map(f64::to_bits) else {
-        return Err(Stop::at(text, Expected::Digit));
-    };
-    if bits % SIGN < INFINITY {
-        Ok(Number::Float(bits))
+/// Returns the float that the text from the start to the end writes. A number that is too great for
+/// a double is refused.
+fn float(start: Reader, end: &Reader) -> Result<Number, Stop> {
+    let text = std::str::from_utf8(start.until(end)).unwrap_or_default();
+    let number = text.parse().map_err(|_| start.stop(Expected::Digit))?;
+    if f64::is_finite(number) {
+        Ok(Number::Float(number))
     } else {
-        Err(Stop::at(text, Expected::Finite))
+        Err(start.stop(Expected::Finite))
     }
 }
 
-/// Returns the number at the front of the text, and the text after it. `unsigned` is the text
-/// after its sign.
-fn decimal<'a>(
-    text: &'a [u8],
-    unsigned: &'a [u8],
-    is_negative: bool,
-) -> Result<(Number, &'a [u8]), Stop> {
-    let whole = match unsigned {
-        [b'0', rest @ ..] => rest,
-        _ => behind_digits(unsigned, 10)?,
-    };
-    let rest = behind_exponent(behind_fraction(whole)?)?;
-    let number = if rest.len() == whole.len() {
-        integer(is_negative, before(unsigned, rest), 10)?
-    } else {
-        float(before(text, rest))?
-    };
-    Ok((number, rest))
-}
-
-/// Returns the integer whose digits are at the front of the text, and the text after them.
-fn prefixed(text: &[u8], is_negative: bool, radix: u32) -> Result<(Number, &[u8]), Stop> {
-    let rest = behind_digits(text, radix)?;
-    let number = integer(is_negative, before(text, rest), radix)?;
-    Ok((number, rest))
-}
-
-/// Returns the number at the front of the text, and the text after it.
-pub(crate) fn number_at_front(text: &[u8]) -> Result<(Number, &[u8]), Stop> {
-    let (unsigned, is_negative) = match text {
-        [b'-', rest @ ..] => (rest, true),
-        _ => (text, false),
-    };
-    match unsigned {
-        [b'0', b'x', rest @ ..] => prefixed(rest, is_negative, 16),
-        [b'0', b'o', rest @ ..] => prefixed(rest, is_negative, 8),
-        [b'0', b'b', rest @ ..] => prefixed(rest, is_negative, 2),
-        _ => decimal(text, unsigned, is_negative),
+/// Reads a number.
+pub(crate) fn number(reader: &mut Reader) -> Result<Number, Stop> {
+    let start = *reader;
+    let is_negative = reader.take(b"-");
+    for (prefix, radix) in [(b"0x", 16), (b"0o", 8), (b"0b", 2)] {
+        if reader.take(prefix) {
+            return Ok(integer(is_negative, digits(reader, radix)?, radix));
+        }
     }
+    let unsigned = *reader;
+    if !reader.take(b"0") {
+        digits(reader, 10)?;
+    }
+    let whole = *reader;
+    if reader.take(b".") {
+        digits(reader, 10)?;
+    }
+    if reader.take(b"e") || reader.take(b"E") {
+        let _sign = reader.take(b"+") || reader.take(b"-");
+        digits(reader, 10)?;
+    }
+    if whole.left.len() == reader.left.len() {
+        return Ok(integer(is_negative, unsigned.until(&whole), 10));
+    }
+    float(start, reader)
 }
 
-/// Adds the number. If the encoding indicator doesn't fit, the fault is at `text`, which begins
-/// with it.
+/// Adds the number, whose encoding indicator is at this position. If it is too narrow, that is a
+/// fault. A bignum can have none.
 pub(crate) fn push_number(
     out: &mut Vec<u8>,
     number: &Number,
-    told: Width,
-    text: &[u8],
+    width: Option<usize>,
+    indicator: Reader,
 ) -> Result<(), Stop> {
     match number {
-        Number::Integer(major, argument) => push_fitting(out, *major, *argument, told, text),
-        Number::Float(bits) => push_float(out, *bits, told, text),
-        Number::Big(tag, bytes) if told == Width::Least => {
-            push_head(out, Major::Tag, *tag, Width::Least)?;
-            push_head(out, Major::Bytes, bytes.len() as u64, Width::Least)?;
+        Number::Integer(major_type, argument) => {
+            push_told(out, *major_type, *argument, width, indicator)
+        }
+        Number::Float(number) => push_float(out, *number, width, indicator),
+        Number::Big(tag, bytes) if width.is_none() => {
+            push_head(out, MajorType::Tag, *tag, None);
+            push_head(out, MajorType::Bytes, bytes.len() as u64, None);
             out.extend_from_slice(bytes);
             Ok(())
         }
-        Number::Big(_, _) => Err(Stop::at(text, Expected::Wider)),
+        Number::Big(..) => Err(indicator.stop(Expected::Wider)),
     }
 }

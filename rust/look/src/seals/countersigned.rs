@@ -1,7 +1,7 @@
 //! The countersignatures in the unprotected header of a message (RFC 8152, section 4.5; RFC 9338).
 
+use crate::seals::layers::{Asked, MOST};
 use crate::seals::seal::{Part, Seal};
-use crate::seals::seals::{Asked, MOST};
 use coset::{
     Header, ProtectedHeader, SignatureContext, countersign_v2_structure_data,
     countersign0_v2_structure_data, sig_structure_data,

@@ -1,10 +1,10 @@
 //! A message's own signatures, its MAC or its ciphertext, each with the bytes that it covers (RFC
 //! 8152, sections 4.4 and 6.3).
 
+use crate::seals::layers::{Asked, MOST};
 use crate::seals::message::Message;
 use crate::seals::remarks::Remarks;
 use crate::seals::seal::{Part, Seal};
-use crate::seals::seals::{Asked, MOST};
 use coset::{CoseMac, CoseSign, Result};
 use coset_cwt::Form;
 

@@ -2,8 +2,8 @@
 
 use crate::encode;
 use crate::seals::keys::{Keys, keys_from_slice};
+use crate::seals::layers::seals_of;
 use crate::seals::seal::{Part, Seal};
-use crate::seals::seals::seals_of;
 use crate::seals::verdict::judge;
 use coset::cbor::value::Value;
 use coset::iana::{Ec2KeyParameter, EnumI64, KeyType, RsaKeyParameter, SymmetricKeyParameter};
