@@ -51,7 +51,8 @@ struct Arguments {
 }
 
 impl Arguments {
-    /// Takes the form of the output, and returns true if it is allowed. A page allows no other form.
+    /// Takes the form of the output, and returns true if it is allowed. A page allows no other
+    /// form.
     fn takes_form(&mut self, form: Form) -> bool {
         let is_allowed = self.asked.form != Form::Page || form == Form::Page;
         if is_allowed {

@@ -42,8 +42,8 @@ pub(crate) fn is_over(expiry: &Timestamp, now: Option<i64>) -> bool {
     now.is_some_and(|now| is_no_moment(expiry) || !expiry.is_after(now))
 }
 
-/// Returns true if a time before which claims aren't valid is after `now`. An infinity or NaN always
-/// is.
+/// Returns true if a time before which claims aren't valid is after `now`. An infinity or NaN
+/// always is.
 pub(crate) fn is_early(start: &Timestamp, now: Option<i64>) -> bool {
     now.is_some_and(|now| is_no_moment(start) || start.is_after(now))
 }

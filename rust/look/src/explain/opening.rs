@@ -35,12 +35,25 @@ fn key_type_of(bytes: &[u8]) -> Option<i64> {
     i64::try_from(value.integer()?).ok()
 }
 
-/// Returns true if a message with a list of signatures is at the front of the bytes, and the list is
-/// empty. Returns `None` if it has no list.
+/// Returns true if a message with a list of signatures is at the front of the bytes, and the list
+/// is empty. Returns `None` if it has no list.
 fn has_no_signatures(bytes: &[u8]) -> Option<bool> {
     let (message, _) = Pull::new(bytes).ok()?;
     let mut signatures = message.items()?.nth(3)?.items()?;
     Some(signatures.next().is_none())
+}
+
+/// Returns the frame of an array. For a message with a list of signatures, it says whether the list
+/// is empty.
+fn opened_array<'a>(frame: Frame<'a>, bytes: &[u8]) -> Frame<'a> {
+    let is_list = matches!(frame.role, Role::Message(Message::Sign, _));
+    frame.with_signatures(is_list && has_no_signatures(bytes) == Some(true))
+}
+
+/// Returns the frame of a map. For a key, it has the key's type before the label of the type comes.
+fn opened_map<'a>(frame: Frame<'a>, bytes: &[u8]) -> Frame<'a> {
+    let is_key = frame.role == Role::Key;
+    frame.with_key_type(if is_key { key_type_of(bytes) } else { None })
 }
 
 /// Returns the frame that the item opens, or `None` if it has no parts to show.
@@ -55,25 +68,17 @@ pub(crate) fn opening<'a>(
     item: &Item<'a>,
     is_sought: bool,
 ) -> Option<Frame<'a>> {
-    let (head, count) = (&item.head, item.head.number());
+    let (head, count, part) = (&item.head, item.head.number(), opened_part(part, item));
     let nested = |container, part, left| frame.nested(container, part, left, item.rest.len());
-    let opened = opened_part(part, item);
     match head.major_type {
         MajorType::Bytes if is_whole_bytes(head) => embedding(frame, part, item, is_sought),
-        MajorType::Array if count != Some(0) => {
-            let is_list = matches!(opened.role, Role::Message(Message::Sign, _));
-            let is_unsigned = is_list && has_no_signatures(item.bytes) == Some(true);
-            Some(nested(Container::Array, opened, count).with_signatures(is_unsigned))
-        }
+        MajorType::Array if count != Some(0) => Some(opened_array(
+            nested(Container::Array, part, count),
+            item.bytes,
+        )),
         MajorType::Map if count != Some(0) => {
-            let map = nested(Container::Map, opened, count.map(|pairs| pairs * 2));
-            // The type of a key is known before its label comes.
-            let is_key = opened.role == Role::Key;
-            Some(map.with_key_type(if is_key {
-                key_type_of(item.bytes)
-            } else {
-                None
-            }))
+            let items = count.map(|pairs| pairs * 2);
+            Some(opened_map(nested(Container::Map, part, items), item.bytes))
         }
         MajorType::Tag => {
             let role = under_tag(part.role, argument(head));
@@ -162,8 +167,8 @@ fn holds_claims(bytes: &[u8]) -> bool {
         )
 }
 
-/// Returns why a payload isn't read as claims, or `None` if it is, or if it doesn't look like claims.
-/// `must` says whether it must be claims.
+/// Returns why a payload isn't read as claims, or `None` if it is, or if it doesn't look like
+/// claims. `must` says whether it must be claims.
 fn payload_refusal(must: bool, content: &[u8]) -> Option<CoseError> {
     if begins_with_message(content) && (!must || is_of(Kind::Auto, content)) {
         return None;

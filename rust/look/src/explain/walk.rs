@@ -123,8 +123,8 @@ impl<'a, 'e> Walk<'a, 'e> {
         walk.run()
     }
 
-    /// Walks as far as the bytes can be shown. Each step shows at least one byte, closes a container
-    /// that a byte opened, or notes the fault of a key of a set.
+    /// Walks as far as the bytes can be shown. Each step shows at least one byte, closes a
+    /// container that a byte opened, or notes the fault of a key of a set.
     fn run(mut self) -> Walk<'a, 'e> {
         while self.step() {}
         if self.column.has_begun() {

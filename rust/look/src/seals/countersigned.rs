@@ -62,51 +62,69 @@ impl Target<'_> {
         ))
     }
 
-    /// Returns the countersignatures under labels 7, 11 and 12, of each label the first `MOST` + 1.
-    pub(crate) fn countersignatures(&self, asked: &Asked) -> Vec<Seal> {
-        let (no_protected, no_header) = (ProtectedHeader::default(), Header::default());
-        let seal = |part, protected, unprotected| {
-            Seal::of(asked.layer, part, Form::Sign, protected, unprotected)
-        };
-        let first = self
+    /// Returns the countersignatures under label 7, or the first `MOST` + 1 of them.
+    fn first_version(&self, asked: &Asked) -> impl Iterator<Item = Seal> {
+        let list = self
             .unprotected
             .counter_signatures
             .iter()
             .take(MOST + 1)
             .enumerate();
-        let second = self
+        list.map(|(index, signed)| Seal {
+            proof: signed.signature.clone(),
+            structure: self.structure(asked, &signed.protected),
+            ..asked.countersignature(
+                Part::Countersignature(index),
+                &signed.protected,
+                &signed.unprotected,
+            )
+        })
+    }
+
+    /// Returns the countersignatures under label 11, or the first `MOST` + 1 of them.
+    fn second_version(&self, asked: &Asked) -> impl Iterator<Item = Seal> {
+        let list = self
             .unprotected
             .countersignatures_v2
             .iter()
             .take(MOST + 1)
             .enumerate();
-        let first = first.map(|(index, signed)| Seal {
-            proof: signed.signature.clone(),
-            structure: self.structure(asked, &signed.protected),
-            ..seal(
-                Part::Countersignature(index),
-                &signed.protected,
-                &signed.unprotected,
-            )
-        });
-        let second = second.map(|(index, signed)| Seal {
+        list.map(|(index, signed)| Seal {
             proof: signed.signature.clone(),
             structure: self.structure_v2(asked, &signed.protected),
-            ..seal(
+            ..asked.countersignature(
                 Part::CountersignatureV2(index),
                 &signed.protected,
                 &signed.unprotected,
             )
-        });
-        let third = self
-            .unprotected
-            .countersignature0_v2
-            .iter()
-            .map(|signature| Seal {
-                proof: signature.clone(),
-                structure: self.structure_abbreviated(asked),
-                ..seal(Part::AbbreviatedV2, &no_protected, &no_header)
-            });
-        first.chain(second).chain(third).collect()
+        })
+    }
+
+    /// Returns the countersignature under label 12, if there is one. It has no headers of its own.
+    fn abbreviated(&self, asked: &Asked) -> Option<Seal> {
+        let (protected, unprotected) = (ProtectedHeader::default(), Header::default());
+        Some(Seal {
+            proof: self.unprotected.countersignature0_v2.clone()?,
+            structure: self.structure_abbreviated(asked),
+            ..asked.countersignature(Part::AbbreviatedV2, &protected, &unprotected)
+        })
+    }
+
+    /// Returns the countersignatures under labels 7, 11 and 12, of each label the first `MOST` + 1.
+    pub(crate) fn countersignatures(&self, asked: &Asked) -> Vec<Seal> {
+        let lists = self.first_version(asked).chain(self.second_version(asked));
+        lists.chain(self.abbreviated(asked)).collect()
+    }
+}
+
+impl Asked<'_> {
+    /// Returns a countersignature with these headers, of which the rest is empty.
+    fn countersignature(
+        &self,
+        part: Part,
+        protected: &ProtectedHeader,
+        unprotected: &Header,
+    ) -> Seal {
+        Seal::of(self.layer, part, Form::Sign, protected, unprotected)
     }
 }

@@ -6,8 +6,8 @@ use crate::spell::read::{Misspelled, Why};
 /// offset at which the text is misspelled.
 pub(crate) type Piece = Result<(Option<u8>, usize), usize>;
 
-/// Returns the bytes of the text's pieces, or where it is misspelled. `front` reads the piece at the
-/// front of a text that isn't empty.
+/// Returns the bytes of the text's pieces, or where it is misspelled. `front` reads the piece at
+/// the front of a text that isn't empty.
 pub(crate) fn bytes(text: &[u8], front: fn(&[u8]) -> Piece) -> Result<Vec<u8>, Misspelled> {
     let (mut bytes, mut at) = (Vec::new(), 0);
     while at < text.len() {

@@ -4,62 +4,7 @@ use crate::encode::hex;
 use crate::explain::{Cover, Line, isolated, shortened};
 
 /// The part of the page before all inputs.
-pub const FRONT: &str = r##"<!DOCTYPE html>
-<html lang="en">
-<head>
-<meta charset="utf-8">
-<meta http-equiv="Content-Security-Policy" content="default-src 'none'; style-src 'unsafe-inline'">
-<meta name="color-scheme" content="light dark">
-<meta name="viewport" content="width=device-width, initial-scale=1">
-<title>CBOR and COSE, taken apart</title>
-<style>
-body { font: 15px/1.4 sans-serif; margin: 1.5em; color: #1b1b1b; background: #fff; }
-h1, h2 { font-size: 1.2em; overflow-wrap: anywhere; }
-code { font: 13px/1.4 monospace; overflow-wrap: anywhere; white-space: pre-wrap; }
-ul { list-style: none; padding: 0; }
-li { display: inline-block; margin-right: 1.5em; padding-left: .5em; }
-.row { display: grid; grid-template-columns: 33ch 9em 1fr; column-gap: .5em; padding: 1px 0 1px .5em; border-left: 6px solid transparent; }
-.row code:first-child { color: #555; width: 32ch; }
-.row > span { font-size: 12px; color: #444; }
-.row > span + span { font-size: 13px; }
-summary { cursor: pointer; list-style: none; }
-summary::-webkit-details-marker { display: none; }
-summary > span + span::before { content: "\25BE\00A0"; color: #777; }
-details:not([open]) > summary > span + span::before { content: "\25B8\00A0"; }
-em { color: #444; }
-.covered { border-left: 6px solid #4d5b70; background: #f0f2f6; }
-.open { border-left: 6px dashed #b35900; background: #fff4e5; }
-.seal { border-left: 6px double #0550ae; background: #eaf2fd; }
-.refused { border-left: 6px solid #b00020; background: #fdeaed; font-weight: bold; }
-@media (max-width: 60em) {
-.row { grid-template-columns: 17ch 8em 1fr; }
-.row code:first-child { width: 16ch; }
-}
-@media (max-width: 36em) {
-.row { grid-template-columns: 1fr auto; }
-.row > span + span { grid-column: 1 / 3; }
-}
-@media (prefers-color-scheme: dark) {
-body { color: #e6e6e6; background: #161616; }
-.row code:first-child, .row > span, em, summary > span + span::before { color: #c4c4c4; }
-.row > span + span { color: #e6e6e6; }
-.covered { border-left-color: #a9b6cb; background: #1e2430; }
-.open { border-left-color: #d29922; background: #3a2a10; }
-.seal { border-left-color: #58a6ff; background: #14263d; }
-.refused { border-left-color: #ff7b72; background: #42171c; }
-}
-</style>
-</head>
-<body>
-<h1>CBOR and COSE, taken apart</h1>
-<p>Bytes are on the left, and what they are is on the right. A line with a triangle folds what is in it.</p>
-<ul>
-<li class="covered">solid: covered by a signature, a MAC or a ciphertext</li>
-<li class="open">dashed: a header that nothing covers</li>
-<li class="seal">double: a signature, a MAC or a ciphertext</li>
-<li class="refused">bold: refused</li>
-</ul>
-"##;
+pub const FRONT: &str = include_str!("front.html");
 
 /// The part of the page after all inputs.
 pub const END: &str = "</body>\n</html>\n";
