@@ -15,9 +15,9 @@ use std::io::{self, IsTerminal, Read, Write};
 use std::process::ExitCode;
 use std::{env, fs};
 
-const USAGE: &str = "usage: tool_look [OPTION..] [KIND] [FILE]..
+const USAGE: &str = "usage: look [OPTION..] [KIND] [FILE]..
 A file, or standard input if no file is named, contains raw bytes, hexadecimal, base64, diagnostic
-notation, or bytes in another spelling. crates/tool_look/README.md lists the spellings.
+notation, or bytes in another spelling. rust/look/README.md lists the spellings.
 KIND is auto (what its tag says, otherwise what it can be), cwt (a web token), value, sign1, sign,
 mac, mac0, encrypt, encrypt0, countersignature, key, keyset, claims or kdf. For cwt, status 0 says
 that the input is a message by its tag, or CBOR without such a tag. The summary says whether the
