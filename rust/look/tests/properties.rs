@@ -68,8 +68,13 @@ impl Random {
     }
 }
 
-/// Returns the bytes of the files and of the rows in notation, and of each its text.
-fn seeds() -> (Vec<Vec<u8>>, Vec<Vec<u8>>) {
+/// The texts of the files and rows, and the bytes that they spell or write in notation.
+struct Seeds {
+    items: Vec<Vec<u8>>,
+    texts: Vec<Vec<u8>>,
+}
+
+fn seeds() -> Seeds {
     let folder = concat!(env!("CARGO_MANIFEST_DIR"), "/tests");
     let files = fs::read_dir(format!("{folder}/files")).unwrap();
     let mut texts: Vec<Vec<u8>> = files
@@ -79,6 +84,7 @@ fn seeds() -> (Vec<Vec<u8>>, Vec<Vec<u8>>) {
         let rows = fs::read_to_string(format!("{folder}/rows/{rows}")).unwrap();
         texts.extend(rows.lines().map(|row| row.as_bytes().to_vec()));
     }
+    texts.sort();
     let items = texts
         .iter()
         .filter_map(|text| Some(read_input(text).ok()?.bytes));
@@ -89,14 +95,14 @@ fn seeds() -> (Vec<Vec<u8>>, Vec<Vec<u8>>) {
         .chain(rows)
         .filter(|bytes| !bytes.is_empty())
         .collect();
-    (items, texts)
+    Seeds { items, texts }
 }
 
-/// Calls `check` with a random number generator, items and texts, as often as asked for.
-fn run(seed: u64, check: fn(&mut Random, &[Vec<u8>], &[Vec<u8>])) {
+/// Calls `check` as often as asked for.
+fn run(seed: u64, check: fn(&mut Random, &Seeds)) {
     let count = std::env::var("LOOK_RUNS").map_or(2000, |count| count.parse().unwrap());
-    let ((items, texts), mut random) = (seeds(), Random(seed));
-    (0..count).for_each(|_| check(&mut random, &items, &texts));
+    let (seeds, mut random) = (seeds(), Random(seed));
+    (0..count).for_each(|_| check(&mut random, &seeds));
 }
 
 /// The bytes of the lines are the input: each byte once and in order. The lines are no more than
@@ -108,7 +114,7 @@ fn the_lines_are_the_input() {
         assert_eq!(hex(&shown), hex(bytes), "{kind}");
         assert!(lines.len() <= 2 * bytes.len() + 3, "{kind} {}", hex(bytes));
     }
-    run(1, |random, items, _| {
+    run(1, |random, Seeds { items, .. }| {
         let item = random.of(items).clone();
         let (bytes, kind) = (random.damaged(&item), *random.of(&KINDS));
         let (now, as_kind) = (Some(1_500_000_000), Kind::of(kind).unwrap());
@@ -123,7 +129,7 @@ fn the_lines_are_the_input() {
 /// The notation of an item that is accepted is read back as the item.
 #[test]
 fn the_notation_is_read_back() {
-    run(2, |random, items, _| {
+    run(2, |random, Seeds { items, .. }| {
         let item = random.of(items).clone();
         let bytes = random.damaged(&item);
         let explained = explain(Kind::Value, &bytes, None);
@@ -182,7 +188,7 @@ fn hostile(random: &mut Random) -> Vec<u8> {
 /// No form shows a hidden character raw. Rows have tabs between fields.
 #[test]
 fn nothing_hidden_is_shown_raw() {
-    run(3, |random, items, texts| {
+    run(3, |random, Seeds { items, texts }| {
         let list = if random.below(2) == 0 { items } else { texts };
         let input = random.of(list).clone();
         let input = if random.below(2) == 0 {
@@ -214,7 +220,7 @@ fn nothing_hidden_is_shown_raw() {
 /// A structure is read back from each spelling.
 #[test]
 fn spellings_are_read_back() {
-    run(4, |random, items, _| {
+    run(4, |random, Seeds { items, .. }| {
         let item = random.of(items).clone();
         // Arrays, maps and tags begin with bytes that no text has.
         let bytes = [&[0xd2], random.damaged(&item).as_slice()].concat();
@@ -245,7 +251,7 @@ fn spellings_are_read_back() {
 /// Whatever the message and the keys are, they are judged.
 #[test]
 fn any_message_and_key_is_judged() {
-    run(5, |random, items, _| {
+    run(5, |random, Seeds { items, .. }| {
         let (message, key) = (random.of(items).clone(), random.of(items).clone());
         let (message, key) = (random.damaged(&message), random.damaged(&key));
         let lines = described(None, &message, &key, b"").unwrap_or_default();

@@ -39,14 +39,10 @@ fn row(line: &Line, offset: usize) -> String {
     } else {
         line.cover.text()
     };
-    format!(
-        r#"{{"offset": {offset}, "bytes": "{}", "depth": {}, "text": {}, "note": {}, "cover": {}}}"#,
-        hex(line.bytes),
-        line.depth,
-        string(&line.text),
-        string(&line.note),
-        string(cover)
-    )
+    let (bytes, depth) = (hex(line.bytes), line.depth);
+    let place = format!(r#""offset": {offset}, "bytes": "{bytes}", "depth": {depth}"#);
+    let (text, note, cover) = (string(&line.text), string(&line.note), string(cover));
+    format!(r#"{{{place}, "text": {text}, "note": {note}, "cover": {cover}}}"#)
 }
 
 /// Returns the fault, or null.

@@ -75,7 +75,8 @@ fn row(line: &Line, element: &str, is_short: bool) -> String {
     let note = notation(&line.note);
     format!(
         "<{element} class=\"row{class}\"><code>{digits}</code><span>{words}</span>\
-         <span style=\"padding-left:{depth}em\"><code>{text}</code> <em>{note}</em></span></{element}>\n"
+         <span style=\"padding-left:{depth}em\"><code>{text}</code> \
+         <em>{note}</em></span></{element}>\n"
     )
 }
 
