@@ -17,22 +17,6 @@ const FORMS: [Form; 6] = [
     Form::Plain,
     Form::Where,
 ];
-const KINDS: [&str; 14] = [
-    "auto",
-    "cwt",
-    "value",
-    "sign1",
-    "sign",
-    "mac",
-    "mac0",
-    "encrypt",
-    "encrypt0",
-    "countersignature",
-    "key",
-    "keyset",
-    "claims",
-    "kdf",
-];
 
 /// Random numbers (xorshift64).
 struct Random(u64);
@@ -109,19 +93,23 @@ fn run(seed: u64, check: fn(&mut Random, &Seeds)) {
 /// twice the bytes and three.
 #[test]
 fn the_lines_are_the_input() {
-    fn check(lines: &[Line], bytes: &[u8], kind: &str) {
+    fn check(lines: &[Line], bytes: &[u8], kind: Kind) {
         let shown: Vec<u8> = lines.iter().flat_map(|line| line.bytes).copied().collect();
-        assert_eq!(hex(&shown), hex(bytes), "{kind}");
-        assert!(lines.len() <= 2 * bytes.len() + 3, "{kind} {}", hex(bytes));
+        assert_eq!(hex(&shown), hex(bytes), "{kind:?}");
+        assert!(
+            lines.len() <= 2 * bytes.len() + 3,
+            "{kind:?} {}",
+            hex(bytes)
+        );
     }
     run(1, |random, Seeds { items, .. }| {
         let item = random.of(items).clone();
-        let (bytes, kind) = (random.damaged(&item), *random.of(&KINDS));
-        let (now, as_kind) = (Some(1_500_000_000), Kind::of(kind).unwrap());
-        check(&explain(as_kind, &bytes, now).lines, &bytes, kind);
-        check(&explain_whole(as_kind, &bytes, now).lines, &bytes, kind);
-        if let Some(place) = fault(as_kind, &bytes).and_then(|refusal| refusal.place) {
-            assert!(place.offset <= bytes.len(), "{kind} {}", hex(&bytes));
+        let (bytes, kind) = (random.damaged(&item), *random.of(&Kind::ALL));
+        let now = Some(1_500_000_000);
+        check(&explain(kind, &bytes, now).lines, &bytes, kind);
+        check(&explain_whole(kind, &bytes, now).lines, &bytes, kind);
+        if let Some(place) = fault(kind, &bytes).and_then(|refusal| refusal.place) {
+            assert!(place.offset <= bytes.len(), "{kind:?} {}", hex(&bytes));
         }
     });
 }
@@ -196,8 +184,7 @@ fn nothing_hidden_is_shown_raw() {
         } else {
             random.damaged(&input)
         };
-        let (name, form) = (*random.of(&KINDS), *random.of(&FORMS));
-        let kind = Kind::of(name).unwrap();
+        let (kind, form) = (*random.of(&Kind::ALL), *random.of(&FORMS));
         let (is_short, is_notation) = (random.below(2) == 0, random.below(4) == 0);
         let asked = Asked {
             kind,

@@ -55,28 +55,28 @@ fn without_tag(number: u64, bytes: &[u8]) -> &[u8] {
     }
 }
 
-/// All kinds, as they are numbered in the page.
-pub(crate) const ALL: [Kind; 14] = [
-    Kind::Auto,
-    Kind::Cwt,
-    Kind::Value,
-    Kind::Sign1,
-    Kind::Sign,
-    Kind::Mac,
-    Kind::Mac0,
-    Kind::Encrypt,
-    Kind::Encrypt0,
-    Kind::Countersignature,
-    Kind::Key,
-    Kind::Keyset,
-    Kind::Claims,
-    Kind::Kdf,
-];
-
 impl Kind {
+    /// All kinds, as the page numbers them.
+    pub const ALL: [Kind; 14] = [
+        Kind::Auto,
+        Kind::Cwt,
+        Kind::Value,
+        Kind::Sign1,
+        Kind::Sign,
+        Kind::Mac,
+        Kind::Mac0,
+        Kind::Encrypt,
+        Kind::Encrypt0,
+        Kind::Countersignature,
+        Kind::Key,
+        Kind::Keyset,
+        Kind::Claims,
+        Kind::Kdf,
+    ];
+
     /// Returns the kind of that name.
     pub fn of(name: &str) -> Option<Kind> {
-        ALL.into_iter().find(|kind| kind.name() == name)
+        Kind::ALL.into_iter().find(|kind| kind.name() == name)
     }
 
     /// Returns the name of the kind.
