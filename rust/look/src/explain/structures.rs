@@ -48,8 +48,8 @@ pub fn structure(kind: Kind, bytes: &[u8], external_aad: &[u8], index: usize) ->
         }
         Kind::Mac => read::<CoseMac>(bytes)?.tbm(external_aad).ok()?,
         Kind::Mac0 => read::<CoseMac0>(bytes)?.tbm(external_aad).ok()?,
-        Kind::Encrypt => read::<CoseEncrypt>(bytes)?.aad(external_aad).ok(),
-        Kind::Encrypt0 => read::<CoseEncrypt0>(bytes)?.aad(external_aad).ok(),
+        Kind::Encrypt => Some(read::<CoseEncrypt>(bytes)?.aad(external_aad)),
+        Kind::Encrypt0 => Some(read::<CoseEncrypt0>(bytes)?.aad(external_aad)),
         _ => None,
     }
 }
