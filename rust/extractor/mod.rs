@@ -189,7 +189,9 @@ pub fn extract(crates: &Path, below: &[Group], own: Group, out: &Path) -> Result
     }
     let module = |name: &&str| {
         let path = folder.join(name).join("mod.rs");
-        format!("#[allow(unused_imports, unused_variables)]\n#[path = {path:?}]\npub mod {name};\n")
+        format!(
+            "#[allow(clippy::all, unused_imports, unused_variables)]\n#[path = {path:?}]\npub mod {name};\n"
+        )
     };
     fs::write(out, own.names.iter().map(module).collect::<String>()).map_err(failed)
 }

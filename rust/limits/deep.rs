@@ -9,8 +9,8 @@ use std::thread;
 
 /// The stack that is enough, in kB: that of a thread of std, or half of it if optimized.
 const STACK: usize = if cfg!(debug_assertions) { 2_048 } else { 1_024 };
-/// `Debug` needs more if it isn't optimized.
-const STACK_OF_DEBUG: usize = if cfg!(debug_assertions) { 4_096 } else { 1_024 };
+/// `Debug` needs more.
+const STACK_OF_DEBUG: usize = if cfg!(debug_assertions) { 4_096 } else { 2_048 };
 
 /// Appends the head of an item (RFC 8949, section 3).
 fn head(major_type: u8, n: usize, out: &mut Vec<u8>) {

@@ -30,40 +30,29 @@ const DROPPED: &[(&str, &str)] = &[
     ("bounds", "+ Drop"),
     ("bounds", "Drop +"),
     ("bounds", ": Drop"),
-    ("allocators", "let alloc = rt . alloc ( ) ;"),
-    ("allocators", "let alloc = * Box : : allocator {..} ;"),
-    ("allocators", "let alloc = * $ . allocator ( ) ;"),
-    ("allocators", "let alloc = * $ . $ . allocator ( ) ;"),
-    ("allocators", "let alloc = $ . alloc ;"),
     ("allocators", "docs pub alloc : Global ,"),
     ("allocators", "docs alloc : Global ,"),
-    ("allocators", ", alloc : Global"),
-    ("allocators", "_alloc : Global ,"),
-    ("allocators", "alloc : Global"),
-    ("allocators", "_alloc : Global"),
-    ("allocators", ", * $ . allocator ( )"),
-    ("allocators", "* $ . allocator ( ) ,"),
-    ("allocators", "* $ . allocator ( )"),
-    ("allocators", "* $ . $ . allocator ( ) ,"),
-    ("allocators", "* Box : : allocator {..} ,"),
-    ("allocators", "* Box : : allocator {..}"),
-    ("allocators", ", $ . alloc ( )"),
-    ("allocators", "$ . alloc ( ) ,"),
-    ("allocators", "$ . alloc ( )"),
-    ("allocators", ", $ . alloc"),
-    ("allocators", "$ . alloc ,"),
-    ("allocators", "$ . alloc"),
-    ("allocators", ", alloc"),
-    ("allocators", "alloc ,"),
-    ("allocators", "_alloc ,"),
-    ("allocators", "alloc"),
-    ("allocators", "_alloc"),
-    ("allocators", ", Global"),
     ("macros", "in alloc ;"),
     ("macros", "rt ;"),
     ("macros", "& rt ;"),
     ("runtime", "< W : fmt : : Write >"),
     ("runtime", "$ : HostRuntime"),
+];
+
+/// Allocators as parameters, arguments, fields and values. They go with a comma beside them.
+const ALLOCATORS: &[&str] = &[
+    "docs pub alloc : Global",
+    "docs alloc : Global",
+    "_alloc : Global",
+    "* $ . allocator ( )",
+    "* $ . $ . allocator ( )",
+    "* $ . $ . $ . allocator ( )",
+    "* Box : : allocator {..}",
+    "$ . alloc ( )",
+    "$ . alloc",
+    "alloc",
+    "_alloc",
+    "Global",
 ];
 
 /// Rules that replace tokens, besides those of the tables.
@@ -161,11 +150,12 @@ pub fn tokens(text: &str) -> Vec<Token> {
         let line = 1 + text[..at].matches('\n').count();
         let end = if rest.starts_with("//") {
             let end = rest.find('\n').unwrap_or(rest.len());
-            let doc = rest[..end]
-                .strip_prefix("//!")
-                .or(rest[..end].strip_prefix("///"));
-            let words = doc.into_iter().flat_map(str::split_whitespace);
-            found.extend(words.map(|word| (format!("///{word}"), line)));
+            let marks = ["//!", "///"];
+            let mark = marks.iter().find(|mark| rest.starts_with(**mark));
+            let words = mark
+                .map_or("", |mark| &rest[mark.len()..end])
+                .split_whitespace();
+            found.extend(words.map(|word| (format!("{}{word}", mark.unwrap_or(&"")), line)));
             end
         } else if rest.starts_with(char::is_whitespace) {
             rest.len() - rest.trim_start().len()
@@ -177,6 +167,11 @@ pub fn tokens(text: &str) -> Vec<Token> {
         at += end;
     }
     found
+}
+
+/// A word of documentation, without its mark.
+fn word_of(text: &str) -> Option<&str> {
+    text.strip_prefix("///").or(text.strip_prefix("//!"))
 }
 
 fn text(tokens: &[Token], at: usize) -> &str {
@@ -291,6 +286,18 @@ impl Walk<'_> {
         {
             return self.count("clones", (i + 1, j));
         }
+        for it in ALLOCATORS {
+            let whole = it.strip_prefix("docs ").unwrap_or(it);
+            let shapes = [
+                format!("let alloc = {whole} ;"),
+                format!(", {whole}"),
+                format!("{it} ,"),
+                it.to_string(),
+            ];
+            if let Some(end) = shapes.iter().find_map(|it| matched(self.source, i, it)) {
+                return self.count("allocators", (end, j));
+            }
+        }
         let rule = DROPPED
             .iter()
             .find_map(|(rule, it)| Some((rule, matched(self.source, i, it)?)));
@@ -311,7 +318,7 @@ impl Walk<'_> {
     fn named(&mut self) -> bool {
         let (i, j) = self.at;
         let checked = format!("{}_checked", text(self.source, i));
-        let before = format!("{}_checked", text(self.source, i.saturating_sub(1)));
+        let before = format!("{}_checked", text(self.source, i.saturating_sub(2)));
         if text(self.rust, j) == checked {
             if text(self.source, i - 1) == "fn" {
                 let open = (j..)
@@ -321,7 +328,9 @@ impl Walk<'_> {
             }
             return self.count("calls", (i + 1, j + 1));
         }
-        if matched(self.rust, j, ", $") == Some(j + 2) && text(self.rust, j + 1) == before {
+        let last = format!("{}_checked", text(self.source, i.saturating_sub(1)));
+        let is_more = text(self.rust, j) == before && text(self.rust, j + 1) == ",";
+        if is_more || text(self.rust, j) == "," && text(self.rust, j + 1) == last {
             return self.count("calls", (i, j + 2));
         }
         let both = format!("{{ {} , {checked} }}", text(self.source, i));
@@ -343,7 +352,7 @@ impl Walk<'_> {
             }
         }
         let name = text(self.source, i);
-        let name = name.strip_prefix("///").unwrap_or(name).to_string();
+        let name = name.to_string();
         self.homes
             .iter()
             .any(|(from, to)| from == &name && self.replaced("paths", "$", &spaced(to)))
@@ -357,13 +366,12 @@ impl Walk<'_> {
         for j in open..end {
             depth += i32::from(matches!(text(self.rust, j), "(" | "[" | "{" | "<"));
             depth -= i32::from(matches!(text(self.rust, j), ")" | "]" | "}" | ">"));
-            let is_name = matches!(text(self.rust, j + 1), ":" | "," | ")");
-            let begins = matches!(text(self.rust, j - 1), "(" | "," | "mut" | "&");
-            if depth == 1
-                && is_name
-                && begins
-                && text(self.rust, j).starts_with(char::is_alphabetic)
-            {
+            let around = [j - 1, j + 1, j + 2].map(|j| text(self.rust, j));
+            let is_argument = matches!(around[0], "(" | ",") && matches!(around[1], "," | ")");
+            let is_typed = around[0] != ":" && around[1] == ":" && around[2] != ":";
+            let is_name = is_argument || is_typed || text(self.rust, j) == "self";
+            let is_word = text(self.rust, j).starts_with(char::is_alphabetic);
+            if depth == 1 && is_word && is_name {
                 names.push(text(self.rust, j).to_string());
             }
         }
@@ -442,8 +450,7 @@ impl Walk<'_> {
     /// Documentation: sentences about contracts go, links name homes.
     fn documented(&mut self) -> bool {
         let (i, j) = self.at;
-        let word =
-            |tokens: &[Token], at: usize| text(tokens, at).strip_prefix("///").map(String::from);
+        let word = |tokens: &[Token], at: usize| word_of(text(tokens, at)).map(String::from);
         let Some(from) = word(self.source, i) else {
             return false;
         };
@@ -470,19 +477,38 @@ impl Walk<'_> {
         is_contract && is_about && self.count("sentences", (end + 1, j))
     }
 
+    /// `crate`, whose path may itself begin with `crate`.
+    fn own_path(&mut self) -> bool {
+        let home = self.homes.iter().find(|(name, _)| name == "crate");
+        let home = home.map_or(String::new(), |(_, home)| spaced(home));
+        self.replaced("paths", "crate", &home)
+    }
+
     /// Whole items and attributes, whose first tokens may also be those of what follows.
     fn items(&mut self) -> bool {
         let (i, j) = self.at;
         let is_item = |it: &&(&str, &str)| {
-            it.1.starts_with(['#', 'i', 'l', 'd'])
-                && matches!(it.0, "attributes" | "impls" | "allocators")
+            it.1.starts_with(['#', 'i', 'l', 'd']) && matches!(it.0, "attributes" | "impls")
         };
         let mut dropped = DROPPED
             .iter()
             .filter(is_item)
             .map(|it| matched(self.source, i, it.1));
         let mut added = ADDED.iter().filter(|it| !it.1.starts_with(','));
-        let has_more = after_contract(self.source, i).is_some() || dropped.any(|end| end.is_some());
+        let values = [
+            "let alloc =",
+            "docs pub alloc : Global ,",
+            "docs alloc : Global ,",
+            "$ . alloc ,",
+            "$ . alloc ( ) ,",
+            "$ . alloc )",
+        ];
+        let is_value = values
+            .iter()
+            .any(|it| matched(self.source, i, it).is_some());
+        let has_more = is_value
+            || after_contract(self.source, i).is_some()
+            || dropped.any(|end| end.is_some());
         has_more && self.dropped()
             || added.any(|it| {
                 matched(self.rust, j, it.1).is_some() && matched(self.source, i, it.1).is_none()
@@ -491,7 +517,7 @@ impl Walk<'_> {
 
     fn step(&mut self) -> bool {
         let (i, j) = self.at;
-        if self.uses() || self.beside() || self.items() {
+        if self.uses() || self.beside() || self.items() || self.own_path() {
             return true;
         }
         if text(self.source, i) == text(self.rust, j) {

@@ -54,7 +54,7 @@ fn compare_all(groups: &[Group], folder: &Path) -> Result<(), String> {
             .find(|(known, _)| known == name)
             .map(|(_, home)| home.clone());
         let mut homes = homes.clone();
-        homes.push(("crate".to_string(), own.unwrap_or_default()));
+        homes.insert(0, ("crate".to_string(), own.unwrap_or_default()));
         let found = compare(&read(source)?, &read(rust)?, &homes)
             .map_err(|e| format!("{}:{e}", source.display()))?;
         for (rule, count) in found {
