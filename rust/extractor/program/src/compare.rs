@@ -79,6 +79,19 @@ const REPLACED: &[(&str, &str, &str)] = &[
     ),
 ];
 
+/// Words of sentences about contracts and proofs, which go from documentation.
+const ABOUT: &[&str] = &[
+    "Contract",
+    "contract",
+    "implementer",
+    "law",
+    "prover",
+    "shape",
+    "They see",
+    "reader",
+    "also says",
+];
+
 /// Rules that add tokens.
 const ADDED: &[(&str, &str)] = &[
     ("builders", "# [ must_use ]"),
@@ -477,7 +490,7 @@ impl Walk<'_> {
             .iter()
             .map(|it| it.0[3..].to_string() + " ")
             .collect();
-        let is_about = sentence.to_lowercase().contains("contract");
+        let is_about = ABOUT.iter().any(|it| sentence.contains(it));
         is_contract && is_about && self.count("sentences", (end + 1, j))
     }
 
