@@ -4,8 +4,20 @@ use super::file::File;
 use super::rewrite::Known;
 use super::tokens::Kind;
 
-/// The beginnings of sentences about contracts.
-const CONTRACTS: &[&str] = &["Contracts see", "Contracts say", "The contract"];
+/// The beginnings of sentences about contracts and proofs.
+const CONTRACTS: &[&str] = &[
+    "An implementer ",
+    "Contracts say",
+    "Contracts see",
+    "Each law ",
+    "It also says what each value is written",
+    "It has one reader",
+    "The contract",
+    "The implementer ",
+    "The prover ",
+    "The shape says",
+    "They see",
+];
 
 /// Returns the documentation of the function beside one, from that one's. An error that it doesn't
 /// return is a panic.

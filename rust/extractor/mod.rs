@@ -1,4 +1,26 @@
-//! Extracts Rust from the proved sources: what is left of them without contracts. Build scripts include these modules.
+//! Extracts Rust from the proved sources: the same text without contracts. Build scripts include
+//! these modules.
+//!
+//! The sources are read as tokens. Each rule is a method of `File`. `tables.rs` has all names
+//! that the rules know. Anything else is refused, with its file and line.
+//!
+//! Rattle accepts forms that Rust runs in another way. Each is refused, or has one result here:
+//!
+//! | Form | How it is held |
+//! |---|---|
+//! | a range without an end | refused, except in an index and in `get`, where the slice ends it |
+//! | the size of a type | `size_of` and `align_of` are refused |
+//! | bits of a NaN | `to_bits` and `from_bits` are refused; the kit's calls say `with_nan` |
+//! | a trait's method with a name of std's | refused, except for those of `SHARED_METHODS` |
+//! | an impl picked by a bound of std's | refused for an impl of a type parameter |
+//! | `..v[i]` for the other fields | refused |
+//! | `iter::once`, threads, channels | refused: `PATHS` has no such path |
+//! | a clone that is not tried | `clone` becomes `try_clone`, which returns a `Result` too |
+//! | a closure as a function pointer | the type `fn(..)` is refused |
+//! | the order in which values are dropped | `impl Drop` is refused, except for that of `DROPS` |
+//! | `stringify!`, macros of the sources | refused: `MACROS` and `UNKNOWN_WORDS` |
+//!
+//! In programs, which are tests, unknown methods are left to the compiler.
 
 mod conditions;
 mod docs;
@@ -43,6 +65,7 @@ pub const CWT: &[&str] = &[
 ];
 
 const UNUSED: &str = "#[allow(unused_imports)]\n";
+const MODULE: &str = "#[allow(clippy::all, unused_imports, unused_variables)]\n";
 
 /// Crates that are extracted together, lowest first, and the path of the Rust module that has them.
 #[derive(Clone, Copy)]
@@ -138,6 +161,47 @@ fn known(groups: &[&Group], sources: &[(Source, File)]) -> Known {
     }
 }
 
+/// The text before the items of each file: names of the kit.
+fn prelude(groups: &[&Group], own: Group) -> String {
+    let library = groups[0].home;
+    let library = format!("{UNUSED}use {library}::kit::{{self, prelude::*}};\n");
+    match own.home {
+        "crate" => library + &format!("{UNUSED}use crate::programs::{{self, prelude::*}};\n"),
+        _ => library,
+    }
+}
+
+/// A refusal, with its file and line.
+fn refused(source: &Source, (line, what): (usize, String)) -> String {
+    format!("{}:{line}: {what}", source.path.display())
+}
+
+/// The sources with their tokens.
+fn parsed<'a>(sources: Vec<Source<'a>>) -> Result<Vec<(Source<'a>, File)>, String> {
+    let mut files = Vec::new();
+    for source in sources {
+        let file = File::new(&source.text).map_err(|e| refused(&source, e))?;
+        files.push((source, file));
+    }
+    Ok(files)
+}
+
+/// Writes a file, and its folder before it.
+fn write(path: &Path, text: &str) -> Result<(), String> {
+    let failed = |e: std::io::Error| format!("{}: {e}", path.display());
+    fs::create_dir_all(path.parent().expect("a folder")).map_err(failed)?;
+    fs::write(path, text).map_err(failed)
+}
+
+/// The declarations of the modules of a group, which are in a folder.
+fn declarations(own: Group, folder: &Path) -> String {
+    let module = |name: &&str| {
+        let path = folder.join(name).join("mod.rs");
+        format!("{MODULE}#[path = {path:?}]\npub mod {name};\n")
+    };
+    own.names.iter().map(module).collect()
+}
+
 /// Extracts the crates of `own`, which are built on those of `below`, from the folder `crates`.
 /// Writes their modules into the folder of `out`'s name, and into `out` the declarations of the
 /// modules. An error begins with the file and the line.
@@ -150,53 +214,34 @@ pub fn extract(crates: &Path, below: &[Group], own: Group, out: &Path) -> Result
         .collect();
     let sources = read(crates, &names)?;
     let exported = exported(&sources);
-    let refused =
-        |source: &Source, (line, what)| format!("{}:{line}: {what}", source.path.display());
-    let mut files = Vec::new();
+    let mut files = parsed(sources)?;
     let mut calls = BTreeSet::new();
-    for source in sources {
-        let file = File::new(&source.text).map_err(|e| refused(&source, e))?;
-        if is_library(source.name) {
-            file.changed(&exported, &mut calls);
-        }
-        files.push((source, file));
+    for (_, file) in files.iter().filter(|(source, _)| is_library(source.name)) {
+        file.changed(&exported, &mut calls);
     }
     let known = known(&groups, &files);
-    let library = groups[0].home;
-    let mut prelude = format!("{UNUSED}use {library}::kit::{{self, prelude::*}};\n");
-    if own.home == "crate" {
-        prelude += &format!("{UNUSED}use crate::programs::{{self, prelude::*}};\n");
-    }
+    let prelude = prelude(&groups, own);
     let folder = out.with_extension("");
-    let failed = |e: std::io::Error| format!("{}: {e}", folder.display());
+    files.retain(|(source, _)| own.names.contains(&source.name));
     for (source, mut file) in files {
-        if !own.names.contains(&source.name) {
-            continue;
-        }
         let is_library = is_library(source.name);
-        let rust = (|| {
-            if is_library {
-                file.write_beside(&exported)?;
-                file.must_use()?;
-            }
+        let sign = if is_library {
+            file.sign(&exported)
+        } else {
+            Ok(())
+        };
+        let rust = sign.and_then(|()| {
             file.rename(&calls, is_library, &exported);
             file.rewrite(source.name, &known, &prelude)
-        })();
+        });
         let rust = rust.map_err(|e| refused(&source, e))?;
-        let target = folder.join(source.name).join(source.inner);
-        fs::create_dir_all(target.parent().expect("a folder")).map_err(failed)?;
-        fs::write(target, rust).map_err(failed)?;
+        write(&folder.join(source.name).join(source.inner), &rust)?;
     }
-    let module = |name: &&str| {
-        let path = folder.join(name).join("mod.rs");
-        format!(
-            "#[allow(clippy::all, unused_imports, unused_variables)]\n#[path = {path:?}]\npub mod {name};\n"
-        )
-    };
-    fs::write(out, own.names.iter().map(module).collect::<String>()).map_err(failed)
+    write(out, &declarations(own, &folder))
 }
 
-/// Runs a build script: hands OUT_DIR to `extracts`. `root` is the repository, relative to the package.
+/// Runs a build script: calls `extracts` with the folder of the sources and OUT_DIR. `root` is the
+/// repository's path from the package.
 pub fn build(root: &str, extracts: impl Fn(&Path, &Path) -> Result<(), String>) {
     let out = env::var_os("OUT_DIR").expect("cargo sets it");
     let crates = Path::new(root).join("crates");

@@ -1,4 +1,4 @@
-//! A call whose error can be `OutOfMemory` returns it if an allocation fails, whichever it is. If it
+//! A call whose error can be `OutOfMemory` returns it if any allocation fails. If it
 //! allocated in another way, the refused request would end the program, and so the tests. Of calls
 //! that return a closure's error, the hidden form `NAME_checked` is tried: `NAME` itself panics.
 

@@ -79,6 +79,19 @@ const REPLACED: &[(&str, &str, &str)] = &[
     ),
 ];
 
+/// Words of sentences about contracts and proofs, which go from documentation.
+const ABOUT: &[&str] = &[
+    "Contract",
+    "contract",
+    "implementer",
+    "law",
+    "prover",
+    "shape",
+    "They see",
+    "reader",
+    "also says",
+];
+
 /// Rules that add tokens.
 const ADDED: &[(&str, &str)] = &[
     ("builders", "# [ must_use ]"),
@@ -314,7 +327,7 @@ impl Walk<'_> {
         rule.is_some_and(|(rule, end)| self.count(rule, (i, end)))
     }
 
-    /// Names of the tables, of crates, and of calls that are renamed.
+    /// Names of calls that are renamed, and those of tables.
     fn named(&mut self) -> bool {
         let (i, j) = self.at;
         let checked = format!("{}_checked", text(self.source, i));
@@ -337,6 +350,11 @@ impl Walk<'_> {
         if self.replaced("calls", "$", &both) {
             return true;
         }
+        self.tabled()
+    }
+
+    /// Names of the tables and of crates.
+    fn tabled(&mut self) -> bool {
         let tables: [(&'static str, &[(&str, &str)]); 5] = [
             ("paths", tables::PATHS),
             ("calls of std", tables::CALLS),
@@ -351,8 +369,7 @@ impl Walk<'_> {
                 }
             }
         }
-        let name = text(self.source, i);
-        let name = name.to_string();
+        let name = text(self.source, self.at.0).to_string();
         self.homes
             .iter()
             .any(|(from, to)| from == &name && self.replaced("paths", "$", &spaced(to)))
@@ -473,7 +490,7 @@ impl Walk<'_> {
             .iter()
             .map(|it| it.0[3..].to_string() + " ")
             .collect();
-        let is_about = sentence.to_lowercase().contains("contract");
+        let is_about = ABOUT.iter().any(|it| sentence.contains(it));
         is_contract && is_about && self.count("sentences", (end + 1, j))
     }
 

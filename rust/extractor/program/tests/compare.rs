@@ -1,4 +1,4 @@
-//! What is extracted differs from the sources by the rules alone, and a change beyond them is found.
+//! Extracted Rust differs from its source by the rules alone, and any other change is found.
 
 use coset_extractor::compare::compare;
 use std::process::Command;
@@ -79,11 +79,12 @@ fn a_change_beyond_the_rules_is_found() {
 
 #[test]
 fn a_function_beside_hands_on_its_parameters_in_order() {
-    let source = "impl A {\n    pub fn f(&self, alloc: Global, a: &[u8], b: &[u8]) -> Result<B> {\n        g(a, b)\n    }\n}\n";
+    let source =
+        "impl A { pub fn f(&self, alloc: Global, a: &[u8], b: &[u8]) -> Result<B> { g() } }";
     let rust = |own: &str, handed: &str| {
         format!(
-            "impl A {{\n    #[doc(hidden)]\n    pub fn f_checked(&self, a: &[u8], b: &[u8]) -> Result<B> {{\n        g(a, b)\n    }}\n\n    \
-             pub fn f(&self, {own}) -> B {{\n        kit::made(self.f_checked({handed}))\n    }}\n}}\n"
+            "impl A {{ #[doc(hidden)] pub fn f_checked(&self, a: &[u8], b: &[u8]) -> Result<B> \
+             {{ g() }} pub fn f(&self, {own}) -> B {{ kit::made(self.f_checked({handed})) }} }}"
         )
     };
     let right = "a: &[u8], b: &[u8]";
