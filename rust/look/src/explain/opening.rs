@@ -82,15 +82,12 @@ pub(crate) fn opening<'a>(
         }
         MajorType::Tag => {
             let role = under_tag(part.role, argument(head));
-            Some(nested(
-                Container::Tag,
-                Part {
-                    role,
-                    name: "",
-                    ..part
-                },
-                Some(1),
-            ))
+            let part = Part {
+                role,
+                name: "",
+                ..part
+            };
+            Some(nested(Container::Tag, part, Some(1)))
         }
         MajorType::Bytes | MajorType::Text if count.is_none() && !begins_break(item.rest) => {
             Some(nested(
